@@ -15,7 +15,9 @@ use Rattle.tag_arena.specs.FreeTags.{FreeTag, range_of, tag_at, SlotBecomes, tag
 use Rattle.tag_arena.specs.Orders.{rank_of, entry_of, OrderedIndexState, Mirrors, KeepsUp, HasRoomForOne, IsAbsent, IsPresent}
 use Rattle.tag_arena.specs.Slotted.{SlotsState, taken_count}
 use Rattle.tag_arena.specs.FreeRanges.{MeetsPolicy, IsIndexed}
-use Rattle.tag_arena.proofs.Listing.{map-remove, place_of_member}
+use Rattle.tag_arena.specs.declared.entries.IndexEntry.{IndexEntry}
+use Rattle.tag_arena.proofs.Listing.{None≢Some, Some-injective, map-remove, place_of_member}
+use Rattle.tag_arena.proofs.Members.{All-from_members}
 use Rattle.tag_arena.proofs.Aging.{in_tags_by_age, from_tags_by_age, length-tags_by_age, put_cases, timed_put, aged_put, take_cases, timed_take, aged_take}
 use Rattle.tag_arena.proofs.Mirroring.{place_for, absent_for, present_for}
 use Rattle.tag_arena.proofs.Searching.{is_first, none_from}
@@ -125,6 +127,28 @@ module _ (policy : Policy) (s : SlotsState) (r z l : OrderedIndexState) (clock r
       (e.slot, m.0, m.1, omega (arith, from, least, rank_e, w.3, top, top_e), found.2 ∙ ap (λ y. Some y) m.2))
       (λ none. let below = none_from rank_of key r.items rises none.1 e0 c in absurd (omega (arith, below, w.3)))
       (slice_get_cases r.items (place_below rank_of key r.items)).1
+
+  -- the first entry from a base on is that of a free range
+  pub first_at : (base : ℕ) → Rises rank_of r.items → (e : IndexEntry) → first_from rank_of (base * 2 ^ 64 + 0) r.items ≡ Some e
+      → (t : FreeTag) × (tag_at s.tags e.slot ≡ Some t) × (e ≡ entry_of Rising e.slot t)
+  first_at base rises e found =
+      let first = is_first rank_of (base * 2 ^ 64 + 0) r.items rises e found in
+      rising_mirrors.from e (place_below rank_of (base * 2 ^ 64 + 0) r.items, first.within, first.here)
+
+  -- where there is none, or another base, no free range begins there
+  pub none_at : (base : ℕ) → Rises rank_of r.items → first_from rank_of (base * 2 ^ 64 + 0) r.items ≡ None → All (λ h. h.range.base ≢ base) (ranges_by_age s.tags)
+  none_at base rises none =
+      All-from_members (λ h. h.range.base ≢ base) (ranges_by_age s.tags)
+      (λ h in-h is.
+      let w = found_at base rises (in-h.0, h, in-h.1, in-h.2, is) in
+      None≢Some (sym none ∙ w.4))
+
+  pub other_at : (base : ℕ) → Rises rank_of r.items → (e : IndexEntry) → first_from rank_of (base * 2 ^ 64 + 0) r.items ≡ Some e → e.major ≢ base → All (λ h. h.range.base ≢ base) (ranges_by_age s.tags)
+  other_at base rises e found other =
+      All-from_members (λ h. h.range.base ≢ base) (ranges_by_age s.tags)
+      (λ h in-h is.
+      let w = found_at base rises (in-h.0, h, in-h.1, in-h.2, is) in
+      other (ap (λ x. x.major) (Some-injective (sym found ∙ w.4)) ∙ w.3))
 
 -- what a kept index asks before a range is put in
 module _ (policy : Policy) (order : Order) (s : SlotsState) (room : ℕ) (i : OrderedIndexState) (is : MeetsPolicy policy order s room i) where

@@ -39,6 +39,7 @@ pub mod Newest
 pub mod Weighing
 pub mod Roving
 pub mod Neighboring
+pub mod Ending
 pub mod Cutting
 pub mod Rejoining
 pub mod Units

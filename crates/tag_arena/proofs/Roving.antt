@@ -12,7 +12,7 @@ use Rattle.sorted_rows.specs.Order.{Rises}
 use Rattle.sorted_rows.specs.Weights.{first_heavy_from}
 use Rattle.tag_arena.specs.declared.entries.IndexEntry.{IndexEntry}
 use Rattle.tag_arena.specs.declared.orders.Order.TheVariants.{Rising}
-use Rattle.tag_arena.specs.declared.reaches.Measure.TheVariants.{Length}
+use Rattle.tag_arena.specs.declared.reaches.Measure.TheVariants.{Minor}
 use Rattle.tag_arena.specs.FreeTags.{FreeTag, ranges_by_age, AreTags}
 use Rattle.tag_arena.specs.Orders.{rank_of, weight_of, entry_of, Mirrors}
 use Rattle.tag_arena.specs.Fits.{IsEarliest, IsLastBy, NoneBelow}
@@ -100,7 +100,7 @@ module _ (free : List Holding) (ranges : All (λ r. IsRange r.range) free) (apar
 
 -- what the index passes by
 module _ (units from clock : ℕ) (items : List IndexEntry) (tags : List (Option FreeTag)) (m : Mirrors Rising items tags) (rises : Rises rank_of items) (are : AreTags clock tags) where
-  pub light_between : (e : IndexEntry) (t : FreeTag) → IsHeavy rank_of (weight_of Length) (from * 2 ^ 64 + 0) units items rises e → e ≡ entry_of Rising e.slot t → (r : Holding) → Contains (ranges_by_age tags) r → from ≤ r.range.base → r.range.base < t.range.range.base → r.range.len < units
+  pub light_between : (e : IndexEntry) (t : FreeTag) → IsHeavy rank_of (weight_of Minor) (from * 2 ^ 64 + 0) units items rises e → e ≡ entry_of Rising e.slot t → (r : Holding) → Contains (ranges_by_age tags) r → from ≤ r.range.base → r.range.base < t.range.range.base → r.range.len < units
   light_between e t heavy is r h low lt =
       let w = tag_of_free tags r h in
       let rank_e = ap rank_of is in
@@ -110,12 +110,12 @@ module _ (units from clock : ℕ) (items : List IndexEntry) (tags : List (Option
       let less = heavy.lighter (entry_of Rising w.0 w.1) (m.into w.0 w.1 w.2) (omega (arith, low, base)) (omega (arith, lt, base, top, rank_e)) in
       omega (arith, less, long)
 
-  pub light_behind : first_heavy_from rank_of (weight_of Length) (from * 2 ^ 64 + 0) units items ≡ None → (r : Holding) → Contains (ranges_by_age tags) r → from ≤ r.range.base → r.range.len < units
+  pub light_behind : first_heavy_from rank_of (weight_of Minor) (from * 2 ^ 64 + 0) units items ≡ None → (r : Holding) → Contains (ranges_by_age tags) r → from ≤ r.range.base → r.range.len < units
   light_behind none r h low =
       let w = tag_of_free tags r h in
       let long = ap (λ x. x.range.len) w.3 in
       let base = ap (λ x. x.range.base) w.3 in
-      let less = none_heavy rank_of (weight_of Length) (from * 2 ^ 64 + 0) units items rises none (entry_of Rising w.0 w.1) (m.into w.0 w.1 w.2) (omega (arith, low, base)) in
+      let less = none_heavy rank_of (weight_of Minor) (from * 2 ^ 64 + 0) units items rises none (entry_of Rising w.0 w.1) (m.into w.0 w.1 w.2) (omega (arith, low, base)) in
       omega (arith, less, long)
 
 -- no address below `min` serves

@@ -11,7 +11,8 @@ ghost use Rattle.tag_arena.specs.Calls.{part};
 ghost use Rattle.tag_arena.specs.Choice.{IsBestChoice, IsChoice, IsInstantChoice, IsNextChoice};
 ghost use Rattle.tag_arena.specs.declared.policies.Policy.TheVariants.{Instant};
 ghost use Rattle.tag_arena.specs.Layout.{IsPartOf};
-ghost use Rattle.tag_arena.specs.Neighbors.{IsBeside, Merges, TakesLeft, TakesRight, Without};
+ghost use Rattle.tag_arena.specs.Neighbors.{BeginsBefore, IsBeside, Merges, TakesAt, TakesLeft};
+ghost use Rattle.tag_arena.specs.Neighbors.{TakesRight, Without};
 ghost use Rattle.tag_arena.specs.Cuts.{CarvesOut, IsCut};
 ghost use Rattle.tag_arena.specs.Fits.{base_of, IsFit, IsLastBy, ServedByList};
 ghost use Rattle.tag_arena.specs.FreeRanges.{keeps};
@@ -23,7 +24,7 @@ use crate::earliest::next_fit;
 use crate::held_ranges::{HeldRange, held_range_of};
 use crate::merges::{join_left, join_right};
 use crate::orders::{Order, OrderedIndex};
-use crate::policies::Policy;
+use crate::policies::{Policy, is_kept};
 use crate::probes::Probes;
 use crate::searches::{Fit, best_fit, last_by, newest};
 use crate::slots::{Slots, TimedDeed};
@@ -59,23 +60,6 @@ impl<D: Deed> Model for FreeIndex<D> {
 
     ghost invariant = { λ f.
         IsIndexed f.policy f.slots f.rising f.sizes f.lists f.clock f.room };
-}
-
-/// Whether the policy asks for the order. Each asks for the rising one.
-fn is_kept(policy: Policy, order: Order) -> bool
-    ensures { result ≡ keeps policy order }
-{
-    match order {
-        Order::Rising => true,
-        Order::Sizes => match policy {
-            Policy::Next => false,
-            Policy::Best | Policy::Instant => true,
-        },
-        Order::Lists => match policy {
-            Policy::Instant => true,
-            Policy::Best | Policy::Next => false,
-        },
-    }
 }
 
 /// An index with nothing in it, which is kept where the policy asks for it.
@@ -153,6 +137,23 @@ impl<D: Deed> FreeIndex<D> {
         self.lists.enter(slot, tag);
     }
 
+    /// Takes out the free range that begins at `base`, if there is one.
+    fn take_at(&mut self, base: u64) -> Option<Stored<D>>
+        ensures taken { TakesAt base self.old.ranges result self.new.ranges }
+        ensures rest { self.new ≡ record self.old { ranges = self.new.ranges } }
+    {
+        let entry = self.rising.first_from(base, 0)?;
+        if entry.major != base {
+            return None;
+        }
+        let slot = entry.slot;
+        let tag = self.slots.tag(slot);
+        self.rising.strike(slot, tag);
+        self.sizes.strike(slot, tag);
+        self.lists.strike(slot, tag);
+        Some(self.slots.take(slot).into_deed())
+    }
+
     /// The free range that begins at `base` is free no more.
     pub fn take(&mut self, base: u64) -> Stored<D>
         requires present { Any (λ r. r.range.base ≡ base) self.old.ranges }
@@ -162,15 +163,10 @@ impl<D: Deed> FreeIndex<D> {
         ensures room { self.new.room ≡ self.old.room }
         ensures ticks { self.new.ticks ≡ self.old.ticks }
     {
-        let Some(entry) = self.rising.first_from(base, 0) else {
-            unreachable!()
-        };
-        let slot = entry.slot;
-        let tag = self.slots.tag(slot);
-        self.rising.strike(slot, tag);
-        self.sizes.strike(slot, tag);
-        self.lists.strike(slot, tag);
-        self.slots.take(slot).into_deed()
+        match self.take_at(base) {
+            Some(deed) => deed,
+            None => unreachable!(),
+        }
     }
 
     /// How many free ranges there are. It takes constant time, so its clauses are the way to know
@@ -327,6 +323,19 @@ impl<D: Deed> FreeIndex<D> {
         }
     }
 
+    /// Where the free range begins that ends at `base`, if there is one: its entry by base tells.
+    fn start_of(&self, base: u64) -> Option<u64>
+        requires some { 0 < base }
+        requires apart { AllPairs Apart self.now.ranges }
+        ensures { BeginsBefore base self.now.ranges result }
+    {
+        let entry = self.rising.last_to(base - 1, u64::MAX)?;
+        if entry.major + entry.minor != base {
+            return None;
+        }
+        Some(entry.major)
+    }
+
     /// Takes out the free range that ends at `base`, unless the span begins there.
     fn take_left(&mut self, start: u64, base: u64) -> Option<Stored<D>>
         requires start { start ≤ base }
@@ -339,11 +348,8 @@ impl<D: Deed> FreeIndex<D> {
         }
         // For its clause: each free range has units.
         let _ = self.len();
-        let range = self.last_by(base - 1)?;
-        if range.end() != base {
-            return None;
-        }
-        Some(self.take(range.base()))
+        let first = self.start_of(base)?;
+        Some(self.take(first))
     }
 
     /// Takes out the free range that begins at `end`, unless the span ends there.
@@ -355,11 +361,7 @@ impl<D: Deed> FreeIndex<D> {
         if end == limit {
             return None;
         }
-        let range = self.last_by(end)?;
-        if range.base() != end {
-            return None;
-        }
-        Some(self.take(end))
+        self.take_at(end)
     }
 
     /// The deed and its free neighbours inside the span, which are taken out. It takes no memory.

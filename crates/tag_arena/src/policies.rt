@@ -1,4 +1,8 @@
-//! How an arena chooses.
+//! How an arena chooses, and by which orders.
+ghost use Rattle.std.specs.Prelude.{◌≡◌};
+ghost use Rattle.tag_arena.specs.FreeRanges.{keeps};
+
+use crate::orders::Order;
 
 /// How an arena chooses among its free ranges. That each arena has one, fixed when it is made, is
 /// our own choice.
@@ -10,4 +14,21 @@ pub enum Policy {
     Best,
     /// The least address from the end of the last carve on.
     Next,
+}
+
+/// Whether the policy asks for the order. Each asks for the rising one.
+pub(crate) fn is_kept(policy: Policy, order: Order) -> bool
+    ensures { result ≡ keeps policy order }
+{
+    match order {
+        Order::Rising => true,
+        Order::Sizes => match policy {
+            Policy::Next => false,
+            Policy::Best | Policy::Instant => true,
+        },
+        Order::Lists => match policy {
+            Policy::Instant => true,
+            Policy::Best | Policy::Next => false,
+        },
+    }
 }
