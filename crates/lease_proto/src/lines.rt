@@ -285,7 +285,7 @@ impl Line {
                 release.push(out);
             }
         }
-        push_text(out, b"\n");
+        out.push_reserved(b'\n');
         Ok(())
     }
 

@@ -351,7 +351,7 @@ impl Reply {
             Reply::Again(again) => again.push(out),
             Reply::Error(error) => push_word(out, error.word()),
         }
-        push_text(out, b"\n");
+        out.push_reserved(b'\n');
         Ok(())
     }
 

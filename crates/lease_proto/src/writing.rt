@@ -37,7 +37,7 @@ pub fn push_word(out: &mut Vec<u8>, word: &[u8])
     ensures len { vec_len out.new ≡ vec_len out.old + (length word.now + 1) }
     ensures capacity { vec_capacity out.old ≤ vec_capacity out.new }
 {
-    push_text(out, b" ");
+    out.push_reserved(b' ');
     push_text(out, word);
 }
 

@@ -1,20 +1,61 @@
--- Where the free range begins that ends at a base, by the last entry below the base.
-use Rattle.std.proofs.Common.{◌≡◌, ◌≢◌, ℕ, ◌+◌, ◌-◌, ◌<◌, ◌^◌, sym, ap, ◌∙◌, List, All, AllPairs, Any, Option, Some, None, arith}
+-- The last entry up to a unit: which range has the unit in it, and which ends behind it.
+use Rattle.std.proofs.Common.{◌≡◌, ◌≢◌, ℕ, ◌+◌, ◌-◌, ◌<◌, ◌≤◌, ◌^◌, sym, ap, ◌∙◌, ⊎_elim, List, All, AllPairs, Any, Option, Some, None, arith}
+use Rattle.std.proofs.lemmas.Bool.{cases_lt}
 use Rattle.std.proofs.lemmas.List.Elements.{All-contains}
-use Rattle.deed_core.specs.Extent.{IsRange, end_of}
+use Rattle.deed_core.specs.Extent.{Covers, IsRange, end_of}
 use Rattle.deed_core.specs.Holding.{Apart}
 use Rattle.sorted_rows.specs.Order.{Rises, last_to}
 use Rattle.tag_arena.specs.declared.entries.IndexEntry.{IndexEntry}
 use Rattle.tag_arena.specs.declared.orders.Order.TheVariants.{Rising}
+use Rattle.tag_arena.specs.Fits.{IsLastBy, IsWith}
 use Rattle.tag_arena.specs.FreeTags.{FreeTag, tag_at, ranges_by_age, AreTags}
 use Rattle.tag_arena.specs.Orders.{rank_of, entry_of, Mirrors}
 use Rattle.tag_arena.proofs.Indexing.{range_is_free}
 use Rattle.tag_arena.proofs.Lasting.{last_key, none_by, some_by, all_ranges}
 use Rattle.tag_arena.proofs.Members.{All-from_members}
 use Rattle.tag_arena.proofs.Neighboring.{none_ends}
+use Rattle.tag_arena.proofs.Roving.{ends_before, same_begin}
 use Rattle.tag_arena.proofs.Searching.{is_last}
 
-module _ (base clock : ℕ) (items : List IndexEntry) (tags : List (Option FreeTag)) (m : Mirrors Rising items tags) (rises : Rises rank_of items) (are : AreTags clock tags) (some : 0 < base) (apart : AllPairs Apart (ranges_by_age tags)) where
+module _ (unit clock : ℕ) (items : List IndexEntry) (tags : List (Option FreeTag)) (m : Mirrors Rising items tags) (rises : Rises rank_of items) (are : AreTags clock tags) where
+  module _ (e : IndexEntry) (found : last_to rank_of (last_key unit) items ≡ Some e) where
+    -- its tag
+    pub last_tag : (t : FreeTag) × (tag_at tags e.slot ≡ Some t) × (e ≡ entry_of Rising e.slot t)
+    last_tag = m.from e (is_last rank_of (last_key unit) items rises e found).among
+
+    pub last_range : IsLastBy unit (ranges_by_age tags) (Some last_tag.0.range)
+    last_range = some_by unit clock items tags m rises are e last_tag.0 (is_last rank_of (last_key unit) items rises e found) last_tag.1 last_tag.2
+
+    pub sum_is : e.major + e.minor ≡ end_of last_tag.0.range.range
+    sum_is = ap (λ (x : IndexEntry). x.major + x.minor) last_tag.2
+
+    pub sum_fits : e.major + e.minor < 2 ^ 64
+    sum_fits = let range = (are e.slot last_tag.0 last_tag.1).range in omega (arith, range.below, sum_is)
+
+    -- where its range ends by the unit, no range has the unit in it
+    pub ends_by : AllPairs Apart (ranges_by_age tags) → e.major + e.minor ≤ unit → IsWith unit (ranges_by_age tags) None
+    ends_by apart short =
+        let free = ranges_by_age tags in
+        let all = all_ranges clock tags are in
+        let here = last_tag.0.range in
+        All-from_members (λ r. ¬ Covers r.range unit) free
+        (λ r in-r has.
+        let low = last_range.2 r in-r has.0 in
+        let to = last_range.1 in
+        ⊎_elim (λ lt. let before = ends_before free all apart r here in-r last_range.0 lt in omega (arith, before, to, has.1))
+        (λ ge. let same = ap (λ h. end_of h.range) (same_begin free all apart r here in-r last_range.0 (omega (arith, low, ge))) in omega (arith, same, sum_is, short, has.1))
+        (cases_lt r.range.base here.range.base))
+
+    pub has_unit : unit < e.major + e.minor → IsWith unit (ranges_by_age tags) (Some last_tag.0.range)
+    has_unit long = (last_range.0, (last_range.1, omega (arith, long, sum_is)))
+
+  pub has_none : last_to rank_of (last_key unit) items ≡ None → IsWith unit (ranges_by_age tags) None
+  has_none none =
+      All-from_members (λ r. ¬ Covers r.range unit) (ranges_by_age tags)
+      (λ r in-r has. let above = All-contains (λ x. unit < x.range.base) (ranges_by_age tags) r (none_by unit clock items tags m rises are none) in-r in omega (arith, above, has.0))
+
+-- Where the free range begins that ends at a base.
+module _ (base clock : ℕ) (items : List IndexEntry) (tags : List (Option FreeTag)) (m : Mirrors Rising items tags) (rises : Rises rank_of items) (are : AreTags clock tags) (some : 0 < base) where
   pub ends_nowhere : last_to rank_of (last_key (base - 1)) items ≡ None → All (λ r. end_of r.range ≢ base) (ranges_by_age tags)
   ends_nowhere none =
       All-from_members (λ r. end_of r.range ≢ base) (ranges_by_age tags)
@@ -23,27 +64,14 @@ module _ (base clock : ℕ) (items : List IndexEntry) (tags : List (Option FreeT
       let long = (All-contains (λ x. IsRange x.range) (ranges_by_age tags) r (all_ranges clock tags are) in-r).some in
       omega (arith, above, is, some, long))
 
-  -- the tag of the last entry below the base
-  pub last_tag : (e : IndexEntry) → last_to rank_of (last_key (base - 1)) items ≡ Some e → (t : FreeTag) × (tag_at tags e.slot ≡ Some t) × (e ≡ entry_of Rising e.slot t)
-  last_tag e found = m.from e (is_last rank_of (last_key (base - 1)) items rises e found).among
+  module _ (e : IndexEntry) (found : last_to rank_of (last_key (base - 1)) items ≡ Some e) where
+    pub ends_elsewhere : AllPairs Apart (ranges_by_age tags) → (e.major + e.minor ≡ base → ⊥) → All (λ r. end_of r.range ≢ base) (ranges_by_age tags)
+    ends_elsewhere apart other =
+        none_ends (ranges_by_age tags) (all_ranges clock tags are) apart base _ some (last_range (base - 1) clock items tags m rises are e found)
+        (λ is. other (sum_is (base - 1) clock items tags m rises are e found ∙ is))
 
-  pub ends_elsewhere : (e : IndexEntry) → last_to rank_of (last_key (base - 1)) items ≡ Some e → (e.major + e.minor ≡ base → ⊥) → All (λ r. end_of r.range ≢ base) (ranges_by_age tags)
-  ends_elsewhere e found other =
-      let w = last_tag e found in
-      let last = some_by (base - 1) clock items tags m rises are e w.0 (is_last rank_of (last_key (base - 1)) items rises e found) w.1 w.2 in
-      none_ends (ranges_by_age tags) (all_ranges clock tags are) apart base w.0.range some last
-      (λ is. other (ap (λ (x : IndexEntry). x.major + x.minor) w.2 ∙ is))
-
-  pub ends_here : (e : IndexEntry) → last_to rank_of (last_key (base - 1)) items ≡ Some e → e.major + e.minor ≡ base → Any (λ r. (r.range.base ≡ e.major) × (end_of r.range ≡ base)) (ranges_by_age tags)
-  ends_here e found is =
-      let w = last_tag e found in
-      let among = range_is_free tags e.slot w.0 w.1 in
-      (among.0, w.0.range, among.1, among.2, (sym (ap (λ (x : IndexEntry). x.major) w.2), sym (ap (λ (x : IndexEntry). x.major + x.minor) w.2) ∙ is))
-
-  -- no sum of an entry's two numbers is too large
-  pub sum_fits : (e : IndexEntry) → last_to rank_of (last_key (base - 1)) items ≡ Some e → e.major + e.minor < 2 ^ 64
-  sum_fits e found =
-      let w = last_tag e found in
-      let range = (are e.slot w.0 w.1).range in
-      let is = ap (λ (x : IndexEntry). x.major + x.minor) w.2 in
-      omega (arith, range.below, is)
+    pub ends_here : e.major + e.minor ≡ base → Any (λ r. (r.range.base ≡ e.major) × (end_of r.range ≡ base)) (ranges_by_age tags)
+    ends_here is =
+        let w = last_tag (base - 1) clock items tags m rises are e found in
+        let among = range_is_free tags e.slot w.0 w.1 in
+        (among.0, w.0.range, among.1, among.2, (sym (ap (λ (x : IndexEntry). x.major) w.2), sym (sum_is (base - 1) clock items tags m rises are e found) ∙ is))

@@ -2,7 +2,7 @@
 use Rattle.std.proofs.Common.{◌≡◌, ℕ, ◌+◌, ◌*◌, ◌^◌, ◌<◌, ◌≤◌, max, ap, subst, ⊎_elim, List, All, AllPairs, Contains, Option, None, Some, arith}
 use Rattle.std.proofs.lemmas.Bool.{cases_lt}
 use Rattle.std.proofs.lemmas.List.Elements.{All-contains}
-use Rattle.deed_core.specs.Extent.{IsRange, end_of}
+use Rattle.deed_core.specs.Extent.{Covers, IsRange, end_of}
 use Rattle.deed_core.specs.Holding.{Holding, Apart}
 use Rattle.deed_core.specs.Request.{rounding_of}
 use Rattle.deed_core.specs.declared.requests.Request.{Request}
@@ -15,7 +15,7 @@ use Rattle.tag_arena.specs.declared.orders.Order.TheVariants.{Rising}
 use Rattle.tag_arena.specs.declared.reaches.Measure.TheVariants.{Minor}
 use Rattle.tag_arena.specs.FreeTags.{FreeTag, ranges_by_age, AreTags}
 use Rattle.tag_arena.specs.Orders.{rank_of, weight_of, entry_of, Mirrors}
-use Rattle.tag_arena.specs.Fits.{IsEarliest, IsLastBy, NoneBelow}
+use Rattle.tag_arena.specs.Fits.{IsEarliest, IsWith, NoneBelow}
 use Rattle.tag_arena.proofs.Fitting.{tag_of_free}
 use Rattle.tag_arena.proofs.Weighing.{IsHeavy, none_heavy}
 
@@ -82,21 +82,17 @@ module _ (free : List Holding) (ranges : All (λ r. IsRange r.range) free) (apar
         let there : ServesIn quantum q r n = w.4 in
         ⊎_elim (λ low. below r n among_r low there h.1) (λ high. roomy r n there (light r among_r high)) (cases_lt r.range.base from)
 
-    -- what begins below the last that begins at the start or below ends below the start
-    pub below_last : (range : Holding) → 0 < rounding_of quantum q.size → IsLastBy start free (Some range) → NoneBelow quantum q free start range.range.base
-    below_last range some last r b h lt serves past =
-        let e = ends_before r range h last.0 lt in
-        let to = serves.to in
-        omega (arith, e, to, last.1, past, some)
+    -- what begins at the start or below it and serves from there on has the start in it
+    reaches_past : 0 < rounding_of quantum q.size → (r : Holding) (b : ℕ) → r.range.base < start + 1 → ServesIn quantum q r b → start ≤ b → Covers r.range start
+    reaches_past some r b lt serves past = let to = serves.to in (omega (arith, lt), omega (arith, to, past, some))
 
-    pub by_last : (range : Holding) → 0 < rounding_of quantum q.size → IsLastBy start free (Some range) → ((b : ℕ) → ServesIn quantum q range b → start ≤ b → ⊥) → NoneBelow quantum q free start (start + 1)
-    by_last range some last none r b h lt serves past =
-        ⊎_elim (λ low. below_last range some last r b h low serves past)
-        (λ high. let le = last.2 r h (omega (arith, lt)) in let same = same_begin r range h last.0 (omega (arith, high, le)) in none b (subst (λ x. ServesIn quantum q x b) same serves) past)
-        (cases_lt r.range.base range.range.base)
+    pub by_one : (range : Holding) → 0 < rounding_of quantum q.size → IsWith start free (Some range) → ((b : ℕ) → ServesIn quantum q range b → start ≤ b → ⊥) → NoneBelow quantum q free start (start + 1)
+    by_one range some with none r b h lt serves past =
+        let same = same_where_shared free r range start apart h with.0 (reaches_past some r b lt serves past) with.1 in
+        none b (subst (λ x. ServesIn quantum q x b) same serves) past
 
-    pub by_none : IsLastBy start free None → NoneBelow quantum q free start (start + 1)
-    by_none last r b h lt serves past = let over = All-contains (λ x. start < x.range.base) free r last h in omega (arith, over, lt)
+    pub by_none : 0 < rounding_of quantum q.size → IsWith start free None → NoneBelow quantum q free start (start + 1)
+    by_none some with r b h lt serves past = All-contains (λ x. ¬ Covers x.range start) free r with h (reaches_past some r b lt serves past)
 
 -- what the index passes by
 module _ (units from clock : ℕ) (items : List IndexEntry) (tags : List (Option FreeTag)) (m : Mirrors Rising items tags) (rises : Rises rank_of items) (are : AreTags clock tags) where

@@ -1,5 +1,6 @@
 -- A choice among the free ranges.
 use Rattle.std.specs.Prelude.{ℕ, ◌<◌, ◌≤◌, List, All, Contains, Option, Some, None}
+use Rattle.deed_core.specs.Extent.{Covers}
 use Rattle.deed_core.specs.Holding.{Holding}
 use Rattle.deed_core.specs.declared.requests.Request.{Request}
 use Rattle.deed_core.specs.Request.{IsPlain, rounding_of}
@@ -22,6 +23,11 @@ abbrev pub IsLastBy : ℕ → List Holding → Option Holding → Type 0
 IsLastBy base free None = All (λ r. base < r.range.base) free
 IsLastBy base free (Some h) = Contains free h × (h.range.base ≤ base)
     × ((r : Holding) → Contains free r → r.range.base ≤ base → r.range.base ≤ h.range.base)
+
+-- the one with the unit in it, where there is one
+abbrev pub IsWith : ℕ → List Holding → Option Holding → Type 0
+IsWith unit free None = All (λ r. ¬ Covers r.range unit) free
+IsWith unit free (Some h) = Contains free h × Covers h.range unit
 
 -- it asks for no place, and a power-of-two list serves it
 abbrev pub ServedByList : ℕ → Request → List Holding → Type 0

@@ -12,7 +12,7 @@ ghost use Rattle.tag_arena.specs.declared.orders.Order.TheVariants.{Rising};
 use crate::orders::OrderedIndex;
 use crate::probes::Probes;
 use crate::reaches::Measure;
-use crate::searches::{Fit, last_by};
+use crate::searches::{Fit, range_with};
 use crate::slots::Slots;
 use deed_core::{Deed, Request};
 
@@ -54,7 +54,7 @@ fn earliest_behind<D: Deed>(
 }
 
 /// The least address from `start` on that serves the request. Of the ranges that begin at `start`
-/// or below it, only the last can reach past it.
+/// or below it, only the one with `start` in it reaches past it.
 fn earliest_fit<D: Deed>(
     slots: &Slots<D>,
     rising: &mut OrderedIndex,
@@ -77,7 +77,7 @@ fn earliest_fit<D: Deed>(
 {
     let units = request.units(quantum)?;
     rising.go_to(start, u64::MAX);
-    if let Some(range) = last_by(slots, rising, start) {
+    if let Some(range) = range_with(slots, rising, start) {
         if let Some(base) = probes.least_in(request, quantum, range, start) {
             return Some(Fit { range, base });
         }

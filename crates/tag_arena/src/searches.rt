@@ -1,11 +1,12 @@
 //! What a policy chooses among the free ranges.
-ghost use Rattle.std.specs.Prelude.{◌≡◌, ℕ, ◌<◌, ◌≤◌, ◌^◌, IfSome, MatchOption};
+ghost use Rattle.std.specs.Prelude.{◌≡◌, ℕ, ◌<◌, ◌≤◌, ◌^◌, AllPairs, IfSome, MatchOption};
 ghost use Rattle.std.specs.Int.{IsPowerOfTwo};
+ghost use Rattle.deed_core.specs.Holding.{Apart};
 ghost use Rattle.deed_core.specs.Request.{IsGood, rounding_of};
 ghost use Rattle.tag_arena.specs.Choice.{IsBestChoice, IsInstant, NoListServes};
 ghost use Rattle.tag_arena.specs.FreeTags.{AreTags, IsTimed, ranges_by_age};
 ghost use Rattle.tag_arena.specs.Orders.{Mirrors};
-ghost use Rattle.tag_arena.specs.Fits.{base_of, IsFit, IsLastBy};
+ghost use Rattle.tag_arena.specs.Fits.{base_of, IsFit, IsLastBy, IsWith};
 ghost use Rattle.tag_arena.specs.declared.orders.Order.TheVariants.{Lists, Rising, Sizes};
 
 use crate::held_ranges::HeldRange;
@@ -126,6 +127,20 @@ pub fn last_by<D: Deed>(slots: &Slots<D>, rising: &OrderedIndex, base: u64) -> O
     let Some(entry) = rising.last_to(base, u64::MAX) else {
         return None;
     };
+    Some(slots.tag(entry.slot).range())
+}
+
+/// The free range with this unit in it. Where there is none, it looks at no slot.
+pub fn range_with<D: Deed>(slots: &Slots<D>, rising: &OrderedIndex, unit: u64) -> Option<HeldRange>
+    requires tags { (clock : ℕ) × AreTags clock slots.now.tags }
+    requires mirrors { Mirrors Rising rising.now.items slots.now.tags }
+    requires apart { AllPairs Apart (ranges_by_age slots.now.tags) }
+    ensures { IsWith unit (ranges_by_age slots.now.tags) result }
+{
+    let entry = rising.last_to(unit, u64::MAX)?;
+    if entry.major + entry.minor <= unit {
+        return None;
+    }
     Some(slots.tag(entry.slot).range())
 }
 
