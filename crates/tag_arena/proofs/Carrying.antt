@@ -11,7 +11,7 @@ use Rattle.deed_core.proofs.LawProofs.{sum_by-map}
 use Rattle.std.proofs.lemmas.List.Sums.{sum_by-append, sum_by_push}
 use Rattle.tag_arena.specs.ArenaState.{ArenaState, spans_of, ranges_of, tags_of, direct_tag, IsSoundArena, IsChosen}
 use Rattle.tag_arena.specs.Calls.{part, Carves, after_carve, after_import, first_units}
-use Rattle.tag_arena.specs.Outcomes.{KeepsSetup, WasCarved, WasImported}
+use Rattle.tag_arena.specs.Outcomes.{KeepsSetup, WasCarved}
 use Rattle.tag_arena.proofs.Importing.{Imports, import_sound, import_gains, import_covers}
 use Rattle.tag_arena.proofs.Granting.{CarvesAt, carves, carve_sound, carve_gains, carve_covers, FoundAt, IsFoundAt, found_carves, none_whole}
 
@@ -66,9 +66,6 @@ module _ (a : ArenaState) (q : Request) (f : FoundAt) (n : ℕ) (sound : IsSound
   pub found_sound : IsSoundArena new
   found_sound = carve_sound a f.at f.range (part f.range f.base n) at (none_whole a sound f.range) new after
 
-  pub found_keeps : KeepsSetup a new
-  found_keeps = record { id = ap (λ (s : ArenaState). s.id) after; quantum = ap (λ (s : ArenaState). s.quantum) after; policy = ap (λ (s : ArenaState). s.policy) after }
-
   pub found_gains : Gains (tags_of a) (tags_of new) s
   found_gains = tags_gain a new (part f.range f.base n) s (ap (λ (s : ArenaState). s.id) after) (carve_gains a f.at f.range (part f.range f.base n) at new after) is
 
@@ -80,20 +77,9 @@ module _ (a : ArenaState) (q : Request) (f : FoundAt) (n : ℕ) (sound : IsSound
 -- a span was imported, and its first units carved
 module _ (a : ArenaState) (q : Request) (span : Tag) (n : ℕ) (k : Imports a span n) (n_is : n ≡ rounding_of a.quantum q.size)
     (new : ArenaState) (after : new ≡ after_carve (after_import a span) span.holding (first_units n span.holding)) (s : Tag) (is : s ≡ direct_tag a.id (first_units n span.holding)) (range : IsRange s.holding.range) where
-  pub import_done : WasImported a span q s new
-  import_done = record {
-    clear = k.clear;
-    aligned = k.aligned;
-    segment = is ∙ ap (λ m. direct_tag a.id (first_units m span.holding)) n_is;
-    range = range;
-    after = after ∙ ap (λ m. after_carve (after_import a span) span.holding (first_units m span.holding)) n_is;
-  }
 
   pub import_done_sound : IsSoundArena new
   import_done_sound = import_sound a span n k new after
-
-  pub import_keeps : KeepsSetup a new
-  import_keeps = record { id = ap (λ (s : ArenaState). s.id) after; quantum = ap (λ (s : ArenaState). s.quantum) after; policy = ap (λ (s : ArenaState). s.policy) after }
 
   imported_is : new.imported ≡ a.imported ++ span ∷ []
   imported_is = ap (λ (s : ArenaState). s.imported) after

@@ -1,19 +1,17 @@
--- The last entry up to a unit: which range has the unit in it, and which ends behind it.
-use Rattle.std.proofs.Common.{◌≡◌, ◌≢◌, ℕ, ◌+◌, ◌-◌, ◌<◌, ◌≤◌, ◌^◌, sym, ap, ◌∙◌, ⊎_elim, List, All, AllPairs, Any, Option, Some, None, arith}
+-- The last entry up to a unit: which range has the unit in it.
+use Rattle.std.proofs.Common.{◌≡◌, ℕ, ◌+◌, ◌<◌, ◌≤◌, ◌^◌, ap, ⊎_elim, List, AllPairs, Option, Some, None, arith}
 use Rattle.std.proofs.lemmas.Bool.{cases_lt}
 use Rattle.std.proofs.lemmas.List.Elements.{All-contains}
-use Rattle.deed_core.specs.Extent.{Covers, IsRange, end_of}
+use Rattle.deed_core.specs.Extent.{Covers, end_of}
 use Rattle.deed_core.specs.Holding.{Apart}
 use Rattle.sorted_rows.specs.Order.{Rises, last_to}
 use Rattle.tag_arena.specs.declared.entries.IndexEntry.{IndexEntry}
 use Rattle.tag_arena.specs.declared.orders.Order.TheVariants.{Rising}
-use Rattle.tag_arena.specs.Fits.{IsLastBy, IsWith}
+use Rattle.tag_arena.specs.Fits.{IsWith}
 use Rattle.tag_arena.specs.FreeTags.{FreeTag, tag_at, ranges_by_age, AreTags}
 use Rattle.tag_arena.specs.Orders.{rank_of, entry_of, Mirrors}
-use Rattle.tag_arena.proofs.Indexing.{range_is_free}
-use Rattle.tag_arena.proofs.Lasting.{last_key, none_by, some_by, all_ranges}
+use Rattle.tag_arena.proofs.Lasting.{IsLastBy, last_key, none_by, some_by, all_ranges}
 use Rattle.tag_arena.proofs.Members.{All-from_members}
-use Rattle.tag_arena.proofs.Neighboring.{none_ends}
 use Rattle.tag_arena.proofs.Roving.{ends_before, same_begin}
 use Rattle.tag_arena.proofs.Searching.{is_last}
 
@@ -53,25 +51,3 @@ module _ (unit clock : ℕ) (items : List IndexEntry) (tags : List (Option FreeT
   has_none none =
       All-from_members (λ r. ¬ Covers r.range unit) (ranges_by_age tags)
       (λ r in-r has. let above = All-contains (λ x. unit < x.range.base) (ranges_by_age tags) r (none_by unit clock items tags m rises are none) in-r in omega (arith, above, has.0))
-
--- Where the free range begins that ends at a base.
-module _ (base clock : ℕ) (items : List IndexEntry) (tags : List (Option FreeTag)) (m : Mirrors Rising items tags) (rises : Rises rank_of items) (are : AreTags clock tags) (some : 0 < base) where
-  pub ends_nowhere : last_to rank_of (last_key (base - 1)) items ≡ None → All (λ r. end_of r.range ≢ base) (ranges_by_age tags)
-  ends_nowhere none =
-      All-from_members (λ r. end_of r.range ≢ base) (ranges_by_age tags)
-      (λ r in-r is.
-      let above = All-contains (λ x. base - 1 < x.range.base) (ranges_by_age tags) r (none_by (base - 1) clock items tags m rises are none) in-r in
-      let long = (All-contains (λ x. IsRange x.range) (ranges_by_age tags) r (all_ranges clock tags are) in-r).some in
-      omega (arith, above, is, some, long))
-
-  module _ (e : IndexEntry) (found : last_to rank_of (last_key (base - 1)) items ≡ Some e) where
-    pub ends_elsewhere : AllPairs Apart (ranges_by_age tags) → (e.major + e.minor ≡ base → ⊥) → All (λ r. end_of r.range ≢ base) (ranges_by_age tags)
-    ends_elsewhere apart other =
-        none_ends (ranges_by_age tags) (all_ranges clock tags are) apart base _ some (last_range (base - 1) clock items tags m rises are e found)
-        (λ is. other (sum_is (base - 1) clock items tags m rises are e found ∙ is))
-
-    pub ends_here : e.major + e.minor ≡ base → Any (λ r. (r.range.base ≡ e.major) × (end_of r.range ≡ base)) (ranges_by_age tags)
-    ends_here is =
-        let w = last_tag (base - 1) clock items tags m rises are e found in
-        let among = range_is_free tags e.slot w.0 w.1 in
-        (among.0, w.0.range, among.1, among.2, (sym (ap (λ (x : IndexEntry). x.major) w.2), sym (sum_is (base - 1) clock items tags m rises are e found) ∙ is))

@@ -1,5 +1,5 @@
 -- A carve of what was found, in terms of the calls that make it.
-use Rattle.std.proofs.Common.{◌≡◌, ℕ, ◌+◌, ◌-◌, ◌*◌, ◌/◌, ◌%◌, ◌<◌, refl, sym, subst, ap, ◌∙◌, inl, inr, List, ◌++◌, length, remove, Contains, HoldsAt, Option, Some, None, SomeIff, Result, Ok, Err, IfErr, IsErrAnd, arith}
+use Rattle.std.proofs.Common.{◌≡◌, ℕ, ◌+◌, ◌-◌, ◌*◌, ◌/◌, ◌%◌, ◌<◌, refl, sym, subst, ap, ◌∙◌, inl, inr, List, ◌++◌, length, remove, Contains, HoldsAt, Option, Some, None, SomeIff, Result, Ok, Err, IsErrAnd, arith}
 use Rattle.std.proofs.lemmas.Bool.{cases_eq}
 use Rattle.std.proofs.lemmas.List.Elements.{All-contains}
 use Rattle.std.proofs.Math.Nat.{mul-mod_left, mod_self, mod-eq_of_lt}
@@ -17,13 +17,11 @@ use Rattle.deed_core.specs.declared.requests.Request.{Request}
 use Rattle.tag_arena.specs.declared.faults.ArenaFault.{ArenaFault}
 use Rattle.tag_arena.specs.declared.faults.ArenaFault.TheVariants.{NoFit, NoMemory}
 use Rattle.tag_arena.specs.Layout.{IsPartOf}
-use Rattle.tag_arena.specs.Choice.{IsChoice}
 use Rattle.tag_arena.specs.Place.{ServesIn}
-use Rattle.tag_arena.specs.ArenaState.{ArenaState, IsDivided, IsSoundArena, IsChosen, OnQuantum, ranges_of}
+use Rattle.tag_arena.specs.ArenaState.{ArenaState, IsDivided, IsSoundArena, OnQuantum, ranges_of}
 use Rattle.tag_arena.specs.Calls.{part, rests, after_carve, Carves}
 use Rattle.tag_arena.proofs.Allocations.{gains_insert, remove-insert}
 use Rattle.tag_arena.proofs.Ranges.{get_same}
-use Rattle.tag_arena.proofs.OneChoice.{choice_one}
 use Rattle.tag_arena.proofs.Using.{carved_used}
 use Rattle.tag_arena.proofs.Sounding.{power_some, others, absent, sound_carve, carved_covers, among}
 
@@ -46,14 +44,6 @@ rounded_multiple size quantum some =
 
 pub units_are : (o : Option ℕ) (P : Type 0) (v n : ℕ) → SomeIff o P v → o ≡ Some n → n ≡ v
 units_are o P v n says e = (subst (λ x. SomeIff x P v) e says).1
-
--- a choice among the same free ranges
-pub chosen_by : (a b : ArenaState) (q : Request) (xs : List Holding) (o : Option ℕ) → xs ≡ a.free → a ≡ b → IsChoice a.policy a.quantum q xs a.rover o → IsChosen b q o
-chosen_by a b q xs o free same choice = subst (λ (s : ArenaState). IsChosen s q o) same (subst (λ (ys : List Holding). IsChoice a.policy a.quantum q ys a.rover o) free choice)
-
--- an address and none aren't both chosen
-pub never_both : (a : ArenaState) (q : Request) (b : ℕ) → IsChosen a q None → IsChosen a q (Some b) → ⊥
-never_both a q b none some = let e : None ≡ Some b = choice_one a.policy a.quantum q a.free a.rover None (Some b) none some in cc
 
 -- an arena whose lists are as they were
 pub as_it_was : (a : ArenaState) (free : List Holding) (tags : FinMap nat_cmp Holding) → free ≡ a.free → tags ≡ a.allocated → record a { free = free; allocated = tags } ≡ a
@@ -129,11 +119,6 @@ found_carves a q f n sound good found n_is = record {
 err_or : {X : Type 0} → Result X ArenaFault → ArenaFault → ArenaFault
 err_or (Ok x) d = d
 err_or (Err fault) d = fault
-
--- a refusal for memory that `?` passes on
-pub memory_refused : {X : Type 0} (r : Result X ArenaFault) (Q : ArenaFault → Type 0) → IsErrAnd r (λ fault. fault ≡ NoMemory) → Q NoMemory → IfErr r Q
-memory_refused (Ok x) Q h q = tt
-memory_refused (Err fault) Q h q = subst Q (sym h) q
 
 not_that : (fault : ArenaFault) → fault ≡ NoMemory → NoFit ≡ fault → ⊥
 not_that fault h e = let both : NoFit ≡ NoMemory = e ∙ h in cc

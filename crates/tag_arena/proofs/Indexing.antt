@@ -12,14 +12,14 @@ use Rattle.sorted_rows.specs.Order.{Rises, first_from, place_below}
 use Rattle.tag_arena.specs.declared.orders.Order.{Order}
 use Rattle.tag_arena.specs.declared.orders.Order.TheVariants.{Rising, Sizes, Lists}
 use Rattle.tag_arena.specs.FreeTags.{FreeTag, range_of, tag_at, SlotBecomes, tags_by_age, ranges_by_age, IsTag, IsTimed, AreTags}
-use Rattle.tag_arena.specs.Orders.{rank_of, entry_of, OrderedIndexState, Mirrors, KeepsUp, HasRoomForOne, IsAbsent, IsPresent}
+use Rattle.tag_arena.specs.Orders.{rank_of, entry_of, OrderedIndexState, Mirrors, KeepsUp, HasRoomForOne, IsAbsent}
 use Rattle.tag_arena.specs.Slotted.{SlotsState, taken_count}
 use Rattle.tag_arena.specs.FreeRanges.{MeetsPolicy, IsIndexed}
 use Rattle.tag_arena.specs.declared.entries.IndexEntry.{IndexEntry}
 use Rattle.tag_arena.proofs.Listing.{None≢Some, Some-injective, map-remove, place_of_member}
 use Rattle.tag_arena.proofs.Members.{All-from_members}
 use Rattle.tag_arena.proofs.Aging.{in_tags_by_age, from_tags_by_age, length-tags_by_age, put_cases, timed_put, aged_put, take_cases, timed_take, aged_take}
-use Rattle.tag_arena.proofs.Mirroring.{place_for, absent_for, present_for}
+use Rattle.tag_arena.proofs.Mirroring.{place_for, absent_for}
 use Rattle.tag_arena.proofs.Searching.{is_first, none_from}
 
 -- the range of a tag is one of the free ranges
@@ -158,9 +158,6 @@ module _ (policy : Policy) (order : Order) (s : SlotsState) (room : ℕ) (i : Or
   pub absent_in : (clock k : ℕ) (t : FreeTag) → AreTags clock s.tags → IsTag (clock + 1) t → t.since ≡ clock + 1 → clock + 1 < 2 ^ 64 → All (λ r. r.range.base ≢ t.range.range.base) (ranges_by_age s.tags) → IsAbsent i.kept i.items (rank_of (entry_of i.order k t))
   absent_in clock k t are new now fits absent =
       absent_for i.kept i.order i.items i.room room s.tags (clock + 1) k t is.keeps_up (tags_later clock s.tags are) new fits (differs clock k s.tags s.tags t are now absent)
-
-  pub present_in : (k : ℕ) (t : FreeTag) → tag_at s.tags k ≡ Some t → IsPresent i.kept i.items (rank_of (entry_of i.order k t))
-  present_in k t here = present_for i.kept i.order i.items i.room room s.tags k t is.keeps_up here
 
 -- the tag of a range that becomes free
 pub new_tag : (clock p len : ℕ) (deed : Holding) (made : FreeTag) → made ≡ record { range = deed; since = clock + 1; power = p } → IsRange deed.range → len ≡ deed.range.len → 2 ^ p ≤ len → len < 2 * 2 ^ p → p < 64 → IsTag (clock + 1) made

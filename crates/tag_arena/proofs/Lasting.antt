@@ -1,16 +1,22 @@
 -- The range that begins last, by the index of bases.
-use Rattle.std.proofs.Common.{◌≡◌, ℕ, ◌+◌, ◌-◌, ◌*◌, ◌^◌, ◌<◌, ap, subst, List, All, Option, None, Some, arith}
+use Rattle.std.proofs.Common.{◌≡◌, ℕ, ◌+◌, ◌-◌, ◌*◌, ◌^◌, ◌<◌, ◌≤◌, ap, subst, List, All, Contains, Option, None, Some, arith}
 use Rattle.deed_core.specs.Extent.{IsRange}
+use Rattle.deed_core.specs.Holding.{Holding}
 use Rattle.tag_arena.proofs.Members.{All-from_members}
 use Rattle.sorted_rows.specs.Order.{Rises, last_to}
 use Rattle.tag_arena.specs.declared.entries.IndexEntry.{IndexEntry}
 use Rattle.tag_arena.specs.declared.orders.Order.TheVariants.{Rising}
 use Rattle.tag_arena.specs.FreeTags.{FreeTag, tag_at, ranges_by_age, AreTags}
-use Rattle.tag_arena.specs.Fits.{IsLastBy}
 use Rattle.tag_arena.specs.Orders.{rank_of, entry_of, Mirrors}
 use Rattle.tag_arena.proofs.Indexing.{range_is_free}
 use Rattle.tag_arena.proofs.Fitting.{tag_of_free}
 use Rattle.tag_arena.proofs.Searching.{IsLast, none_to}
+
+-- of the ranges that begin at `base` or below it, the one that begins last
+abbrev pub IsLastBy : ℕ → List Holding → Option Holding → Type 0
+IsLastBy base free None = All (λ r. base < r.range.base) free
+IsLastBy base free (Some h) = Contains free h × (h.range.base ≤ base)
+    × ((r : Holding) → Contains free r → r.range.base ≤ base → r.range.base ≤ h.range.base)
 
 -- the greatest key of a base
 abbrev pub last_key : ℕ → ℕ

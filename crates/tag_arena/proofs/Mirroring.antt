@@ -9,7 +9,7 @@ use Rattle.tag_arena.specs.declared.entries.IndexEntry.{IndexEntry}
 use Rattle.tag_arena.specs.declared.orders.Order.{Order}
 use Rattle.tag_arena.specs.declared.orders.Order.TheVariants.{Rising, Sizes, Lists}
 use Rattle.tag_arena.specs.FreeTags.{FreeTag, tag_at, SlotBecomes, IsTag, AreTags}
-use Rattle.tag_arena.specs.Orders.{rank_of, entry_of, OrderedIndexState, Mirrors, KeepsUp, IsAbsent, IsPresent, HasRoomForOne, PutsEntry, TakesEntry}
+use Rattle.tag_arena.specs.Orders.{rank_of, entry_of, OrderedIndexState, Mirrors, KeepsUp, IsAbsent, HasRoomForOne, PutsEntry, TakesEntry}
 use Rattle.tag_arena.specs.Slotted.{SlotsState, taken_count}
 use Rattle.tag_arena.specs.FreeRanges.{MeetsPolicy}
 use Rattle.tag_arena.proofs.Listing.{Some-injective, Contains-inserted, Contains-insert, Contains-insert_cases, rank_at_place, place_of_member}
@@ -107,10 +107,6 @@ pub absent_for : (kept : Bool) (order : Order) (items : List IndexEntry) (room w
     → ((j : ℕ) (u : FreeTag) → tag_at tags j ≡ Some u → (u.range.range.base ≢ t.range.range.base) × (u.since ≢ t.since)) → IsAbsent kept items (rank_of (entry_of order k t))
 absent_for true order items room wanted tags clock k t h are is fits differs = absent_entry order items tags h.0 clock k t are is fits differs
 absent_for false order items room wanted tags clock k t h are is fits differs = tt
-
-pub present_for : (kept : Bool) (order : Order) (items : List IndexEntry) (room wanted : ℕ) (tags : List (Option FreeTag)) (k : ℕ) (t : FreeTag) → KeepsUp kept order items room tags wanted → tag_at tags k ≡ Some t → IsPresent kept items (rank_of (entry_of order k t))
-present_for true order items room wanted tags k t h here = present_entry order items tags h.0 k t here
-present_for false order items room wanted tags k t h here = tt
 
 put_for : (kept : Bool) (order : Order) (items items2 : List IndexEntry) (room wanted : ℕ) (tags new : List (Option FreeTag)) (k : ℕ) (t : FreeTag) → KeepsUp kept order items room tags wanted → tag_at tags k ≡ None → SlotBecomes tags new k (Some t)
     → ((j : ℕ) (u : FreeTag) → tag_at tags j ≡ Some u → u.since < t.since) → taken_count new ≡ taken_count tags + 1 → Rises rank_of items → PutsEntry kept (entry_of order k t) items items2 → KeepsUp kept order items2 room new wanted

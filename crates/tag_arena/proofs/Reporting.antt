@@ -1,11 +1,11 @@
 -- What an arena reports, and what is refused of a span.
-use Rattle.std.proofs.Common.{◌≡◌, ◌≢◌, ℕ, ◌+◌, ◌%◌, ◌<◌, subst, ap, ◌∙◌, ⊎_elim, List, map, Contains, All, Any, arith}
+use Rattle.std.proofs.Common.{◌≡◌, ℕ, ◌+◌, ◌<◌, subst, ap, ◌∙◌, ⊎_elim, List, map, Contains, All, Any, arith}
 use Rattle.std.proofs.lemmas.List.Elements.{All-append, All-map, Contains-append_right}
 use Rattle.deed_core.specs.Extent.{Extent, Covers, Overlap}
 use Rattle.deed_core.specs.Holding.{Holding}
 use Rattle.deed_core.specs.Tag.{Tag}
 use Rattle.tag_arena.specs.Layout.{Layout, IsPartOf, IsWhole, FreeIsLongestRuns}
-use Rattle.tag_arena.specs.ArenaState.{ArenaState, spans_of, ranges_of, IsDivided, OnQuantum}
+use Rattle.tag_arena.specs.ArenaState.{ArenaState, spans_of, ranges_of, IsDivided}
 use Rattle.tag_arena.specs.Calls.{IsClear}
 use Rattle.tag_arena.proofs.Ranges.{Any-member, member-Any, holds_part}
 use Rattle.tag_arena.proofs.Freeing.{absorbs, longest_edged}
@@ -49,9 +49,3 @@ pub clear_of_both : (a : ArenaState) (e : Extent) (os : List Holding) (is : List
 clear_of_both a e os is os_is is_is own imp =
     All-append (λ s. ¬ Overlap s.range e) a.owned (map (λ t. t.holding) a.imported) (subst (λ (xs : List Holding). All (λ s. ¬ Overlap s.range e) xs) os_is own)
     (All-map (λ s. ¬ Overlap s.range e) (λ (t : Tag). t.holding) a.imported (subst (λ (xs : List Tag). All (λ t. ¬ Overlap t.holding.range e) xs) is_is imp))
-
-pub off_base : (quantum base : ℕ) (e : Extent) → base ≡ e.base → base % quantum ≢ 0 → ¬ OnQuantum quantum e
-off_base quantum base e is off on = off (ap (λ k. k % quantum) is ∙ on.0)
-
-pub off_len : (quantum len : ℕ) (e : Extent) → len ≡ e.len → len % quantum ≢ 0 → ¬ OnQuantum quantum e
-off_len quantum len e is off on = off (ap (λ k. k % quantum) is ∙ on.1)

@@ -18,12 +18,6 @@ pub record IsFit (quantum : ℕ) (q : Request) (free : List Holding) (f : Fit) :
   pub among : Contains free f.range
   pub serves : ServesIn quantum q f.range f.base
 
--- of the ranges that begin at `base` or below it, the one that begins last
-abbrev pub IsLastBy : ℕ → List Holding → Option Holding → Type 0
-IsLastBy base free None = All (λ r. base < r.range.base) free
-IsLastBy base free (Some h) = Contains free h × (h.range.base ≤ base)
-    × ((r : Holding) → Contains free r → r.range.base ≤ base → r.range.base ≤ h.range.base)
-
 -- the one with the unit in it, where there is one
 abbrev pub IsWith : ℕ → List Holding → Option Holding → Type 0
 IsWith unit free None = All (λ r. ¬ Covers r.range unit) free

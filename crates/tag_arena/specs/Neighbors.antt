@@ -1,5 +1,5 @@
 -- Taking a free neighbor of a range out of the list of free ranges.
-use Rattle.std.specs.Prelude.{◌≡◌, ◌≢◌, ℕ, ◌<◌, ◌⊎◌, List, All, Any, HoldsAt, Option, Some, None, length}
+use Rattle.std.specs.Prelude.{◌≡◌, ◌≢◌, ℕ, ◌<◌, ◌⊎◌, List, All, HoldsAt, Option, Some, None, length}
 use Rattle.std.specs.Prelude.{remove}
 use Rattle.deed_core.specs.Extent.{end_of}
 use Rattle.std.specs.Option.{option_map_or}
@@ -14,12 +14,6 @@ Without old r new = (k : ℕ) × (k < length old) × HoldsAt (λ x. x ≡ r) old
 abbrev pub TakesAt : ℕ → List Holding → Option Holding → List Holding → Type 0
 TakesAt base old None new = (new ≡ old) × All (λ r. r.range.base ≢ base) old
 TakesAt base old (Some r) new = (r.range.base ≡ base) × Without old r new
-
--- where the free range begins that ends at base, where there is one
-abbrev pub BeginsBefore : ℕ → List Holding → Option ℕ → Type 0
-BeginsBefore base free None = All (λ r. end_of r.range ≢ base) free
-BeginsBefore base free (Some start) =
-    Any (λ r. (r.range.base ≡ start) × (end_of r.range ≡ base)) free
 
 -- the free range that ends at base is taken, unless the span begins there
 abbrev pub TakesLeft : ℕ → ℕ → List Holding → Option Holding → List Holding → Type 0

@@ -4,17 +4,17 @@ ghost use Rattle.std.specs.Prelude.{◌-◌, ◌%◌, ◌^◌, length, max, true
 ghost use Rattle.std.specs.Prelude.{IfSome, MatchBool, option_to_list};
 ghost use Rattle.std.specs.Int.{IsPowerOfTwo};
 ghost use Rattle.deed_core.specs.Covering.{units_held};
-ghost use Rattle.deed_core.specs.Extent.{IsRange, end_of};
+ghost use Rattle.deed_core.specs.Extent.{Covers, IsRange, end_of};
 ghost use Rattle.deed_core.specs.Holding.{Apart};
 ghost use Rattle.deed_core.specs.Request.{IsGood};
 ghost use Rattle.tag_arena.specs.Calls.{part};
 ghost use Rattle.tag_arena.specs.Choice.{IsBestChoice, IsChoice, IsInstantChoice, IsNextChoice};
 ghost use Rattle.tag_arena.specs.declared.policies.Policy.TheVariants.{Instant};
 ghost use Rattle.tag_arena.specs.Layout.{IsPartOf};
-ghost use Rattle.tag_arena.specs.Neighbors.{BeginsBefore, IsBeside, Merges, TakesAt, TakesLeft};
-ghost use Rattle.tag_arena.specs.Neighbors.{TakesRight, Without};
+ghost use Rattle.tag_arena.specs.Neighbors.{IsBeside, Merges, TakesAt, TakesLeft, TakesRight};
+ghost use Rattle.tag_arena.specs.Neighbors.{Without};
 ghost use Rattle.tag_arena.specs.Cuts.{CarvesOut, IsCut};
-ghost use Rattle.tag_arena.specs.Fits.{base_of, IsFit, IsLastBy, ServedByList};
+ghost use Rattle.tag_arena.specs.Fits.{base_of, IsFit, IsWith, ServedByList};
 ghost use Rattle.tag_arena.specs.FreeRanges.{keeps};
 ghost use Rattle.tag_arena.specs.Returns.{ComesBack};
 ghost use Rattle.tag_arena.specs.declared.orders.Order.TheVariants.{Sizes};
@@ -26,7 +26,7 @@ use crate::merges::{join_left, join_right};
 use crate::orders::{Order, OrderedIndex};
 use crate::policies::{Policy, is_kept};
 use crate::probes::Probes;
-use crate::searches::{Fit, best_fit, last_by, newest};
+use crate::searches::{Fit, best_fit, newest, range_with};
 use crate::slots::{Slots, TimedDeed};
 use deed_core::{Deed, Request, Stored};
 use std::alloc::{AllocError, Global};
@@ -207,20 +207,21 @@ impl<D: Deed> FreeIndex<D> {
     {
         // For its clause: each free range has units.
         let _ = self.len();
-        let Some(last) = self.last_by(range.base()) else {
+        let Some(found) = self.range_with(range.base()) else {
             return false;
         };
-        if last != range {
+        if found != range {
             return false;
         }
         true
     }
 
-    /// Of the free ranges that begin at `base` or below it, the one that begins last.
-    pub fn last_by(&self, base: u64) -> Option<HeldRange>
-        ensures { IsLastBy base self.now.ranges result }
+    /// The free range with this unit in it.
+    fn range_with(&self, unit: u64) -> Option<HeldRange>
+        requires { AllPairs Apart self.now.ranges }
+        ensures { IsWith unit self.now.ranges result }
     {
-        last_by(&self.slots, &self.rising, base)
+        range_with(&self.slots, &self.rising, unit)
     }
 
     /// The best range that serves the request, and its least address that does. Under `next` there
@@ -323,23 +324,12 @@ impl<D: Deed> FreeIndex<D> {
         }
     }
 
-    /// Where the free range begins that ends at `base`, if there is one: its entry by base tells.
-    fn start_of(&self, base: u64) -> Option<u64>
-        requires some { 0 < base }
-        requires apart { AllPairs Apart self.now.ranges }
-        ensures { BeginsBefore base self.now.ranges result }
-    {
-        let entry = self.rising.last_to(base - 1, u64::MAX)?;
-        if entry.major + entry.minor != base {
-            return None;
-        }
-        Some(entry.major)
-    }
-
-    /// Takes out the free range that ends at `base`, unless the span begins there.
+    /// Takes out the free range that ends at `base`, unless the span begins there: the one with the
+    /// unit below it, since none has the unit `base`.
     fn take_left(&mut self, start: u64, base: u64) -> Option<Stored<D>>
         requires start { start ≤ base }
         requires apart { AllPairs Apart self.old.ranges }
+        requires clear { All (λ r. ¬ Covers r.range base) self.old.ranges }
         ensures taken { TakesLeft start base self.old.ranges result self.new.ranges }
         ensures rest { self.new ≡ record self.old { ranges = self.new.ranges } }
     {
@@ -348,8 +338,8 @@ impl<D: Deed> FreeIndex<D> {
         }
         // For its clause: each free range has units.
         let _ = self.len();
-        let first = self.start_of(base)?;
-        Some(self.take(first))
+        let left = self.range_with(base - 1)?;
+        Some(self.take(left.base()))
     }
 
     /// Takes out the free range that begins at `end`, unless the span ends there.
@@ -370,6 +360,7 @@ impl<D: Deed> FreeIndex<D> {
         requires some { 0 < deed.range.len }
         requires beside { All (IsBeside span) self.old.ranges }
         requires apart { AllPairs Apart self.old.ranges }
+        requires clear { All (Apart deed) self.old.ranges }
         ensures merges { Merges span deed self.old.ranges result self.new.ranges }
         ensures rest { self.new ≡ record self.old { ranges = self.new.ranges } }
     {

@@ -6,7 +6,7 @@ ghost use Rattle.deed_core.specs.Request.{IsGood, rounding_of};
 ghost use Rattle.tag_arena.specs.Choice.{IsBestChoice, IsInstant, NoListServes};
 ghost use Rattle.tag_arena.specs.FreeTags.{AreTags, IsTimed, ranges_by_age};
 ghost use Rattle.tag_arena.specs.Orders.{Mirrors};
-ghost use Rattle.tag_arena.specs.Fits.{base_of, IsFit, IsLastBy, IsWith};
+ghost use Rattle.tag_arena.specs.Fits.{base_of, IsFit, IsWith};
 ghost use Rattle.tag_arena.specs.declared.orders.Order.TheVariants.{Lists, Rising, Sizes};
 
 use crate::held_ranges::HeldRange;
@@ -116,18 +116,6 @@ fn best_by_reach<D: Deed>(
         minor = range.base() + 1;
     }
     None
-}
-
-/// Of the free ranges that begin at `base` or below it, the one that begins last.
-pub fn last_by<D: Deed>(slots: &Slots<D>, rising: &OrderedIndex, base: u64) -> Option<HeldRange>
-    requires tags { (clock : ℕ) × AreTags clock slots.now.tags }
-    requires mirrors { Mirrors Rising rising.now.items slots.now.tags }
-    ensures { IsLastBy base (ranges_by_age slots.now.tags) result }
-{
-    let Some(entry) = rising.last_to(base, u64::MAX) else {
-        return None;
-    };
-    Some(slots.tag(entry.slot).range())
 }
 
 /// The free range with this unit in it. Where there is none, it looks at no slot.
