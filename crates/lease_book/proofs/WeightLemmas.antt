@@ -96,7 +96,3 @@ leased_in es ls (Some i) same at =
 pub leased_of : (es : List (ℕ × Standing)) (ls : List (List Lease)) (accounts : List Account) (r : Option ℕ) → accounts_of es ls ≡ accounts → length es ≡ length ls
     → r ≡ position (λ (l : List Lease). nat_lt 0 (length l)) ls → IsLeased accounts r
 leased_of es ls accounts r is same at = subst (λ (xs : List Account). IsLeased xs r) is (leased_in es ls r same at)
-
-pub for_some : {P : ℕ → Type 0} (r : Option ℕ) → ((i : ℕ) → P i) → IfSome r P
-for_some None all = tt
-for_some (Some i) all = all i

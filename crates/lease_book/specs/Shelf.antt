@@ -10,8 +10,8 @@ use Rattle.lease_book.specs.declared.books.TheConstants.{MOST_LEASES}
 use Rattle.lease_terms.specs.declared.values.TheConstants.{LAST_CLIENT}
 
 -- none of the leases is of an incarnation before the least
-abbrev pub AreFrom : (least : ℕ) → List Lease → Type 0
-AreFrom least leases = All (λ (l : Lease). least ≤ l.incarnation) leases
+abbrev pub NoneBefore : (least : ℕ) → List Lease → Type 0
+NoneBefore least leases = All (λ (l : Lease). least ≤ l.incarnation) leases
 
 -- an account, of its parts
 abbrev pub account_with : ℕ → Standing → List Lease → Account

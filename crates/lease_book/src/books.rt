@@ -131,7 +131,7 @@ impl<D: Deed> Book<D> {
             → IsHistory entries self.now
             → IsLook self.now (account entries id.client) id result }
     {
-        self.seek(id)
+        self.seek(id).0
     }
 
     /// Settles a new request by a grant of the segment, which is of the arena and fits the request
@@ -309,16 +309,20 @@ impl<D: Deed> Book<D> {
         Some((index, self.accounts.standing(index)))
     }
 
-    fn seek(&self, id: RequestId) -> Look<D>
-        ensures { IsLook self.now (account_in id.client self.now) id result }
+    /// What a request's number is to the book, and the index of the client's account: there is one
+    /// where the number is new.
+    fn seek(&self, id: RequestId) -> (Look<D>, Option<usize>)
+        ensures look { IsLook self.now (account_in id.client self.now) id result.0 }
+        ensures index { IfSome result.1 (IsFound self.now id.client) }
+        ensures unknown { IfNone result.1 ((account_in id.client self.now).incarnation ≡ 0) }
     {
         match self.account(id.client) {
-            Some((_, standing)) => self.look_by(standing, id),
-            None => Look::Old(Quantity::ZERO),
+            Some((index, standing)) => (self.look_by(standing, id), Some(index)),
+            None => (Look::Old(Quantity::ZERO), None),
         }
     }
 
-    /// The same, by what is kept of the client.
+    /// What the number is to the book, by what is kept of the client.
     fn look_by(&self, standing: Standing, id: RequestId) -> Look<D>
         requires { standing_of (account_in id.client self.now) ≡ standing }
         ensures { IsLook self.now (account_in id.client self.now) id result }
@@ -357,12 +361,10 @@ impl<D: Deed> Book<D> {
         ensures answer { IfErr result (IsAnswer self.now self.now id (λ _. ⊥) ⊥) }
     {
         id.check();
-        let Some((index, standing)) = self.account(id.client) else {
-            return Err(Answer::Old(Quantity::ZERO));
-        };
-        match self.look_by(standing, id).answer() {
+        let (look, index) = self.seek(id);
+        match look.answer() {
             Some(answer) => Err(answer),
-            None => Ok(index),
+            None => Ok(index.unwrap()),
         }
     }
 }

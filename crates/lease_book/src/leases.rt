@@ -168,13 +168,13 @@ pub(crate) struct Leases<D: Deed> {
 impl<D: Deed> Model for Leases<D> {
     ghost use Rattle.std.specs.Prelude.{List};
     ghost use Rattle.lease_book.specs.Account.{Lease};
-    ghost use Rattle.lease_book.specs.Shelf.{AreFrom};
+    ghost use Rattle.lease_book.specs.Shelf.{NoneBefore};
 
     ghost Value = { List Lease };
 
     ghost view = { λ l. l.held.items };
 
-    ghost invariant = { λ l. AreFrom l.least l.held.items };
+    ghost invariant = { λ l. NoneBefore l.least l.held.items };
 }
 
 impl<D: Deed> Leases<D> {

@@ -6,4 +6,4 @@ use Rattle.lease_book.proofs.books.Book.look.Goals as goal
 
 pub returns-clause-history : goal.returns-clause-history
 returns-clause-history g c es h =
-    subst (λ (a : Account). IsLook c.args.self.now a c.args.id c.seek.result) (account_is es c.args.self.now c.args.id.client h) c.seek.ensures
+    subst (λ (a : Account). IsLook c.args.self.now a c.args.id c.seek.result.0) (account_is es c.args.self.now c.args.id.client h) c.seek.ensures.look
