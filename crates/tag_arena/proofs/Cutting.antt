@@ -16,6 +16,7 @@ use Rattle.sorted_rows.specs.Order.{Rises, first_from}
 use Rattle.tag_arena.specs.declared.orders.Order.TheVariants.{Rising}
 use Rattle.tag_arena.specs.Cuts.{CarvesOut, IsCut}
 use Rattle.tag_arena.specs.FreeRanges.{IsIndexed}
+use Rattle.tag_arena.specs.Linked.{ListsState}
 use Rattle.tag_arena.specs.FreeTags.{FreeTag, tag_at, ranges_by_age}
 use Rattle.tag_arena.specs.Orders.{rank_of, entry_of, OrderedIndexState}
 use Rattle.tag_arena.specs.Slotted.{SlotsState}
@@ -23,7 +24,7 @@ use Rattle.tag_arena.proofs.Fitting.{tag_of_free}
 use Rattle.tag_arena.proofs.Indexing.{found_first}
 
 -- the tag of a free range is found by its base and length
-pub found_range : (policy : Policy) (s : SlotsState) (r z l : OrderedIndexState) (clock room : ℕ) → IsIndexed policy s r z l clock room → (range : Holding) (base len : ℕ) → Rises rank_of r.items → Contains (ranges_by_age s.tags) range → base ≡ range.range.base → len ≡ range.range.len
+pub found_range : (policy : Policy) (s : SlotsState) (r z : OrderedIndexState) (l : ListsState) (clock room : ℕ) → IsIndexed policy s r z l clock room → (range : Holding) (base len : ℕ) → Rises rank_of r.items → Contains (ranges_by_age s.tags) range → base ≡ range.range.base → len ≡ range.range.len
     → (k : ℕ) × (t : FreeTag) × (tag_at s.tags k ≡ Some t) × (t.range ≡ range) × (first_from rank_of (base * 2 ^ 64 + len) r.items ≡ Some (entry_of Rising k t))
 found_range policy s r z l clock room x range base len rises among base_is len_is =
     let w = tag_of_free s.tags range among in

@@ -1,5 +1,5 @@
 -- The index of the free ranges, with one more and one less.
-use Rattle.std.proofs.Common.{◌≡◌, ◌≢◌, ℕ, ◌+◌, ◌*◌, ◌^◌, ◌<◌, ◌≤◌, sym, ap, subst, ◌∙◌, ⊎_elim, List, [], ◌∷◌, ◌++◌, length, map, All, Any, Contains, Option, None, Some, slice_get, arith}
+use Rattle.std.proofs.Common.{◌≡◌, ◌≢◌, ℕ, ◌+◌, ◌*◌, ◌^◌, ◌<◌, ◌≤◌, sym, ap, subst, ◌∙◌, ⊎_elim, List, [], ◌∷◌, ◌++◌, true, length, map, All, Any, Contains, Option, None, Some, slice_get, arith}
 use Rattle.std.proofs.lemmas.List.{get_or-map, length-map, map_push}
 use Rattle.std.proofs.lemmas.List.Elements.{All-contains}
 use Rattle.std.proofs.lemmas.Option.{slice_get-get_or, slice_get_cases}
@@ -10,11 +10,12 @@ use Rattle.tag_arena.specs.Neighbors.{Without}
 use Rattle.tag_arena.proofs.SpanLists.{Contains-map, Contains-from_map}
 use Rattle.sorted_rows.specs.Order.{Rises, first_from, place_below}
 use Rattle.tag_arena.specs.declared.orders.Order.{Order}
-use Rattle.tag_arena.specs.declared.orders.Order.TheVariants.{Rising, Sizes, Lists}
+use Rattle.tag_arena.specs.declared.orders.Order.TheVariants.{Rising, Sizes}
 use Rattle.tag_arena.specs.FreeTags.{FreeTag, range_of, tag_at, SlotBecomes, tags_by_age, ranges_by_age, IsTag, IsTimed, AreTags}
 use Rattle.tag_arena.specs.Orders.{rank_of, entry_of, OrderedIndexState, Mirrors, KeepsUp, HasRoomForOne, IsAbsent}
 use Rattle.tag_arena.specs.Slotted.{SlotsState, taken_count}
-use Rattle.tag_arena.specs.FreeRanges.{MeetsPolicy, IsIndexed}
+use Rattle.tag_arena.specs.FreeRanges.{MeetsLists, MeetsPolicy, IsIndexed}
+use Rattle.tag_arena.specs.Linked.{ListsState, IsLinked, lists_room}
 use Rattle.tag_arena.specs.declared.entries.IndexEntry.{IndexEntry}
 use Rattle.tag_arena.proofs.Listing.{None≢Some, Some-injective, map-remove, place_of_member}
 use Rattle.tag_arena.proofs.Members.{All-from_members}
@@ -50,14 +51,12 @@ module _ (clock k : ℕ) (old new : List (Option FreeTag)) (t : FreeTag) (are : 
   pub newer : t.since ≡ clock + 1 → (j : ℕ) (u : FreeTag) → tag_at old j ≡ Some u → u.since < t.since
   newer now j u here = let h = (are j u here).since in omega (arith, h, now)
 
-  pub differs : t.since ≡ clock + 1 → All (λ r. r.range.base ≢ t.range.range.base) (ranges_by_age old) → (j : ℕ) (u : FreeTag) → tag_at old j ≡ Some u → (u.range.range.base ≢ t.range.range.base) × (u.since ≢ t.since)
-  differs now absent j u here =
-      let h = newer now j u here in
-      (All-contains (λ r. r.range.base ≢ t.range.range.base) (ranges_by_age old) u.range absent (range_is_free old j u here), omega (arith, h))
+  pub differs : All (λ r. r.range.base ≢ t.range.range.base) (ranges_by_age old) → (j : ℕ) (u : FreeTag) → tag_at old j ≡ Some u → u.range.range.base ≢ t.range.range.base
+  differs absent j u here = All-contains (λ r. r.range.base ≢ t.range.range.base) (ranges_by_age old) u.range absent (range_is_free old j u here)
 
-module _ (policy : Policy) (s s2 : SlotsState) (r z l r2 z2 l2 : OrderedIndexState) (clock room k : ℕ) (t : FreeTag) (x : IsIndexed policy s r z l clock room) where
+module _ (policy : Policy) (s s2 : SlotsState) (r z : OrderedIndexState) (l : ListsState) (r2 z2 : OrderedIndexState) (l2 : ListsState) (clock room k : ℕ) (t : FreeTag) (x : IsIndexed policy s r z l clock room) where
   pub indexed_put : tag_at s.tags k ≡ None → SlotBecomes s.tags s2.tags k (Some t) → s2.room ≡ s.room → IsTag (clock + 1) t → t.since ≡ clock + 1
-      → MeetsPolicy policy Rising s2 room r2 → MeetsPolicy policy Sizes s2 room z2 → MeetsPolicy policy Lists s2 room l2 → IsIndexed policy s2 r2 z2 l2 (clock + 1) room
+      → MeetsPolicy policy Rising s2 room r2 → MeetsPolicy policy Sizes s2 room z2 → MeetsLists policy s2 l2 → IsIndexed policy s2 r2 z2 l2 (clock + 1) room
   indexed_put vacant becomes same is now hr hz hl =
       let later = newer clock k s.tags s2.tags t x.tags now in
       record {
@@ -66,21 +65,30 @@ module _ (policy : Policy) (s s2 : SlotsState) (r z l r2 z2 l2 : OrderedIndexSta
         slots_room = omega (arith, x.slots_room, same);
         rising = hr;
         sizes = hz;
-        lists = hl;
+        lists_meet = hl;
       }
 
   pub indexed_take : tag_at s.tags k ≡ Some t → SlotBecomes s.tags s2.tags k None → s2.room ≡ s.room
-      → MeetsPolicy policy Rising s2 room r2 → MeetsPolicy policy Sizes s2 room z2 → MeetsPolicy policy Lists s2 room l2 → IsIndexed policy s2 r2 z2 l2 clock room
+      → MeetsPolicy policy Rising s2 room r2 → MeetsPolicy policy Sizes s2 room z2 → MeetsLists policy s2 l2 → IsIndexed policy s2 r2 z2 l2 clock room
   indexed_take here becomes same hr hz hl = record {
     timed = timed_take s.tags s2.tags k t x.timed here becomes;
     tags = λ j u stays. x.tags j u (take_cases s.tags s2.tags k t becomes j u stays).1;
     slots_room = omega (arith, x.slots_room, same);
     rising = hr;
     sizes = hz;
-    lists = hl;
+    lists_meet = hl;
   }
 
--- the lists of free ranges then
+-- the power-of-two lists then
+module _ (policy : Policy) (s s2 : SlotsState) (l l2 : ListsState) (k : ℕ) (t : FreeTag) (x : MeetsLists policy s l) (kept : l2.kept ≡ l.kept) (same : lists_room l2 ≡ lists_room l) (room : s2.room ≡ s.room) where
+  pub lists_so : (l.kept ≡ true → IsLinked l s.tags → IsLinked l2 s2.tags) → MeetsLists policy s2 l2
+  lists_so so = record {
+    kept_is = kept ∙ x.kept_is;
+    linked = λ is. so (sym kept ∙ is) (x.linked (sym kept ∙ is));
+    room = λ is. let wide = x.room (sym kept ∙ is) in omega (arith, wide, same, room);
+  }
+
+-- free ranges from the oldest to the newest then
 module _ (old new : List (Option FreeTag)) (k : ℕ) (t : FreeTag) (timed : IsTimed old) where
   pub ranges_put : tag_at old k ≡ None → SlotBecomes old new k (Some t) → ((j : ℕ) (u : FreeTag) → tag_at old j ≡ Some u → u.since < t.since) → ranges_by_age new ≡ ranges_by_age old ++ t.range ∷ []
   ranges_put vacant becomes later = ap (map range_of) (aged_put old new k t timed vacant becomes later) ∙ map_push range_of (tags_by_age old) t
@@ -91,7 +99,7 @@ module _ (old new : List (Option FreeTag)) (k : ℕ) (t : FreeTag) (timed : IsTi
       (a.0, omega (arith, a.1, length-map (tags_by_age old) range_of), (λ d. get_or-map range_of (tags_by_age old) a.0 t d a.1 ∙ ap range_of (a.2 t)), ap (map range_of) a.3 ∙ map-remove range_of (tags_by_age old) a.0)
 
 -- where ranges stand in the order by base
-module _ (policy : Policy) (s : SlotsState) (r z l : OrderedIndexState) (clock room : ℕ) (x : IsIndexed policy s r z l clock room) where
+module _ (policy : Policy) (s : SlotsState) (r z : OrderedIndexState) (l : ListsState) (clock room : ℕ) (x : IsIndexed policy s r z l clock room) where
   pub rising_mirrors : Mirrors Rising r.items s.tags
   rising_mirrors =
       let up = subst (λ b. KeepsUp b r.order r.items r.room s.tags room) x.rising.kept_is x.rising.keeps_up in
@@ -155,9 +163,9 @@ module _ (policy : Policy) (order : Order) (s : SlotsState) (room : ℕ) (i : Or
   pub place_in : IsTimed s.tags → length (ranges_by_age s.tags) < room → HasRoomForOne i.kept i.items i.room
   place_in timed lt = place_for i.kept i.order i.items i.room room s.tags is.keeps_up (taken_below s.tags room timed lt)
 
-  pub absent_in : (clock k : ℕ) (t : FreeTag) → AreTags clock s.tags → IsTag (clock + 1) t → t.since ≡ clock + 1 → clock + 1 < 2 ^ 64 → All (λ r. r.range.base ≢ t.range.range.base) (ranges_by_age s.tags) → IsAbsent i.kept i.items (rank_of (entry_of i.order k t))
-  absent_in clock k t are new now fits absent =
-      absent_for i.kept i.order i.items i.room room s.tags (clock + 1) k t is.keeps_up (tags_later clock s.tags are) new fits (differs clock k s.tags s.tags t are now absent)
+  pub absent_in : (clock k : ℕ) (t : FreeTag) → AreTags clock s.tags → IsTag (clock + 1) t → All (λ r. r.range.base ≢ t.range.range.base) (ranges_by_age s.tags) → IsAbsent i.kept i.items (rank_of (entry_of i.order k t))
+  absent_in clock k t are new absent =
+      absent_for i.kept i.order i.items i.room room s.tags (clock + 1) k t is.keeps_up (tags_later clock s.tags are) new (differs clock k s.tags s.tags t are absent)
 
 -- the tag of a range that becomes free
 pub new_tag : (clock p len : ℕ) (deed : Holding) (made : FreeTag) → made ≡ record { range = deed; since = clock + 1; power = p } → IsRange deed.range → len ≡ deed.range.len → 2 ^ p ≤ len → len < 2 * 2 ^ p → p < 64 → IsTag (clock + 1) made

@@ -30,6 +30,7 @@ pub mod Aging
 pub mod Slotting
 pub mod Mirroring
 pub mod Indexing
+pub mod Linking
 pub mod Starting
 pub mod Searching
 pub mod Fitting

@@ -7,7 +7,7 @@ use Rattle.tag_arena.specs.declared.policies.Policy.{Policy}
 use Rattle.sorted_rows.specs.Order.{Rises, PutsIn, TakesOut, place_below}
 use Rattle.tag_arena.specs.declared.entries.IndexEntry.{IndexEntry}
 use Rattle.tag_arena.specs.declared.orders.Order.{Order}
-use Rattle.tag_arena.specs.declared.orders.Order.TheVariants.{Rising, Sizes, Lists}
+use Rattle.tag_arena.specs.declared.orders.Order.TheVariants.{Rising, Sizes}
 use Rattle.tag_arena.specs.FreeTags.{FreeTag, tag_at, SlotBecomes, IsTag, AreTags}
 use Rattle.tag_arena.specs.Orders.{rank_of, entry_of, OrderedIndexState, Mirrors, KeepsUp, IsAbsent, HasRoomForOne, PutsEntry, TakesEntry}
 use Rattle.tag_arena.specs.Slotted.{SlotsState, taken_count}
@@ -19,22 +19,19 @@ use Rattle.tag_arena.proofs.Aging.{put_cases, put_kept, take_cases}
 pub slot_is : (order : Order) (k : ℕ) (t : FreeTag) → (entry_of order k t).slot ≡ k
 slot_is Rising k t = refl
 slot_is Sizes k t = refl
-slot_is Lists k t = refl
 
--- two tags that differ in base and time differ in every order
-pub ranks_differ : (order : Order) (clock j k : ℕ) (u t : FreeTag) → IsTag clock u → IsTag clock t → clock < 2 ^ 64 → u.range.range.base ≢ t.range.range.base → u.since ≢ t.since → rank_of (entry_of order j u) ≢ rank_of (entry_of order k t)
-ranks_differ Rising clock j k u t hu ht fits base since e = let a = hu.range.below in let b = ht.range.below in omega (arith, a, b, base, e)
-ranks_differ Sizes clock j k u t hu ht fits base since e = let a = hu.range.below in let b = ht.range.below in omega (arith, a, b, base, e)
-ranks_differ Lists clock j k u t hu ht fits base since e = let a = hu.since in let b = ht.since in omega (arith, a, b, fits, since, e)
+-- two tags that differ in base differ in every order
+pub ranks_differ : (order : Order) (clock j k : ℕ) (u t : FreeTag) → IsTag clock u → IsTag clock t → u.range.range.base ≢ t.range.range.base → rank_of (entry_of order j u) ≢ rank_of (entry_of order k t)
+ranks_differ Rising clock j k u t hu ht base e = let a = hu.range.below in let b = ht.range.below in omega (arith, a, b, base, e)
+ranks_differ Sizes clock j k u t hu ht base e = let a = hu.range.below in let b = ht.range.below in omega (arith, a, b, base, e)
 
 module _ (order : Order) (items : List IndexEntry) (tags : List (Option FreeTag)) (m : Mirrors order items tags) where
   -- no entry has the key of a tag that differs from all
-  pub absent_entry : (clock k : ℕ) (t : FreeTag) → AreTags clock tags → IsTag clock t → clock < 2 ^ 64 → ((j : ℕ) (u : FreeTag) → tag_at tags j ≡ Some u → (u.range.range.base ≢ t.range.range.base) × (u.since ≢ t.since)) → All (λ e. rank_of e ≢ rank_of (entry_of order k t)) items
-  absent_entry clock k t are is fits differs =
+  pub absent_entry : (clock k : ℕ) (t : FreeTag) → AreTags clock tags → IsTag clock t → ((j : ℕ) (u : FreeTag) → tag_at tags j ≡ Some u → u.range.range.base ≢ t.range.range.base) → All (λ e. rank_of e ≢ rank_of (entry_of order k t)) items
+  absent_entry clock k t are is differs =
       All-from_members (λ e. rank_of e ≢ rank_of (entry_of order k t)) items
       (λ e h. let w = m.from e h in
-      let d = differs e.slot w.0 w.1 in
-      subst (λ x. rank_of x ≢ rank_of (entry_of order k t)) (sym w.2) (ranks_differ order clock e.slot k w.0 t (are e.slot w.0 w.1) is fits d.0 d.1))
+      subst (λ x. rank_of x ≢ rank_of (entry_of order k t)) (sym w.2) (ranks_differ order clock e.slot k w.0 t (are e.slot w.0 w.1) is (differs e.slot w.0 w.1)))
 
   -- a tag's entry is there
   pub present_entry : (k : ℕ) (t : FreeTag) → tag_at tags k ≡ Some t → Any (λ e. rank_of e ≡ rank_of (entry_of order k t)) items
@@ -103,10 +100,10 @@ pub place_for : (kept : Bool) (order : Order) (items : List IndexEntry) (room wa
 place_for true order items room wanted tags h lt = omega (arith, h.0.count, h.1, lt)
 place_for false order items room wanted tags h lt = tt
 
-pub absent_for : (kept : Bool) (order : Order) (items : List IndexEntry) (room wanted : ℕ) (tags : List (Option FreeTag)) (clock k : ℕ) (t : FreeTag) → KeepsUp kept order items room tags wanted → AreTags clock tags → IsTag clock t → clock < 2 ^ 64
-    → ((j : ℕ) (u : FreeTag) → tag_at tags j ≡ Some u → (u.range.range.base ≢ t.range.range.base) × (u.since ≢ t.since)) → IsAbsent kept items (rank_of (entry_of order k t))
-absent_for true order items room wanted tags clock k t h are is fits differs = absent_entry order items tags h.0 clock k t are is fits differs
-absent_for false order items room wanted tags clock k t h are is fits differs = tt
+pub absent_for : (kept : Bool) (order : Order) (items : List IndexEntry) (room wanted : ℕ) (tags : List (Option FreeTag)) (clock k : ℕ) (t : FreeTag) → KeepsUp kept order items room tags wanted → AreTags clock tags → IsTag clock t
+    → ((j : ℕ) (u : FreeTag) → tag_at tags j ≡ Some u → u.range.range.base ≢ t.range.range.base) → IsAbsent kept items (rank_of (entry_of order k t))
+absent_for true order items room wanted tags clock k t h are is differs = absent_entry order items tags h.0 clock k t are is differs
+absent_for false order items room wanted tags clock k t h are is differs = tt
 
 put_for : (kept : Bool) (order : Order) (items items2 : List IndexEntry) (room wanted : ℕ) (tags new : List (Option FreeTag)) (k : ℕ) (t : FreeTag) → KeepsUp kept order items room tags wanted → tag_at tags k ≡ None → SlotBecomes tags new k (Some t)
     → ((j : ℕ) (u : FreeTag) → tag_at tags j ≡ Some u → u.since < t.since) → taken_count new ≡ taken_count tags + 1 → Rises rank_of items → PutsEntry kept (entry_of order k t) items items2 → KeepsUp kept order items2 room new wanted

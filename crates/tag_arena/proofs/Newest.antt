@@ -1,4 +1,4 @@
--- The newest range of the least list that serves, by the index of lists.
+-- The newest range of the least list that serves.
 use Rattle.std.proofs.Common.{◌≡◌, ℕ, add-one, ◌+◌, ◌-◌, ◌*◌, ◌^◌, ◌<◌, ◌≤◌, sym, ap, subst, ◌∙◌, ⊎_elim, List, length, get_or, Option, None, Some, arith}
 use Rattle.std.proofs.Math.Nat.{pow-suc}
 use Rattle.std.proofs.Math.Pow.{pow_mono}
@@ -10,14 +10,10 @@ use Rattle.std.specs.Int.{IsPowerOfTwo}
 use Rattle.deed_core.specs.Holding.{Holding}
 use Rattle.tag_arena.specs.Choice.{OnList, ListServes, NoListServes, IsInstant}
 use Rattle.tag_arena.proofs.PowerLists.{one_list}
-use Rattle.sorted_rows.specs.Order.{Rises, first_from}
-use Rattle.tag_arena.specs.declared.entries.IndexEntry.{IndexEntry}
-use Rattle.tag_arena.specs.declared.orders.Order.TheVariants.{Lists}
 use Rattle.tag_arena.specs.FreeTags.{FreeTag, range_of, since_of, tag_at, tags_by_age, ranges_by_age, AreTags, IsTimed}
-use Rattle.tag_arena.specs.Orders.{rank_of, entry_of, Mirrors}
+use Rattle.tag_arena.specs.Linked.{IsNewestFrom}
 use Rattle.tag_arena.proofs.Aging.{in_tags_by_age, from_tags_by_age, rises_by_age}
 use Rattle.tag_arena.proofs.Fitting.{tag_of_free}
-use Rattle.tag_arena.proofs.Searching.{IsFirst, none_from}
 
 next_power : (p : ℕ) → 2 ^ (p + 1) ≡ 2 * 2 ^ p
 next_power p = ap (λ k. 2 ^ k) (add-one p) ∙ omega (arith, pow-suc 2 p)
@@ -50,10 +46,7 @@ module _ (quantum j : ℕ) (is : quantum ≡ 2 ^ j) where
       let same : 2 ^ p ≡ 2 ^ (i + j) = ap (λ n. 2 ^ n) e in
       (omega (arith, low, same, list_power i), omega (arith, high, same, next_list i))
 
-module _ (quantum units list clock : ℕ) (items : List IndexEntry) (tags : List (Option FreeTag)) (power : IsPowerOfTwo quantum) (m : Mirrors Lists items tags) (rises : Rises rank_of items) (fits : clock < 2 ^ 64) (are : AreTags clock tags) (least : (p : ℕ) → units ≤ 2 ^ p → list ≤ p) where
-  abbrev list_key : ℕ
-  list_key = list * 2 ^ 64 + 0
-
+module _ (quantum units list clock : ℕ) (tags : List (Option FreeTag)) (power : IsPowerOfTwo quantum) (are : AreTags clock tags) (least : (p : ℕ) → units ≤ 2 ^ p → list ≤ p) where
   -- a tag whose list serves
   served_list : (k : ℕ) (u : FreeTag) (r : Holding) (i : ℕ) → tag_at tags k ≡ Some u → u.range ≡ r → OnList quantum r i → ListServes quantum units i → (u.power ≡ i + power.0) × (list ≤ u.power)
   served_list k u r i here is on serves =
@@ -62,19 +55,19 @@ module _ (quantum units list clock : ℕ) (items : List IndexEntry) (tags : List
       let same : 2 ^ u.power ≡ 2 ^ (i + power.0) = ap (λ n. 2 ^ n) e in
       (e, least u.power (omega (arith, serves, list_power quantum power.0 power.1 i, same)))
 
-  pub none_listed : first_from rank_of list_key items ≡ None → NoListServes quantum units (ranges_by_age tags)
+  pub none_listed : IsNewestFrom list tags None → NoListServes quantum units (ranges_by_age tags)
   none_listed none r i h on serves =
       let w = tag_of_free tags r h in
       let l = served_list w.0 w.1 r i w.2 w.3 on serves in
-      let below = none_from rank_of list_key items rises none (entry_of Lists w.0 w.1) (m.into w.0 w.1 w.2) in
+      let below = none w.0 w.1 w.2 in
       omega (arith, below, l.1)
 
-  module _ (large : units ≤ 2 ^ list) (some : quantum ≤ units) (timed : IsTimed tags) (e : IndexEntry) (t : FreeTag) (first : IsFirst rank_of list_key items rises e) (at : tag_at tags e.slot ≡ Some t) (is : e ≡ entry_of Lists e.slot t) where
-    its_list : list ≤ t.power
-    its_list = let from = first.from in let rank = ap rank_of is in let since = (are e.slot t at).since in omega (arith, from, rank, since, fits)
+  module _ (large : units ≤ 2 ^ list) (some : quantum ≤ units) (timed : IsTimed tags) (k : ℕ) (first : IsNewestFrom list tags (Some k)) where
+    abbrev t : FreeTag
+    t = first.0
 
     roomy : units ≤ 2 ^ t.power
-    roomy = let h = pow_mono {i = list} {j = t.power} its_list in omega (arith, h, large)
+    roomy = let h = pow_mono {i = list} {j = t.power} first.2 in omega (arith, h, large)
 
     over : power.0 ≤ t.power
     over =
@@ -82,38 +75,36 @@ module _ (quantum units list clock : ℕ) (items : List IndexEntry) (tags : List
         (λ lt. let h = pow_mono {i = t.power + 1} {j = power.0} (omega arith) in absurd (omega (arith, h, next_power t.power, some_power t.power, roomy, some, power.1)))
         (λ ge. ge) (cases_lt t.power power.0)
 
-    pub is_newest : IsInstant quantum units (ranges_by_age tags) t.range
+    pub is_newest : IsInstant quantum units (ranges_by_age tags) first.0.range
     is_newest =
         let j = power.0 in
         let i : ℕ = t.power - j in
         let back : t.power ≡ i + j = omega (arith, over) in
         let same : 2 ^ t.power ≡ 2 ^ (i + j) = ap (λ n. 2 ^ n) back in
-        let mine = are e.slot t at in
-        let c = in_tags_by_age tags e.slot t at in
+        let mine = are k t first.1 in
+        let c = in_tags_by_age tags k t first.1 in
         let long = length-map (tags_by_age tags) range_of in
-        let rank = ap rank_of is in
         record {
           list = i;
           large = omega (arith, roomy, list_power quantum j power.1 i, same);
           least = λ r i2 h on serves.
               let w = tag_of_free tags r h in
               let l = served_list w.0 w.1 r i2 w.2 w.3 on serves in
-              let since = (are w.0 w.1 w.2).since in
-              let low = first.least (entry_of Lists w.0 w.1) (m.into w.0 w.1 w.2) (omega (arith, l.1)) in
-              omega (arith, low, rank, l.0, back, mine.since, since, fits);
+              let low = (first.3 w.0 w.1 w.2 l.1).0 in
+              omega (arith, low, l.0, back);
           index = c.0;
           within = omega (arith, c.1, long);
           here = λ d. get_or-map range_of (tags_by_age tags) c.0 t d c.1 ∙ ap range_of c.2;
           on_list = to_list quantum j power.1 t.range i t.power back mine.low mine.high;
-          newest = λ k d from lt on.
-              let inside : k < length (tags_by_age tags) = omega (arith, lt, long) in
-              let u = get_or (tags_by_age tags) k t in
-              let r = from_tags_by_age tags u (Contains-get_or (tags_by_age tags) k t inside) in
+          newest = λ k2 d from lt on.
+              let inside : k2 < length (tags_by_age tags) = omega (arith, lt, long) in
+              let u = get_or (tags_by_age tags) k2 t in
+              let r = from_tags_by_age tags u (Contains-get_or (tags_by_age tags) k2 t inside) in
               let h = are r.0 u r.1 in
-              let later = rises_by_age tags timed c.0 k t (omega (arith, from)) inside in
+              let later = rises_by_age tags timed c.0 k2 t (omega (arith, from)) inside in
               let here = ap since_of c.2 in
-              let p = on_power quantum j power.1 u.range i u.power (subst (λ x. OnList quantum x i) (get_or-map range_of (tags_by_age tags) k t d inside) on) h.low h.high in
-              let low = first.least (entry_of Lists r.0 u) (m.into r.0 u r.1) (omega (arith, p, back, its_list)) in
-              let since = h.since in
-              omega (arith, low, rank, later, here, p, back, since, mine.since, fits);
+              let p = on_power quantum j power.1 u.range i u.power (subst (λ x. OnList quantum x i) (get_or-map range_of (tags_by_age tags) k2 t d inside) on) h.low h.high in
+              let its = first.2 in
+              let old = (first.3 r.0 u r.1 (omega (arith, p, back, its))).1 (p ∙ sym back) in
+              omega (arith, old, later, here);
         }

@@ -4,11 +4,12 @@ use Rattle.tag_arena.specs.declared.policies.Policy.{Policy}
 use Rattle.tag_arena.proofs.Members.{Contains-nil}
 use Rattle.tag_arena.specs.declared.entries.IndexEntry.{IndexEntry}
 use Rattle.tag_arena.specs.declared.orders.Order.{Order}
-use Rattle.tag_arena.specs.declared.orders.Order.TheVariants.{Rising, Sizes, Lists}
+use Rattle.tag_arena.specs.declared.orders.Order.TheVariants.{Rising, Sizes}
 use Rattle.tag_arena.specs.FreeTags.{FreeTag, tags_by_age, ranges_by_age, IsTimed, AreTags}
 use Rattle.tag_arena.specs.Orders.{OrderedIndexState, Mirrors, KeepsUp}
 use Rattle.tag_arena.specs.Slotted.{SlotsState}
-use Rattle.tag_arena.specs.FreeRanges.{MeetsPolicy, IsIndexed, keeps}
+use Rattle.tag_arena.specs.FreeRanges.{MeetsLists, MeetsPolicy, IsIndexed, keeps}
+use Rattle.tag_arena.specs.Linked.{ListsState, IsLinked, lists_room}
 use Rattle.tag_arena.proofs.Listing.{None≢Some}
 
 pub ranges_none : ranges_by_age [] ≡ []
@@ -62,13 +63,22 @@ module _ (policy : Policy) (order : Order) (s s2 : SlotsState) (room : ℕ) (i i
   pub kept_wide : (wanted : ℕ) → (i.kept ≡ true → i2.room ≡ max wanted i.room) → MeetsPolicy policy order s2 wanted i2
   kept_wide wanted so = kept_so wanted (wide_for i.kept i.order i.items i.room i2.room room wanted s.tags so is.keeps_up)
 
-module _ (policy : Policy) (s s2 : SlotsState) (r z l r2 z2 l2 : OrderedIndexState) (clock room wanted : ℕ) (x : IsIndexed policy s r z l clock room) where
-  pub indexed_same : s2.tags ≡ s.tags → wanted ≤ s2.room → MeetsPolicy policy Rising s2 wanted r2 → MeetsPolicy policy Sizes s2 wanted z2 → MeetsPolicy policy Lists s2 wanted l2 → IsIndexed policy s2 r2 z2 l2 clock wanted
+-- lists with room for more slots
+module _ (policy : Policy) (s s2 : SlotsState) (l l2 : ListsState) (x : MeetsLists policy s l) (same : s2.tags ≡ s.tags) (kept : l2.kept ≡ l.kept) (linked : (tags : List (Option FreeTag)) → IsLinked l tags → IsLinked l2 tags) where
+  pub lists_wide : (l.kept ≡ true → s2.room ≤ lists_room l2) → MeetsLists policy s2 l2
+  lists_wide wide = record {
+    kept_is = kept ∙ x.kept_is;
+    linked = λ is. linked s2.tags (subst (IsLinked l) (sym same) (x.linked (sym kept ∙ is)));
+    room = λ is. wide (sym kept ∙ is);
+  }
+
+module _ (policy : Policy) (s s2 : SlotsState) (r z : OrderedIndexState) (l : ListsState) (r2 z2 : OrderedIndexState) (l2 : ListsState) (clock room wanted : ℕ) (x : IsIndexed policy s r z l clock room) where
+  pub indexed_same : s2.tags ≡ s.tags → wanted ≤ s2.room → MeetsPolicy policy Rising s2 wanted r2 → MeetsPolicy policy Sizes s2 wanted z2 → MeetsLists policy s2 l2 → IsIndexed policy s2 r2 z2 l2 clock wanted
   indexed_same same le hr hz hl = record {
     timed = subst IsTimed (sym same) x.timed;
     tags = subst (AreTags clock) (sym same) x.tags;
     slots_room = le;
     rising = hr;
     sizes = hz;
-    lists = hl;
+    lists_meet = hl;
   }

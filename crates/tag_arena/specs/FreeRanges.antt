@@ -4,8 +4,9 @@ use Rattle.deed_core.specs.Holding.{Holding}
 use Rattle.tag_arena.specs.declared.policies.Policy.{Policy}
 use Rattle.tag_arena.specs.declared.policies.Policy.TheVariants.{Best, Next, Instant}
 use Rattle.tag_arena.specs.declared.orders.Order.{Order}
-use Rattle.tag_arena.specs.declared.orders.Order.TheVariants.{Rising, Sizes, Lists}
+use Rattle.tag_arena.specs.declared.orders.Order.TheVariants.{Rising, Sizes}
 use Rattle.tag_arena.specs.FreeTags.{IsTimed, AreTags}
+use Rattle.tag_arena.specs.Linked.{ListsState, IsLinked, lists_room}
 use Rattle.tag_arena.specs.Orders.{OrderedIndexState, KeepsUp}
 use Rattle.tag_arena.specs.Slotted.{SlotsState}
 
@@ -21,11 +22,14 @@ pub record FreeIndexState : Type 0 where
 abbrev pub keeps : Policy → Order → Bool
 keeps policy Rising = true
 keeps Best Sizes = true
-keeps Best Lists = false
 keeps Instant Sizes = true
-keeps Instant Lists = true
 keeps Next Sizes = false
-keeps Next Lists = false
+
+-- `instant` alone asks for the power-of-two lists
+abbrev pub keeps_lists : Policy → Bool
+keeps_lists Instant = true
+keeps_lists Best = false
+keeps_lists Next = false
 
 -- an index in this order has what its policy asks for
 pub record MeetsPolicy (policy : Policy) (order : Order) (s : SlotsState) (room : ℕ)
@@ -34,15 +38,21 @@ pub record MeetsPolicy (policy : Policy) (order : Order) (s : SlotsState) (room 
   pub kept_is : i.kept ≡ keeps policy order
   pub keeps_up : KeepsUp i.kept i.order i.items i.room s.tags room
 
--- each index has the tags of the slots
-pub record IsIndexed (policy : Policy) (s : SlotsState) (up size list : OrderedIndexState)
-    (clock room : ℕ) : Type 0 where
+-- where the policy asks for them, the power-of-two lists have the tags of the slots
+pub record MeetsLists (policy : Policy) (s : SlotsState) (l : ListsState) : Type 0 where
+  pub kept_is : l.kept ≡ keeps_lists policy
+  pub linked : l.kept ≡ true → IsLinked l s.tags
+  pub room : l.kept ≡ true → s.room ≤ lists_room l
+
+-- each index has the tags of the slots, and so have the lists
+pub record IsIndexed (policy : Policy) (s : SlotsState) (up size : OrderedIndexState)
+    (lists : ListsState) (clock room : ℕ) : Type 0 where
   pub timed : IsTimed s.tags
   pub tags : AreTags clock s.tags
   pub slots_room : room ≤ s.room
   pub rising : MeetsPolicy policy Rising s room up
   pub sizes : MeetsPolicy policy Sizes s room size
-  pub lists : MeetsPolicy policy Lists s room list
+  pub lists_meet : MeetsLists policy s lists
 
 -- what is out, so many ranges, can come back without memory, and before time runs out
 pub record IsBacked (policy : Policy) (free : FreeIndexState) (out : ℕ) : Type 0 where

@@ -57,3 +57,7 @@ IsTimed tags = (j k : ℕ) (t u : FreeTag) → tag_at tags j ≡ Some t → tag_
 -- each is such
 abbrev pub AreTags : ℕ → List (Option FreeTag) → Type 0
 AreTags clock tags = (k : ℕ) (t : FreeTag) → tag_at tags k ≡ Some t → IsTag clock t
+
+-- each is on one of the lists
+abbrev pub ArePowers : List (Option FreeTag) → Type 0
+ArePowers tags = (k : ℕ) (t : FreeTag) → tag_at tags k ≡ Some t → t.power < 64

@@ -1,4 +1,5 @@
 pub mod Layout
+pub mod Linked
 pub mod Place
 pub mod Reach
 pub mod Choice

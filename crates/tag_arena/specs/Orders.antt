@@ -1,5 +1,5 @@
 -- The orders in which free ranges are kept.
-use Rattle.std.specs.Prelude.{◌≡◌, ◌≢◌, ℕ, ◌+◌, ◌-◌, ◌*◌, ◌^◌, ◌<◌, ◌≤◌, Bool, true, false}
+use Rattle.std.specs.Prelude.{◌≡◌, ◌≢◌, ℕ, ◌+◌, ◌*◌, ◌^◌, ◌<◌, ◌≤◌, Bool, true, false}
 use Rattle.std.specs.Prelude.{List, Contains, Option, Some, length, count_by, is_some, All, Any}
 use Rattle.std.specs.Prelude.{min}
 use Rattle.sorted_rows.specs.Order.{PutsIn, TakesOut}
@@ -7,7 +7,7 @@ use Rattle.tag_arena.specs.declared.entries.IndexEntry.{IndexEntry}
 use Rattle.tag_arena.specs.declared.orders.Order.{Order}
 use Rattle.tag_arena.specs.declared.reaches.Measure.{Measure}
 use Rattle.tag_arena.specs.declared.reaches.Measure.TheVariants.{Minor, Reach}
-use Rattle.tag_arena.specs.declared.orders.Order.TheVariants.{Rising, Sizes, Lists}
+use Rattle.tag_arena.specs.declared.orders.Order.TheVariants.{Rising, Sizes}
 use Rattle.tag_arena.specs.FreeTags.{FreeTag, tag_at}
 use Rattle.tag_arena.specs.Reach.{reach_of}
 
@@ -21,12 +21,10 @@ abbrev pub weight_of : Measure → IndexEntry → ℕ
 weight_of Minor e = e.minor
 weight_of (Reach g) e = reach_of g (min e.minor (2 ^ 62)) (min (e.major + e.minor) (2 ^ 62))
 
--- by base, with the length as what an entry weighs; by length, then base; by list, then from the
--- newest on
+-- by base, with the length as what an entry weighs; by length, then base
 abbrev pub entry_of : Order → ℕ → FreeTag → IndexEntry
 entry_of Rising k t = record { major = t.range.range.base; minor = t.range.range.len; slot = k }
 entry_of Sizes k t = record { major = t.range.range.len; minor = t.range.range.base; slot = k }
-entry_of Lists k t = record { major = t.power; minor = 2 ^ 64 - 1 - t.since; slot = k }
 
 -- an index that may be kept: its order, its entries, and how many may be in it
 pub record OrderedIndexState : Type 0 where

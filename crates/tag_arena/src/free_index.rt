@@ -24,7 +24,8 @@ use crate::earliest::next_fit;
 use crate::held_ranges::{HeldRange, held_range_of};
 use crate::merges::{join_left, join_right};
 use crate::orders::{Order, OrderedIndex};
-use crate::policies::{Policy, is_kept};
+use crate::newest_lists::NewestLists;
+use crate::policies::{Policy, has_lists, is_kept};
 use crate::probes::Probes;
 use crate::searches::{Fit, best_fit, newest, range_with};
 use crate::slots::{Slots, TimedDeed};
@@ -39,7 +40,7 @@ pub struct FreeIndex<D: Deed> {
     slots: Slots<D>,
     rising: OrderedIndex,
     sizes: OrderedIndex,
-    lists: OrderedIndex,
+    lists: NewestLists,
     clock: u64,
     room: usize,
 }
@@ -85,7 +86,7 @@ impl<D: Deed> FreeIndex<D> {
             slots: Slots::new(alloc),
             rising: index_in(alloc, policy, Order::Rising),
             sizes: index_in(alloc, policy, Order::Sizes),
-            lists: index_in(alloc, policy, Order::Lists),
+            lists: NewestLists::new(alloc, has_lists(policy)),
             clock: 0,
             room: 0,
         }
@@ -101,10 +102,10 @@ impl<D: Deed> FreeIndex<D> {
         if room <= self.room {
             return Ok(());
         }
+        self.lists.reserve(room)?;
         self.slots.reserve(room)?;
         self.rising.reserve(alloc, room)?;
         self.sizes.reserve(alloc, room)?;
-        self.lists.reserve(alloc, room)?;
         self.room = room;
         Ok(())
     }

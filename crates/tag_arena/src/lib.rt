@@ -18,7 +18,7 @@
 //! * `rising` has the ranges by base, for the neighbors of a range, with their lengths as weights,
 //!   for `next`;
 //! * `sizes` has them by length and base, under `best` and `instant`;
-//! * `lists` has them by power-of-two list, the newest first, under `instant`.
+//! * `lists` has them by power-of-two list, linked from the newest to the oldest, under `instant`.
 //!
 //! Round it `Arena` has the allocated ranges by their bases in a hashed map, `Tags`, and the owned
 //! and the imported spans, each in the order of their ends, in `Spans`; a contract sees spans in
@@ -47,6 +47,7 @@ mod free_index;
 mod held_ranges;
 mod laws;
 mod merges;
+mod newest_lists;
 mod orders;
 mod places;
 mod policies;

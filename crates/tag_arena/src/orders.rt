@@ -19,8 +19,6 @@ pub enum Order {
     Rising,
     /// By length, then by base.
     Sizes,
-    /// By power-of-two list, then from the newest on.
-    Lists,
 }
 
 /// The entry of a free range.
@@ -37,11 +35,6 @@ pub fn entry_of(order: Order, slot: usize, tag: SlotTag) -> IndexEntry
         Order::Sizes => IndexEntry {
             major: range.len(),
             minor: range.base(),
-            slot,
-        },
-        Order::Lists => IndexEntry {
-            major: tag.power() as u64,
-            minor: u64::MAX - tag.since(),
             slot,
         },
     }

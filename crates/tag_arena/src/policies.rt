@@ -1,6 +1,6 @@
 //! How an arena chooses, and by which orders.
 ghost use Rattle.std.specs.Prelude.{◌≡◌};
-ghost use Rattle.tag_arena.specs.FreeRanges.{keeps};
+ghost use Rattle.tag_arena.specs.FreeRanges.{keeps, keeps_lists};
 
 use crate::orders::Order;
 
@@ -26,9 +26,15 @@ pub(crate) fn is_kept(policy: Policy, order: Order) -> bool
             Policy::Next => false,
             Policy::Best | Policy::Instant => true,
         },
-        Order::Lists => match policy {
-            Policy::Instant => true,
-            Policy::Best | Policy::Next => false,
-        },
+    }
+}
+
+/// Whether the policy asks for the power-of-two lists.
+pub(crate) fn has_lists(policy: Policy) -> bool
+    ensures { result ≡ keeps_lists policy }
+{
+    match policy {
+        Policy::Instant => true,
+        Policy::Best | Policy::Next => false,
     }
 }

@@ -7,9 +7,11 @@ ghost use Rattle.tag_arena.specs.Choice.{IsBestChoice, IsInstant, NoListServes};
 ghost use Rattle.tag_arena.specs.FreeTags.{AreTags, IsTimed, ranges_by_age};
 ghost use Rattle.tag_arena.specs.Orders.{Mirrors};
 ghost use Rattle.tag_arena.specs.Fits.{base_of, IsFit, IsWith};
-ghost use Rattle.tag_arena.specs.declared.orders.Order.TheVariants.{Lists, Rising, Sizes};
+ghost use Rattle.tag_arena.specs.Linked.{IsLinked};
+ghost use Rattle.tag_arena.specs.declared.orders.Order.TheVariants.{Rising, Sizes};
 
 use crate::held_ranges::HeldRange;
+use crate::newest_lists::NewestLists;
 use crate::orders::OrderedIndex;
 use crate::probes::Probes;
 use crate::reaches::{Grid, Measure};
@@ -147,20 +149,20 @@ fn least_list(units: u64) -> u32
 /// The newest range on the least power-of-two list whose every member has room for `units`.
 pub fn newest<D: Deed>(
     slots: &Slots<D>,
-    lists: &OrderedIndex,
+    lists: &NewestLists,
     quantum: u64,
     units: u64,
 ) -> Option<HeldRange>
     requires quantum { IsPowerOfTwo quantum }
     requires units { quantum ≤ units }
     requires timed { IsTimed slots.now.tags }
-    requires tags { (clock : ℕ) × (clock < 2 ^ 64) × AreTags clock slots.now.tags }
-    requires mirrors { Mirrors Lists lists.now.items slots.now.tags }
+    requires tags { (clock : ℕ) × AreTags clock slots.now.tags }
+    requires linked { IsLinked lists.now slots.now.tags }
     ensures { let free = ranges_by_age slots.now.tags in
         MatchOption result (NoListServes quantum units free) (IsInstant quantum units free) }
 {
-    let Some(entry) = lists.first_from(least_list(units) as u64, 0) else {
+    let Some(slot) = lists.newest_from(least_list(units)) else {
         return None;
     };
-    Some(slots.tag(entry.slot).range())
+    Some(slots.tag(slot).range())
 }

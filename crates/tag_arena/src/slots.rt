@@ -149,6 +149,7 @@ impl<D: Deed> Slots<D> {
         ensures becomes { SlotBecomes self.old.tags self.new.tags result (Some deed) }
         ensures taken { taken_count self.new.tags ≡ taken_count self.old.tags + 1 }
         ensures room { self.new.room ≡ self.old.room }
+        ensures within { result < self.new.room }
     {
         match self.vacant.pop() {
             Some(slot) => {

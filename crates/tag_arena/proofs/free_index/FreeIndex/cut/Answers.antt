@@ -6,9 +6,9 @@ use Rattle.tag_arena.specs.Cuts.{IsCut}
 use Rattle.tag_arena.specs.FreeRanges.{IsIndexed}
 use Rattle.tag_arena.specs.FreeTags.{tag_at, ranges_by_age}
 use Rattle.tag_arena.specs.Orders.{entry_of}
-use Rattle.tag_arena.specs.declared.orders.Order.TheVariants.{Rising, Sizes, Lists}
+use Rattle.tag_arena.specs.declared.orders.Order.TheVariants.{Rising, Sizes}
 use Rattle.tag_arena.proofs.Cutting.{found_range, same_table}
-use Rattle.tag_arena.proofs.Indexing.{indexed_take, ranges_take}
+use Rattle.tag_arena.proofs.Indexing.{indexed_take, lists_so, ranges_take}
 use Rattle.tag_arena.proofs.Listing.{Some-injective}
 use Rattle.tag_arena.proofs.Mirroring.{kept_take}
 use Rattle.tag_arena.proofs.free_index.FreeIndex.cut.Goals as goal
@@ -48,6 +48,9 @@ cut-requires-clause-to g c =
     let e = ap (λ u. end_of u.range.range) same ∙ ap (λ (h : Holding). end_of h.range) w.3 in
     omega (arith, e, c.requires.to)
 
+pub strike-requires-3-clause-power : goal.strike-requires-3-clause-power
+strike-requires-3-clause-power g c = (c.self.invariant.tags c.in-Some.entry.slot c.tag-tag.result (sym c.tag-tag.ensures)).power
+
 pub invariant_of-self : goal.invariant_of-self
 invariant_of-self g c =
     let s = c.self.inside in
@@ -65,7 +68,7 @@ invariant_of-self-2 g c =
     let count = c.in_ok-cut.ensures.taken in
     let h2 = kept_take s.policy Rising s.slots s2 s.room s.rising c.strike.new.self x.rising c.strike.ensures.rest k t here becomes count c.strike.ensures.rises c.strike.ensures.items in
     let h3 = kept_take s.policy Sizes s.slots s2 s.room s.sizes c.strike-2.new.self x.sizes c.strike-2.ensures.rest k t here becomes count c.strike-2.ensures.rises c.strike-2.ensures.items in
-    let h4 = kept_take s.policy Lists s.slots s2 s.room s.lists c.strike-3.new.self x.lists c.strike-3.ensures.rest k t here becomes count c.strike-3.ensures.rises c.strike-3.ensures.items in
+    let h4 = lists_so s.policy s.slots s2 s.lists c.strike-3.new.self k t x.lists_meet c.strike-3.ensures.is_kept c.strike-3.ensures.room c.cut.ensures.room (λ kept linked. c.strike-3.ensures.linked kept s.slots.tags s2.tags linked x.timed here becomes) in
     indexed_take s.policy s.slots s2 s.rising s.sizes s.lists c.strike.new.self c.strike-2.new.self c.strike-3.new.self s.clock s.room k t x here becomes c.cut.ensures.room h2 h3 h4
 
 pub returns-clause-cut : goal.returns-clause-cut

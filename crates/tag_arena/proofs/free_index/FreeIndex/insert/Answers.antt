@@ -1,8 +1,8 @@
 use Rattle.std.proofs.Common.{◌≡◌, ◌≢◌, ◌+◌, ◌++◌, ◌∷◌, [], Some, All, length, sym, ap, ◌∙◌, subst, arith}
 use Rattle.tag_arena.specs.FreeTags.{SlotBecomes, ranges_by_age}
-use Rattle.tag_arena.specs.declared.orders.Order.TheVariants.{Rising, Sizes, Lists}
+use Rattle.tag_arena.specs.declared.orders.Order.TheVariants.{Rising, Sizes}
 use Rattle.tag_arena.proofs.Mirroring.{kept_put}
-use Rattle.tag_arena.proofs.Indexing.{taken_below, newer, place_in, absent_in, new_tag, indexed_put, ranges_put}
+use Rattle.tag_arena.proofs.Indexing.{taken_below, newer, place_in, absent_in, new_tag, indexed_put, lists_so, ranges_put}
 use Rattle.tag_arena.proofs.free_index.FreeIndex.insert.Goals as goal
 
 pub put-slot-requires : goal.put-slot-requires
@@ -28,10 +28,9 @@ enter-requires-clause-absent g c =
     let held = ap (λ h. h.range.len) c.held_range_of.ensures.value in
     let is = new_tag s.clock c.ilog2-power.result c.len.result c.args.deed t made c.held_range_of.ensures.range (c.len.ensures.value ∙ held) c.ilog2-power.ensures.power_le c.ilog2-power.ensures.next_power_gt c.ilog2-power.ensures.bound in
     let now = ap (λ u. u.since) made in
-    let ticks = ap (λ v. v.ticks) c.self.view_is in
     let base = sym (ap (λ u. u.range.range.base) made) in
     let absent = subst (λ b. All (λ r. r.range.base ≢ b) (ranges_by_age s.slots.tags)) base (subst (λ l. All (λ r. r.range.base ≢ c.args.deed.range.base) l) (sym (ap (λ v. v.ranges) c.self.view_is)) c.requires.absent) in
-    absent_in s.policy Rising s.slots s.room s.rising x.rising s.clock c.put-slot.result t x.tags is now (omega (arith, ticks, c.requires.ticks)) absent
+    absent_in s.policy Rising s.slots s.room s.rising x.rising s.clock c.put-slot.result t x.tags is absent
 
 pub enter-requires-2-clause-room : goal.enter-requires-2-clause-room
 enter-requires-2-clause-room g c =
@@ -49,31 +48,23 @@ enter-requires-2-clause-absent g c =
     let held = ap (λ h. h.range.len) c.held_range_of.ensures.value in
     let is = new_tag s.clock c.ilog2-power.result c.len.result c.args.deed t made c.held_range_of.ensures.range (c.len.ensures.value ∙ held) c.ilog2-power.ensures.power_le c.ilog2-power.ensures.next_power_gt c.ilog2-power.ensures.bound in
     let now = ap (λ u. u.since) made in
-    let ticks = ap (λ v. v.ticks) c.self.view_is in
     let base = sym (ap (λ u. u.range.range.base) made) in
     let absent = subst (λ b. All (λ r. r.range.base ≢ b) (ranges_by_age s.slots.tags)) base (subst (λ l. All (λ r. r.range.base ≢ c.args.deed.range.base) l) (sym (ap (λ v. v.ranges) c.self.view_is)) c.requires.absent) in
-    absent_in s.policy Sizes s.slots s.room s.sizes x.sizes s.clock c.put-slot.result t x.tags is now (omega (arith, ticks, c.requires.ticks)) absent
+    absent_in s.policy Sizes s.slots s.room s.sizes x.sizes s.clock c.put-slot.result t x.tags is absent
 
-pub enter-requires-3-clause-room : goal.enter-requires-3-clause-room
-enter-requires-3-clause-room g c =
-    let few = ap (λ v. length v.ranges) c.self.view_is in
-    let room = ap (λ v. v.room) c.self.view_is in
+pub enter-requires-3-clause-power : goal.enter-requires-3-clause-power
+enter-requires-3-clause-power g c =
     let s = c.self.inside in
-    place_in s.policy Lists s.slots s.room s.lists c.self.invariant.lists c.self.invariant.timed (omega (arith, few, room, c.requires.room))
-
-pub enter-requires-3-clause-absent : goal.enter-requires-3-clause-absent
-enter-requires-3-clause-absent g c =
-    let s = c.self.inside in
-    let x = c.self.invariant in
     let t = c.tag-tag.result in
     let made : t ≡ record { range = c.args.deed; since = s.clock + 1; power = c.ilog2-power.result } = c.tag-tag.ensures ∙ c.new-deed.ensures in
-    let held = ap (λ h. h.range.len) c.held_range_of.ensures.value in
-    let is = new_tag s.clock c.ilog2-power.result c.len.result c.args.deed t made c.held_range_of.ensures.range (c.len.ensures.value ∙ held) c.ilog2-power.ensures.power_le c.ilog2-power.ensures.next_power_gt c.ilog2-power.ensures.bound in
-    let now = ap (λ u. u.since) made in
-    let ticks = ap (λ v. v.ticks) c.self.view_is in
-    let base = sym (ap (λ u. u.range.range.base) made) in
-    let absent = subst (λ b. All (λ r. r.range.base ≢ b) (ranges_by_age s.slots.tags)) base (subst (λ l. All (λ r. r.range.base ≢ c.args.deed.range.base) l) (sym (ap (λ v. v.ranges) c.self.view_is)) c.requires.absent) in
-    absent_in s.policy Lists s.slots s.room s.lists x.lists s.clock c.put-slot.result t x.tags is now (omega (arith, ticks, c.requires.ticks)) absent
+    let power = ap (λ u. u.power) made in
+    omega (arith, power, c.ilog2-power.ensures.bound)
+
+pub enter-requires-3-clause-room : goal.enter-requires-3-clause-room
+enter-requires-3-clause-room g c = λ kept. let wide = c.self.invariant.lists_meet.room kept in omega (arith, wide, c.put-slot.ensures.within, c.put-slot.ensures.room)
+
+pub enter-requires-3-clause-linked : goal.enter-requires-3-clause-linked
+enter-requires-3-clause-linked g c = λ kept. (c.self.inside.slots.tags, c.self.invariant.lists_meet.linked kept)
 
 pub invariant_of-self : goal.invariant_of-self
 invariant_of-self g c =
@@ -92,7 +83,7 @@ invariant_of-self g c =
     let count = c.put-slot.ensures.taken in
     let hr = kept_put s.policy Rising s.slots s2 s.room s.rising c.enter.new.self x.rising c.enter.ensures.rest k t vacant becomes later count c.enter.ensures.rises c.enter.ensures.items in
     let hz = kept_put s.policy Sizes s.slots s2 s.room s.sizes c.enter-2.new.self x.sizes c.enter-2.ensures.rest k t vacant becomes later count c.enter-2.ensures.rises c.enter-2.ensures.items in
-    let hl = kept_put s.policy Lists s.slots s2 s.room s.lists c.enter-3.new.self x.lists c.enter-3.ensures.rest k t vacant becomes later count c.enter-3.ensures.rises c.enter-3.ensures.items in
+    let hl = lists_so s.policy s.slots s2 s.lists c.enter-3.new.self k t x.lists_meet c.enter-3.ensures.is_kept c.enter-3.ensures.room c.put-slot.ensures.room (λ kept linked. c.enter-3.ensures.linked kept s.slots.tags s2.tags linked x.timed vacant later becomes) in
     indexed_put s.policy s.slots s2 s.rising s.sizes s.lists c.enter.new.self c.enter-2.new.self c.enter-3.new.self s.clock s.room k t x vacant becomes c.put-slot.ensures.room is now hr hz hl
 
 pub returns-clause-ranges : goal.returns-clause-ranges

@@ -19,7 +19,7 @@ returns-in_default-clause-choice g c =
     )
 
 pub newest-requires-clause-tags : goal.newest-requires-clause-tags
-newest-requires-clause-tags g c = (c.self.inside.clock, omega arith, c.self.invariant.tags)
+newest-requires-clause-tags g c = (c.self.inside.clock, c.self.invariant.tags)
 
 pub returns-in_default-newest-clause-choice : goal.returns-in_default-newest-clause-choice
 returns-in_default-newest-clause-choice g c =

@@ -1,6 +1,7 @@
-use Rattle.std.proofs.Common.{◌∙◌, ap, arith}
+use Rattle.std.proofs.Common.{◌∙◌, sym, ap, subst, arith}
+use Rattle.tag_arena.specs.Linked.{IsLinked}
 use Rattle.tag_arena.specs.FreeTags.{ranges_by_age}
-use Rattle.tag_arena.specs.declared.orders.Order.TheVariants.{Rising, Sizes, Lists}
+use Rattle.tag_arena.specs.declared.orders.Order.TheVariants.{Rising, Sizes}
 use Rattle.tag_arena.proofs.Starting.{kept_none, timed_none, tags_none, ranges_none}
 use Rattle.tag_arena.proofs.free_index.FreeIndex.new.Goals as goal
 
@@ -14,7 +15,11 @@ invariant_of-result g c =
       slots_room = omega arith;
       rising = kept_none c.args.policy Rising s c.index_in.result none c.index_in.ensures.order c.index_in.ensures.is_kept c.index_in.ensures.items;
       sizes = kept_none c.args.policy Sizes s c.index_in-2.result none c.index_in-2.ensures.order c.index_in-2.ensures.is_kept c.index_in-2.ensures.items;
-      lists = kept_none c.args.policy Lists s c.index_in-3.result none c.index_in-3.ensures.order c.index_in-3.ensures.is_kept c.index_in-3.ensures.items;
+      lists_meet = record {
+        kept_is = c.new-2.ensures.is_kept ∙ c.has_lists.ensures;
+        linked = λ kept. subst (IsLinked c.new-2.result) (sym none) c.new-2.ensures.linked;
+        room = λ kept. omega (arith, c.new.ensures.room);
+      };
     }
 
 pub returns-clause-ranges : goal.returns-clause-ranges

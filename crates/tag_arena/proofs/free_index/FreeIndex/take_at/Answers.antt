@@ -1,10 +1,10 @@
 use Rattle.std.proofs.Common.{◌≢◌, All, refl, sym, ap, ◌∙◌, subst}
 use Rattle.tag_arena.specs.Neighbors.{TakesAt, Without}
 use Rattle.tag_arena.specs.FreeTags.{ranges_by_age}
-use Rattle.tag_arena.specs.declared.orders.Order.TheVariants.{Rising, Sizes, Lists}
+use Rattle.tag_arena.specs.declared.orders.Order.TheVariants.{Rising, Sizes}
 use Rattle.tag_arena.proofs.Listing.{Some-injective}
 use Rattle.tag_arena.proofs.Mirroring.{kept_take}
-use Rattle.tag_arena.proofs.Indexing.{first_at, none_at, other_at, indexed_take, ranges_take}
+use Rattle.tag_arena.proofs.Indexing.{first_at, none_at, other_at, indexed_take, lists_so, ranges_take}
 use Rattle.tag_arena.proofs.free_index.FreeIndex.take_at.Goals as goal
 
 pub returns-in_err-entry-clause-taken : goal.returns-in_err-entry-clause-taken
@@ -28,6 +28,9 @@ tag-tag-requires g c =
     let w = first_at s.policy s.slots s.rising s.sizes s.lists s.clock s.room c.self.invariant c.args.base c.first_from.ensures.rises c.in_ok-entry.entry (sym c.first_from.ensures.first ∙ c.in_ok-entry.was) in
     (w.0, w.1)
 
+pub strike-requires-3-clause-power : goal.strike-requires-3-clause-power
+strike-requires-3-clause-power g c = (c.self.invariant.tags c.in_ok-entry.entry.slot c.tag-tag.result (sym c.tag-tag.ensures)).power
+
 pub invariant_of-self : goal.invariant_of-self
 invariant_of-self g c =
     let s = c.self.inside in
@@ -40,7 +43,7 @@ invariant_of-self g c =
     let count = c.take.ensures.taken in
     let h2 = kept_take s.policy Rising s.slots s2 s.room s.rising c.strike.new.self x.rising c.strike.ensures.rest k t here becomes count c.strike.ensures.rises c.strike.ensures.items in
     let h3 = kept_take s.policy Sizes s.slots s2 s.room s.sizes c.strike-2.new.self x.sizes c.strike-2.ensures.rest k t here becomes count c.strike-2.ensures.rises c.strike-2.ensures.items in
-    let h4 = kept_take s.policy Lists s.slots s2 s.room s.lists c.strike-3.new.self x.lists c.strike-3.ensures.rest k t here becomes count c.strike-3.ensures.rises c.strike-3.ensures.items in
+    let h4 = lists_so s.policy s.slots s2 s.lists c.strike-3.new.self k t x.lists_meet c.strike-3.ensures.is_kept c.strike-3.ensures.room c.take.ensures.room (λ kept linked. c.strike-3.ensures.linked kept s.slots.tags s2.tags linked x.timed here becomes) in
     indexed_take s.policy s.slots s2 s.rising s.sizes s.lists c.strike.new.self c.strike-2.new.self c.strike-3.new.self s.clock s.room k t x here becomes c.take.ensures.room h2 h3 h4
 
 pub returns-clause-taken : goal.returns-clause-taken
