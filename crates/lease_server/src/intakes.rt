@@ -19,7 +19,7 @@ use std::marker::Model;
 pub const MOST_READS: u64 = 1 << 40;
 
 /// How many bytes are read at once.
-const PIECE: usize = 4096;
+const PIECE: usize = 16_384;
 
 /// The bytes of a stream that were read and not passed yet. A line that lies whole in what one read
 /// gave stays where it was read; one that goes over its end is put together. It takes no memory.

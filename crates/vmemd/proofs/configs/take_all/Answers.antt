@@ -42,7 +42,7 @@ pub loop-line-smaller-in-Some : goal.loop-line-smaller-in-Some
 loop-line-smaller-in-Some g c =
     let old = c.loop-line.input in
     let less = size-passed old.hand c.in-Some.ensures.some.0 in
-    subst (λ (v : IntakeState). (MOST_READS - v.reads) * 8192 + size_at v.hand < (MOST_READS - old.reads) * 8192 + size_at old.hand)
+    subst (λ (v : IntakeState). (MOST_READS - v.reads) * 32768 + size_at v.hand < (MOST_READS - old.reads) * 32768 + size_at old.hand)
     (sym c.pass.ensures) (omega (arith, less))
 
 pub loop-line-preserved-in-Some : goal.loop-line-preserved-in-Some
@@ -124,8 +124,8 @@ loop-line-smaller g c =
     let size = ap size_at next in
     let fits = size-hand_in c.loop-line.input.hand.line piece in
     let bound = c.read_on.ensures.bound in
-    let less : (MOST_READS - c.read_on.new.self.reads) * 8192 + size_at c.read_on.new.self.hand
-    < (MOST_READS - c.loop-line.input.reads) * 8192 + size_at c.loop-line.input.hand = omega (arith, once, bound, size, fits, short) in
+    let less : (MOST_READS - c.read_on.new.self.reads) * 32768 + size_at c.read_on.new.self.hand
+    < (MOST_READS - c.loop-line.input.reads) * 32768 + size_at c.loop-line.input.hand = omega (arith, once, bound, size, fits, short) in
     less
 
 pub loop-line-preserved : goal.loop-line-preserved

@@ -13,10 +13,10 @@ invariant-loop-line g l = (input : List ℕ) × Consumes (g.R.Read.remaining (in
     × (l.input.hand ≡ hand_in [] front)
     × (l.number ≡ length setup.lines + 1)
     × (l.input.ended ≡ false)
-    × (l.number + size_at l.input.hand ≤ 4096 * l.input.reads + 1)
+    × (l.number + size_at l.input.hand ≤ 16384 * l.input.reads + 1)
     × (l.input.reads ≤ MOST_READS)
     × (has_failed l.reader ≡ has_failed l.fn.reader)
     × (reads_of l.reader ≡ min (reads_of l.fn.reader + l.input.reads) (2 ^ 64 - 1))
 
 abbrev pub decreases-loop-line : goal.decreases-loop-line
-decreases-loop-line g l = (MOST_READS - l.input.reads) * 8192 + size_at l.input.hand
+decreases-loop-line g l = (MOST_READS - l.input.reads) * 32768 + size_at l.input.hand
