@@ -77,7 +77,6 @@ module _ (a : ArenaState) (q : Request) (f : FoundAt) (n : ℕ) (sound : IsSound
 -- a span was imported, and its first units carved
 module _ (a : ArenaState) (q : Request) (span : Tag) (n : ℕ) (k : Imports a span n) (n_is : n ≡ rounding_of a.quantum q.size)
     (new : ArenaState) (after : new ≡ after_carve (after_import a span) span.holding (first_units n span.holding)) (s : Tag) (is : s ≡ direct_tag a.id (first_units n span.holding)) (range : IsRange s.holding.range) where
-
   pub import_done_sound : IsSoundArena new
   import_done_sound = import_sound a span n k new after
 

@@ -1,4 +1,4 @@
-use Rattle.std.proofs.Common.{◌≡◌, Some, sym, ap, ◌∙◌, subst}
+use Rattle.std.proofs.Common.{sym, ap, ◌∙◌, subst}
 use Rattle.tag_arena.specs.Choice.{IsInstant}
 use Rattle.tag_arena.specs.FreeTags.{ArePowers, ranges_by_age}
 use Rattle.tag_arena.specs.Linked.{IsNewestFrom}

@@ -1,6 +1,5 @@
-use Rattle.std.proofs.Common.{◌≤◌, refl, arith}
+use Rattle.std.proofs.Common.{refl, arith}
 use Rattle.tag_arena.specs.declared.orders.Order.TheVariants.{Rising, Sizes}
-use Rattle.tag_arena.specs.Linked.{lists_room}
 use Rattle.tag_arena.proofs.Starting.{kept_grown, kept_wide, indexed_same, lists_wide}
 use Rattle.tag_arena.proofs.free_index.FreeIndex.reserve.Goals as goal
 

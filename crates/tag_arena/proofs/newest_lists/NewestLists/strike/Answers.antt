@@ -1,8 +1,7 @@
-use Rattle.std.proofs.Common.{◌≡◌, ◌<◌, ℕ, refl, sym, ap, ◌∙◌, subst, length, get_or, set, Option, None, Some}
+use Rattle.std.proofs.Common.{◌≡◌, ◌<◌, sym, ap, ◌∙◌, subst, length, set, None, Some}
 use Rattle.std.proofs.lemmas.List.{get_or_default}
-use Rattle.tag_arena.specs.declared.newest_lists.Link.{Link}
 use Rattle.tag_arena.specs.Linked.{ListsState, IsLinked, IsNextNewer, IsNextOlder, lists_room, link_at}
-use Rattle.tag_arena.proofs.Linking.{struck, newer_within, older_within, IsWithin, relink_newer, relink_older, relinked_older, relist, wired_newer, wired_older}
+use Rattle.tag_arena.proofs.Linking.{struck, newer_within, older_within, relink_newer, relink_older, relinked_older, wired_newer, wired_older}
 use Rattle.tag_arena.proofs.newest_lists.NewestLists.strike.Goals as goal
 use Rattle.tag_arena.proofs.newest_lists.NewestLists.strike.Goals.{in-Some, in-None}
 
@@ -20,23 +19,24 @@ returns-in-Some-older-clause-linked c = λ kept old new linked timed here become
     let now = c.match-newer.self-inside in
     let last = c.index_mut-in-Some-older in
     let l2 : ListsState = record { kept = now.kept; newest = now.newest; links = set now.links.items o (record { newer = c.match-newer.newer; older = last.result.now.older }) } in
-    elim c.match-newer.branch
-    [ in-Some w ↦
-      let n = w.in-Some.newer in
-      let n_is : Some n ≡ (link_at l.links slot).newer = sym w.in-Some.is ∙ ap (λ v. v.newer) link in
-      let n_within : n < lists_room l = newer_within old new slot t l x c.self.invariant c.requires.power (Some n) (subst (IsNextNewer old t) (sym n_is) (x.newer slot t here)) in
-      let links1 = relink_older l.links (Some n) (Some o) in
-      let first : now.links.items ≡ links1 = ap (λ v. v.links.items) w.self-inside-is ∙ (wired_older l.links n c.index.result.now.older w.index_mut.result.now n_within w.index_mut.ensures.value ∙ ap (relink_older l.links (Some n)) c.in-Some-older.is) in
-      let wired = wired_newer now.links.items o c.match-newer.newer last.result.now (subst (λ m. o < m) (sym (ap length first ∙ relinked_older l.links (Some o) (Some n))) o_within) last.ensures.value in
-      struck old new slot t l x c.self.invariant c.requires.power l2 (Some n) (Some o) n_is y_is (ap (λ v. v.newest) w.self-inside-is)
-      (wired ∙ (ap (λ ls. relink_newer ls (Some o) c.match-newer.newer) first ∙ ap (relink_newer links1 (Some o)) w.newer-is)) timed here becomes
-    | in-None w ↦
-      let n_is : None ≡ (link_at l.links slot).newer = sym w.in-None.is ∙ ap (λ v. v.newer) link in
-      let first : now.links.items ≡ l.links = ap (λ v. v.links.items) w.self-inside-is in
-      let wired = wired_newer now.links.items o c.match-newer.newer last.result.now (subst (λ m. o < m) (sym (ap length first)) o_within) last.ensures.value in
-      struck old new slot t l x c.self.invariant c.requires.power l2 None (Some o) n_is y_is
-      (ap (λ v. v.newest) w.self-inside-is ∙ (ap (λ p. set s.newest p c.index.result.now.older) w.power.ensures ∙ ap (set s.newest t.power) c.in-Some-older.is))
-      (wired ∙ (ap (λ ls. relink_newer ls (Some o) c.match-newer.newer) first ∙ ap (relink_newer l.links (Some o)) (w.newer-is ∙ w.in-None.is))) timed here becomes ]
+    elim c.match-newer.branch [
+      | in-Some w ↦
+          let n = w.in-Some.newer in
+          let n_is : Some n ≡ (link_at l.links slot).newer = sym w.in-Some.is ∙ ap (λ v. v.newer) link in
+          let n_within : n < lists_room l = newer_within old new slot t l x c.self.invariant c.requires.power (Some n) (subst (IsNextNewer old t) (sym n_is) (x.newer slot t here)) in
+          let links1 = relink_older l.links (Some n) (Some o) in
+          let first : now.links.items ≡ links1 = ap (λ v. v.links.items) w.self-inside-is ∙ (wired_older l.links n c.index.result.now.older w.index_mut.result.now n_within w.index_mut.ensures.value ∙ ap (relink_older l.links (Some n)) c.in-Some-older.is) in
+          let wired = wired_newer now.links.items o c.match-newer.newer last.result.now (subst (λ m. o < m) (sym (ap length first ∙ relinked_older l.links (Some o) (Some n))) o_within) last.ensures.value in
+          struck old new slot t l x c.self.invariant c.requires.power l2 (Some n) (Some o) n_is y_is (ap (λ v. v.newest) w.self-inside-is)
+          (wired ∙ (ap (λ ls. relink_newer ls (Some o) c.match-newer.newer) first ∙ ap (relink_newer links1 (Some o)) w.newer-is)) timed here becomes
+      | in-None w ↦
+          let n_is : None ≡ (link_at l.links slot).newer = sym w.in-None.is ∙ ap (λ v. v.newer) link in
+          let first : now.links.items ≡ l.links = ap (λ v. v.links.items) w.self-inside-is in
+          let wired = wired_newer now.links.items o c.match-newer.newer last.result.now (subst (λ m. o < m) (sym (ap length first)) o_within) last.ensures.value in
+          struck old new slot t l x c.self.invariant c.requires.power l2 None (Some o) n_is y_is
+          (ap (λ v. v.newest) w.self-inside-is ∙ (ap (λ p. set s.newest p c.index.result.now.older) w.power.ensures ∙ ap (set s.newest t.power) c.in-Some-older.is))
+          (wired ∙ (ap (λ ls. relink_newer ls (Some o) c.match-newer.newer) first ∙ ap (relink_newer l.links (Some o)) (w.newer-is ∙ w.in-None.is))) timed here becomes
+    ]
 
 pub returns-in_default-clause-linked : goal.returns-in_default-clause-linked
 returns-in_default-clause-linked c = λ kept old new linked timed here becomes.
@@ -47,17 +47,18 @@ returns-in_default-clause-linked c = λ kept old new linked timed here becomes.
     let x : IsLinked l old = subst (λ v. IsLinked v old) (sym c.self.view_is) linked in
     let link : c.index.result.now ≡ link_at l.links slot = c.index.ensures ∙ get_or_default l.links slot c.index.result.now (record { newer = None; older = None }) (x.within slot t here) in
     let y_is : None ≡ (link_at l.links slot).older = sym c.in_default.is ∙ ap (λ v. v.older) link in
-    elim c.match-newer.branch
-    [ in-Some w ↦
-      let n = w.in-Some.newer in
-      let n_is : Some n ≡ (link_at l.links slot).newer = sym w.in-Some.is ∙ ap (λ v. v.newer) link in
-      let n_within : n < lists_room l = newer_within old new slot t l x c.self.invariant c.requires.power (Some n) (subst (IsNextNewer old t) (sym n_is) (x.newer slot t here)) in
-      let now = c.match-newer.self-inside in
-      struck old new slot t l x c.self.invariant c.requires.power (record { kept = now.kept; newest = now.newest; links = now.links.items }) (Some n) None n_is y_is (ap (λ v. v.newest) w.self-inside-is)
-      (ap (λ v. v.links.items) w.self-inside-is ∙ (wired_older l.links n c.index.result.now.older w.index_mut.result.now n_within w.index_mut.ensures.value ∙ ap (relink_older l.links (Some n)) c.in_default.is)) timed here becomes
-    | in-None w ↦
-      let n_is : None ≡ (link_at l.links slot).newer = sym w.in-None.is ∙ ap (λ v. v.newer) link in
-      let now = c.match-newer.self-inside in
-      struck old new slot t l x c.self.invariant c.requires.power (record { kept = now.kept; newest = now.newest; links = now.links.items }) None None n_is y_is
-      (ap (λ v. v.newest) w.self-inside-is ∙ (ap (λ p. set s.newest p c.index.result.now.older) w.power.ensures ∙ ap (set s.newest t.power) c.in_default.is))
-      (ap (λ v. v.links.items) w.self-inside-is) timed here becomes ]
+    elim c.match-newer.branch [
+      | in-Some w ↦
+          let n = w.in-Some.newer in
+          let n_is : Some n ≡ (link_at l.links slot).newer = sym w.in-Some.is ∙ ap (λ v. v.newer) link in
+          let n_within : n < lists_room l = newer_within old new slot t l x c.self.invariant c.requires.power (Some n) (subst (IsNextNewer old t) (sym n_is) (x.newer slot t here)) in
+          let now = c.match-newer.self-inside in
+          struck old new slot t l x c.self.invariant c.requires.power (record { kept = now.kept; newest = now.newest; links = now.links.items }) (Some n) None n_is y_is (ap (λ v. v.newest) w.self-inside-is)
+          (ap (λ v. v.links.items) w.self-inside-is ∙ (wired_older l.links n c.index.result.now.older w.index_mut.result.now n_within w.index_mut.ensures.value ∙ ap (relink_older l.links (Some n)) c.in_default.is)) timed here becomes
+      | in-None w ↦
+          let n_is : None ≡ (link_at l.links slot).newer = sym w.in-None.is ∙ ap (λ v. v.newer) link in
+          let now = c.match-newer.self-inside in
+          struck old new slot t l x c.self.invariant c.requires.power (record { kept = now.kept; newest = now.newest; links = now.links.items }) None None n_is y_is
+          (ap (λ v. v.newest) w.self-inside-is ∙ (ap (λ p. set s.newest p c.index.result.now.older) w.power.ensures ∙ ap (set s.newest t.power) c.in_default.is))
+          (ap (λ v. v.links.items) w.self-inside-is) timed here becomes
+    ]
