@@ -70,6 +70,13 @@ impl<T> Vec<T> {
         self.0.extend_from_slice(items);
         Ok(())
     }
+    pub fn resize(&mut self, len: usize, item: T) -> Result<(), AllocError>
+    where
+        T: Clone,
+    {
+        self.0.resize(len, item);
+        Ok(())
+    }
     pub fn destroy_empty(self) {}
 }
 

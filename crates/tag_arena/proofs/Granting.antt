@@ -1,5 +1,5 @@
 -- A carve of what was found, in terms of the calls that make it.
-use Rattle.std.proofs.Common.{◌≡◌, ℕ, ◌+◌, ◌-◌, ◌*◌, ◌/◌, ◌%◌, ◌<◌, refl, sym, subst, ap, ◌∙◌, inl, inr, List, ◌++◌, length, remove, Contains, HoldsAt, Option, Some, None, SomeIff, Result, Ok, Err, IsErrAnd, arith}
+use Rattle.std.proofs.Common.{◌≡◌, ℕ, ◌+◌, ◌-◌, ◌*◌, ◌/◌, ◌%◌, ◌<◌, refl, sym, subst, ap, ◌∙◌, inl, inr, List, ◌++◌, length, remove, Contains, HoldsAt, Option, Some, None, SomeIff, arith}
 use Rattle.std.proofs.lemmas.Bool.{cases_eq}
 use Rattle.std.proofs.lemmas.List.Elements.{All-contains}
 use Rattle.std.proofs.Math.Nat.{mul-mod_left, mod_self, mod-eq_of_lt}
@@ -14,8 +14,6 @@ use Rattle.deed_core.specs.Covering.{covers, covering_held}
 use Rattle.deed_core.specs.Weights.{Gains}
 use Rattle.deed_core.specs.Request.{IsGood, rounding_of}
 use Rattle.deed_core.specs.declared.requests.Request.{Request}
-use Rattle.tag_arena.specs.declared.faults.ArenaFault.{ArenaFault}
-use Rattle.tag_arena.specs.declared.faults.ArenaFault.TheVariants.{NoFit, NoMemory}
 use Rattle.tag_arena.specs.Layout.{IsPartOf}
 use Rattle.tag_arena.specs.Place.{ServesIn}
 use Rattle.tag_arena.specs.ArenaState.{ArenaState, IsDivided, IsSoundArena, OnQuantum, ranges_of}
@@ -114,20 +112,3 @@ found_carves a q f n sound good found n_is = record {
   some = omega (arith, n_is, rounded_some q.size a.quantum good.size);
   grid = (found.2.fits.whole, ap (λ k. k % a.quantum) n_is ∙ rounded_multiple q.size a.quantum (power_some a.quantum sound.divided.power));
 }
-
--- the error of a result
-err_or : {X : Type 0} → Result X ArenaFault → ArenaFault → ArenaFault
-err_or (Ok x) d = d
-err_or (Err fault) d = fault
-
-not_that : (fault : ArenaFault) → fault ≡ NoMemory → NoFit ≡ fault → ⊥
-not_that fault h e = let both : NoFit ≡ NoMemory = e ∙ h in cc
-
-err_is : {X : Type 0} (r : Result X ArenaFault) → IsErrAnd r (λ fault. fault ≡ NoMemory) → (d : ArenaFault) → err_or r d ≡ NoMemory
-unfolding err_or
-err_is (Ok x) h d = absurd h
-err_is (Err fault) h d = h
-
-pub memory_not_fit : {X : Type 0} (r : Result X ArenaFault) → IsErrAnd r (λ fault. fault ≡ NoMemory) → r ≡ Err NoFit → ⊥
-unfolding err_or
-memory_not_fit r h e = not_that NoMemory refl (ap (λ x. err_or x NoFit) (sym e) ∙ err_is r h NoFit)

@@ -51,8 +51,9 @@ module _ (clock k : ℕ) (old new : List (Option FreeTag)) (t : FreeTag) (are : 
   pub newer : t.since ≡ clock + 1 → (j : ℕ) (u : FreeTag) → tag_at old j ≡ Some u → u.since < t.since
   newer now j u here = let h = (are j u here).since in omega (arith, h, now)
 
-  pub differs : All (λ r. r.range.base ≢ t.range.range.base) (ranges_by_age old) → (j : ℕ) (u : FreeTag) → tag_at old j ≡ Some u → u.range.range.base ≢ t.range.range.base
-  differs absent j u here = All-contains (λ r. r.range.base ≢ t.range.range.base) (ranges_by_age old) u.range absent (range_is_free old j u here)
+-- where no free range begins at the base of one, no tag does
+differs : (tags : List (Option FreeTag)) (t : FreeTag) → All (λ r. r.range.base ≢ t.range.range.base) (ranges_by_age tags) → (j : ℕ) (u : FreeTag) → tag_at tags j ≡ Some u → u.range.range.base ≢ t.range.range.base
+differs tags t absent j u here = All-contains (λ r. r.range.base ≢ t.range.range.base) (ranges_by_age tags) u.range absent (range_is_free tags j u here)
 
 module _ (policy : Policy) (s s2 : SlotsState) (r z : OrderedIndexState) (l : ListsState) (r2 z2 : OrderedIndexState) (l2 : ListsState) (clock room k : ℕ) (t : FreeTag) (x : IsIndexed policy s r z l clock room) where
   pub indexed_put : tag_at s.tags k ≡ None → SlotBecomes s.tags s2.tags k (Some t) → s2.room ≡ s.room → IsTag (clock + 1) t → t.since ≡ clock + 1
@@ -165,7 +166,7 @@ module _ (policy : Policy) (order : Order) (s : SlotsState) (room : ℕ) (i : Or
 
   pub absent_in : (clock k : ℕ) (t : FreeTag) → AreTags clock s.tags → IsTag (clock + 1) t → All (λ r. r.range.base ≢ t.range.range.base) (ranges_by_age s.tags) → IsAbsent i.kept i.items (rank_of (entry_of i.order k t))
   absent_in clock k t are new absent =
-      absent_for i.kept i.order i.items i.room room s.tags (clock + 1) k t is.keeps_up (tags_later clock s.tags are) new (differs clock k s.tags s.tags t are absent)
+      absent_for i.kept i.order i.items i.room room s.tags (clock + 1) k t is.keeps_up (tags_later clock s.tags are) new (differs s.tags t absent)
 
 -- the tag of a range that becomes free
 pub new_tag : (clock p len : ℕ) (deed : Holding) (made : FreeTag) → made ≡ record { range = deed; since = clock + 1; power = p } → IsRange deed.range → len ≡ deed.range.len → 2 ^ p ≤ len → len < 2 * 2 ^ p → p < 64 → IsTag (clock + 1) made

@@ -8,9 +8,6 @@ use Rattle.tag_arena.specs.Linked.{ListsState, IsLinked, IsNewestFrom, IsNewestO
 use Rattle.tag_arena.proofs.Aging.{put_cases, put_kept, take_cases}
 use Rattle.tag_arena.proofs.Listing.{None≢Some, Some-injective}
 
-power_of : FreeTag → ℕ
-power_of t = t.power
-
 -- one more tag, newer than all
 module _ (tags tags2 : List (Option FreeTag)) (k : ℕ) (t : FreeTag) (vacant : tag_at tags k ≡ None) (becomes : SlotBecomes tags tags2 k (Some t)) (later : (j : ℕ) (u : FreeTag) → tag_at tags j ≡ Some u → u.since < t.since) where
   newest_other : (p : ℕ) → t.power ≢ p → (o : Option ℕ) → IsNewestOf tags p o → IsNewestOf tags2 p o

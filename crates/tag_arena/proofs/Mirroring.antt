@@ -1,5 +1,5 @@
 -- Indexes that have the tags of the slots.
-use Rattle.std.proofs.Common.{◌≡◌, ◌≢◌, ℕ, ◌+◌, ◌<◌, refl, sym, ap, subst, ◌∙◌, ⊎_elim, Bool, true, false, List, length, insert, remove, All, Any, Contains, Option, None, Some, arith}
+use Rattle.std.proofs.Common.{◌≡◌, ◌≢◌, ℕ, ◌+◌, ◌<◌, refl, sym, ap, subst, ◌∙◌, ⊎_elim, Bool, true, false, List, length, insert, remove, All, Contains, Option, None, Some, arith}
 use Rattle.std.proofs.lemmas.List.{get_or_default}
 use Rattle.std.proofs.lemmas.List.Edits.{length-insert, length-remove}
 use Rattle.tag_arena.proofs.Members.{All-from_members, Contains-remove, remove_kept, remove_pairs}
@@ -32,10 +32,6 @@ module _ (order : Order) (items : List IndexEntry) (tags : List (Option FreeTag)
       All-from_members (λ e. rank_of e ≢ rank_of (entry_of order k t)) items
       (λ e h. let w = m.from e h in
       subst (λ x. rank_of x ≢ rank_of (entry_of order k t)) (sym w.2) (ranks_differ order clock e.slot k w.0 t (are e.slot w.0 w.1) is (differs e.slot w.0 w.1)))
-
-  -- a tag's entry is there
-  pub present_entry : (k : ℕ) (t : FreeTag) → tag_at tags k ≡ Some t → Any (λ e. rank_of e ≡ rank_of (entry_of order k t)) items
-  present_entry k t here = let c = m.into k t here in (c.0, entry_of order k t, c.1, c.2, refl)
 
   -- one more
   pub mirrors_put : (new : List (Option FreeTag)) (items2 : List IndexEntry) (k : ℕ) (t : FreeTag) → tag_at tags k ≡ None → SlotBecomes tags new k (Some t) → ((j : ℕ) (u : FreeTag) → tag_at tags j ≡ Some u → u.since < t.since)

@@ -1,4 +1,4 @@
-//! The free ranges of an arena, in the orders that its policy asks for.
+//! The free ranges of an arena, in the orders and on the lists that its policy asks for.
 ghost use Rattle.std.specs.Prelude.{◌≡◌, ◌≢◌, ◌+◌, ◌<◌, ◌≤◌, ◌++◌, ◌∷◌, [], All, Any, OnOk, OnErr};
 ghost use Rattle.std.specs.Prelude.{◌-◌, ◌%◌, ◌^◌, length, max, true, AllPairs, Contains, IfOk};
 ghost use Rattle.std.specs.Prelude.{IfSome, MatchBool, option_to_list};

@@ -2,13 +2,13 @@
 //! of its ranges. So a range comes and goes without a search.
 ghost use Rattle.std.specs.Prelude.{◌≡◌, ◌<◌, ◌≤◌, ℕ, List, [], Option, None, Some, OnOk, true};
 ghost use Rattle.tag_arena.specs.FreeTags.{FreeTag, tag_at, SlotBecomes, IsTimed, ArePowers};
-ghost use Rattle.tag_arena.specs.Linked.{IsLinked, IsNewestFrom, ListsState, lists_room};
+ghost use Rattle.tag_arena.specs.Linked.{IsLinked, IsNewestFrom, lists_room};
 
 use crate::slots::SlotTag;
 use std::alloc::{AllocError, Global};
 use std::marker::Model;
 
-/// How many lists there are: one for each power of two that a length may have.
+/// How many lists there are: one for each bit of a length.
 const LISTS: usize = 64;
 
 /// The slots beside a slot on its list.
@@ -18,7 +18,7 @@ pub struct Link {
     pub older: Option<usize>,
 }
 
-/// The lists, or nothing where they aren't kept.
+/// The lists, with nothing on them where they aren't kept.
 #[derive(Drop)]
 pub struct NewestLists {
     kept: bool,
@@ -54,7 +54,7 @@ impl NewestLists {
         }
     }
 
-    /// Makes room for the slots below `room`, where they are kept.
+    /// Makes room for links of the slots below `room`, where the lists are kept.
     pub fn reserve(&mut self, room: usize) -> Result<(), AllocError>
         ensures ok { OnOk result (self.old.kept ≡ true → room ≤ lists_room self.new) }
         ensures linked { (tags : List (Option FreeTag)) → IsLinked self.old tags
@@ -72,7 +72,7 @@ impl NewestLists {
         self.links.resize(room, alone)
     }
 
-    /// The range in a slot becomes the newest of its list, where they are kept.
+    /// The range in a slot becomes the newest of its list, where the lists are kept.
     pub fn enter(&mut self, slot: usize, tag: SlotTag)
         requires power { tag.power < 64 }
         requires room { self.old.kept ≡ true → slot < lists_room self.old }
@@ -100,7 +100,7 @@ impl NewestLists {
         self.newest[list] = Some(slot);
     }
 
-    /// The range in a slot leaves its list, where they are kept.
+    /// The range in a slot leaves its list, where the lists are kept.
     pub fn strike(&mut self, slot: usize, tag: SlotTag)
         requires power { tag.power < 64 }
         requires linked { self.old.kept ≡ true → (tags : List (Option FreeTag))

@@ -1,4 +1,4 @@
-//! How an arena chooses, and by which orders.
+//! How an arena chooses, and by which orders and lists.
 ghost use Rattle.std.specs.Prelude.{◌≡◌};
 ghost use Rattle.tag_arena.specs.FreeRanges.{keeps, keeps_lists};
 

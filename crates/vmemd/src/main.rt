@@ -17,7 +17,7 @@
 //! line, in the crate `lease_proto`. What CONFIG makes is stated in specs/Configs.antt, and what a
 //! server writes and how it ends in specs/Running.antt; what it answers, in `lease_tcp`.
 //!
-//! A script costs what its setup and its desk do for each line, and a read for each 4,096 bytes or
+//! A script costs what its setup and its desk do for each line, and a read for each 16,384 bytes or
 //! less. A server has a thread for each worker, at most `MOST_WORKERS`, and costs what its system
 //! does for each line.
 #![tactic(auto)]

@@ -27,7 +27,6 @@ enter-requires-clause-absent g c =
     let made : t ≡ record { range = c.args.deed; since = s.clock + 1; power = c.ilog2-power.result } = c.tag-tag.ensures ∙ c.new-deed.ensures in
     let held = ap (λ h. h.range.len) c.held_range_of.ensures.value in
     let is = new_tag s.clock c.ilog2-power.result c.len.result c.args.deed t made c.held_range_of.ensures.range (c.len.ensures.value ∙ held) c.ilog2-power.ensures.power_le c.ilog2-power.ensures.next_power_gt c.ilog2-power.ensures.bound in
-    let now = ap (λ u. u.since) made in
     let base = sym (ap (λ u. u.range.range.base) made) in
     let absent = subst (λ b. All (λ r. r.range.base ≢ b) (ranges_by_age s.slots.tags)) base (subst (λ l. All (λ r. r.range.base ≢ c.args.deed.range.base) l) (sym (ap (λ v. v.ranges) c.self.view_is)) c.requires.absent) in
     absent_in s.policy Rising s.slots s.room s.rising x.rising s.clock c.put-slot.result t x.tags is absent
@@ -47,7 +46,6 @@ enter-requires-2-clause-absent g c =
     let made : t ≡ record { range = c.args.deed; since = s.clock + 1; power = c.ilog2-power.result } = c.tag-tag.ensures ∙ c.new-deed.ensures in
     let held = ap (λ h. h.range.len) c.held_range_of.ensures.value in
     let is = new_tag s.clock c.ilog2-power.result c.len.result c.args.deed t made c.held_range_of.ensures.range (c.len.ensures.value ∙ held) c.ilog2-power.ensures.power_le c.ilog2-power.ensures.next_power_gt c.ilog2-power.ensures.bound in
-    let now = ap (λ u. u.since) made in
     let base = sym (ap (λ u. u.range.range.base) made) in
     let absent = subst (λ b. All (λ r. r.range.base ≢ b) (ranges_by_age s.slots.tags)) base (subst (λ l. All (λ r. r.range.base ≢ c.args.deed.range.base) l) (sym (ap (λ v. v.ranges) c.self.view_is)) c.requires.absent) in
     absent_in s.policy Sizes s.slots s.room s.sizes x.sizes s.clock c.put-slot.result t x.tags is absent
