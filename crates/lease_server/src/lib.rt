@@ -10,8 +10,8 @@
 //! in specs/Serving.antt, over the frames of the crate `lease_proto`.
 //!
 //! Each byte is looked at a few times. A line is copied only where it goes over the end of what one
-//! read gave, 16,384 bytes at most. An intake takes no memory, a serving that for the answers to the
-//! lines of one read.
+//! read gave, 16,384 bytes at most. An intake takes no memory, a serving that for the answers to
+//! the lines of one read.
 #![tactic(auto)]
 
 mod faults;
