@@ -170,7 +170,13 @@ fn a_client_has_so_many_leases(rt: HostRuntime) -> Result<(), Fail> {
         b"arena m free 1024 slab 0 magazine 0 exported 0 leased 1024 hand 0\n",
     )?;
     // (each read fills the intake, but for the last)
-    let (ran, output) = run(alloc, input.as_slice(), usize::MAX, Mishap::None, Mishap::None);
+    let (ran, output) = run(
+        alloc,
+        input.as_slice(),
+        usize::MAX,
+        Mishap::None,
+        Mishap::None,
+    );
     assert_eq!(rt; ran, Ok(()));
     assert_eq!(rt; output.as_slice(), expected.as_slice());
     Ok(())
