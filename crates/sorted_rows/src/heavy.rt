@@ -28,7 +28,7 @@ pub fn least_weighing<T: RowEntry>(
     let seat = seat_near(rows, last, key);
     let row = &rows[seat];
     if !row.is_light(measure, least) {
-        let at = row.below_near(key, last.place);
+        let at = row.below_near(key, last.near(seat));
         if let Some(entry) = row.heavy(measure, at, least) {
             return Some(entry);
         }

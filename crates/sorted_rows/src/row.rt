@@ -1,7 +1,7 @@
 //! One row of a list: a short vector with room for 192 entries.
-ghost use Rattle.std.specs.Prelude.{◌≡◌, ◌+◌, ◌-◌, ◌<◌, ◌≤◌, [], ◌++◌, length, take, drop, insert};
-ghost use Rattle.std.specs.Prelude.{remove, slice_index_or, max, IfOk, IfErr, OnErr, IsTrue};
-ghost use Rattle.std.specs.Prelude.{IfSome, Some, None};
+ghost use Rattle.std.specs.Prelude.{◌≡◌, ◌+◌, ◌-◌, ◌*◌, ◌<◌, ◌≤◌, [], ◌++◌, length, take, drop};
+ghost use Rattle.std.specs.Prelude.{insert, remove, slice_index_or, max, IfOk, IfErr, OnErr};
+ghost use Rattle.std.specs.Prelude.{IsTrue, IfSome, Some, None};
 ghost use Rattle.std.specs.List.{find};
 ghost use Rattle.sorted_rows.specs.Order.{Rises, IsRankAt, FirstIs};
 ghost use Rattle.sorted_rows.specs.Weights.{greatest_weight, weighs};
@@ -12,6 +12,9 @@ use std::marker::Model;
 
 /// The greatest number of entries in a row.
 pub const ROW: usize = 192;
+
+/// The number of entries in a block, by whose last entry a search passes it.
+const BLOCK: usize = 8;
 
 /// A row: its entries, with the key of the first at hand, and the greatest weight by the measure
 /// by which all of it was last searched in vain. A contract sees its entries.
@@ -160,12 +163,15 @@ impl<T: RowEntry> Row<T> {
         self.is_up_to(key, place)
     }
 
-    /// How many entries stand below the key. They are searched through only where they aren't as
-    /// many as `near`, nor one more or less.
-    pub fn below_near(&self, key: u128, near: usize) -> usize
+    /// How many entries stand below the key. They are searched through where `near` isn't given, or
+    /// they aren't as many, nor one more or less.
+    pub fn below_near(&self, key: u128, near: Option<usize>) -> usize
         requires { Rises T.rank self.now }
         ensures { IsRankAt T.rank key self.now result }
     {
+        let Some(near) = near else {
+            return self.below(key);
+        };
         let near = near.min(self.items.len());
         if self.is_place(key, near) {
             return near;
@@ -181,7 +187,7 @@ impl<T: RowEntry> Row<T> {
 
     /// How many entries stand at the key or below it.
     #[tactic(auto, using(crate::proofs::LastLemmas::places_up_to))]
-    pub fn up_to(&self, key: u128, near: usize) -> usize
+    pub fn up_to(&self, key: u128, near: Option<usize>) -> usize
         requires { Rises T.rank self.now }
         ensures { IsRankAt T.rank (key + 1) self.now result }
     {
@@ -260,20 +266,50 @@ impl<T: RowEntry> Row<T> {
     }
 }
 
-/// How many entries stand below the key.
+/// How many entries stand below the key: those of whole blocks, and the rest in the next block.
 fn below_in<T: RowEntry>(items: &[T], key: u128) -> usize
     requires { Rises T.rank items.now }
     ensures { IsRankAt T.rank key items.now result }
 {
-    let mut low = 0;
-    let mut high = items.len();
-    while low < high {
-        let mid = low + (high - low) / 2;
-        if items[mid].key() < key {
-            low = mid + 1;
-        } else {
-            high = mid;
+    let start = blocks_below(items, key) * BLOCK;
+    let rest = &items[start..];
+    start + count_below(&rest[..rest.len().min(BLOCK)], key)
+}
+
+/// How many blocks stand below the key, by their last entries. What a key tells is added, so that
+/// LLVM makes no branch of it.
+fn blocks_below<T: RowEntry>(items: &[T], key: u128) -> usize
+    requires { Rises T.rank items.now }
+    ensures within { result * 8 ≤ length items.now }
+    ensures before { (d : T) → 0 < result
+        → T.rank (slice_index_or items.now (result * 8 - 1) d) < key }
+    ensures after { (d : T) → result * 8 + 7 < length items.now
+        → key ≤ T.rank (slice_index_or items.now (result * 8 + 7) d) }
+{
+    let mut blocks = 0;
+    let mut at = 0;
+    while at < items.len() / BLOCK {
+        let last = at * BLOCK + (BLOCK - 1);
+        if items[last].key() < key {
+            blocks += 1;
         }
+        at += 1;
+    }
+    blocks
+}
+
+/// How many entries stand below the key. All are looked at, and what a key tells is added.
+fn count_below<T: RowEntry>(items: &[T], key: u128) -> usize
+    requires { Rises T.rank items.now }
+    ensures { IsRankAt T.rank key items.now result }
+{
+    let mut low = 0;
+    let mut at = 0;
+    while at < items.len() {
+        if items[at].key() < key {
+            low += 1;
+        }
+        at += 1;
     }
     low
 }

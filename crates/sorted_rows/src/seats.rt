@@ -1,12 +1,16 @@
 //! Rows of one list: where a key belongs, and how rows are edited, split and joined.
-ghost use Rattle.std.specs.Prelude.{◌≡◌, ◌≢◌, ◌+◌, ◌<◌, ◌≤◌, ℕ, suc, [], ◌∷◌, length, All, Any};
-ghost use Rattle.std.specs.Prelude.{IsTrue, ◌⊎◌, ◌↔◌, slice_index_or, vec_len, vec_capacity};
+ghost use Rattle.std.specs.Prelude.{◌≡◌, ◌≢◌, ◌+◌, ◌-◌, ◌<◌, ◌≤◌, ℕ, suc, [], ◌∷◌, length, All};
+ghost use Rattle.std.specs.Prelude.{Any, IsTrue, IfSome, ◌⊎◌, ◌↔◌, slice_index_or, vec_len};
+ghost use Rattle.std.specs.Prelude.{vec_capacity};
 ghost use Rattle.sorted_rows.specs.Order.{PutsIn, TakesOut, StandsAtKey, IsRankAt, first_from};
 ghost use Rattle.sorted_rows.specs.Order.{last_to};
 ghost use Rattle.sorted_rows.specs.Layout.{entries_in, AreShort, IsLaid, IsLoose, IsSeat};
 
 use crate::entries::RowEntry;
 use crate::row::{ROW, Row};
+
+/// So many rows, or fewer, are looked at one by one.
+const FEW_ROWS: usize = 16;
 
 /// A row of a list, and a place in it: where the list was last at, if that is still there.
 #[derive(Clone, Copy, Debug)]
@@ -15,7 +19,20 @@ pub struct Spot {
     pub place: usize,
 }
 
-/// The row where the key belongs.
+impl Spot {
+    /// The place, if it is in this row: where another is searched, it tells nothing.
+    pub fn near(self, seat: usize) -> Option<usize>
+        ensures { IfSome result (λ place. (self.seat ≡ seat) × (self.place ≡ place)) }
+    {
+        if self.seat == seat {
+            Some(self.place)
+        } else {
+            None
+        }
+    }
+}
+
+/// The row where the key belongs. The rows are halved until few are left, and those are counted.
 fn seat_of<T: RowEntry>(rows: &[Row<T>], key: u128) -> usize
     requires laid { IsLaid T.rank rows.now }
     requires some { 0 < length rows.now }
@@ -24,9 +41,23 @@ fn seat_of<T: RowEntry>(rows: &[Row<T>], key: u128) -> usize
     ensures first { (d : T) → 0 < result
         → T.rank (slice_index_or (slice_index_or rows.now result []) 0 d) ≤ key }
 {
+    let (low, high) = halve(rows, key);
+    count_up_to(rows, low, high, key).saturating_sub(1)
+}
+
+/// At least and at most how many rows begin at the key or below it.
+fn halve<T: RowEntry>(rows: &[Row<T>], key: u128) -> (usize, usize)
+    requires laid { IsLaid T.rank rows.now }
+    ensures within { (result.0 ≤ result.1) × (result.1 ≤ length rows.now) }
+    ensures few { result.1 - result.0 ≤ 16 }
+    ensures before { (d : T) → 0 < result.0
+        → T.rank (slice_index_or (slice_index_or rows.now (result.0 - 1) []) 0 d) ≤ key }
+    ensures after { (d : T) → result.1 < length rows.now
+        → key < T.rank (slice_index_or (slice_index_or rows.now result.1 []) 0 d) }
+{
     let mut low = 0;
     let mut high = rows.len();
-    while low < high {
+    while high - low > FEW_ROWS {
         let mid = low + (high - low) / 2;
         if rows[mid].first() <= key {
             low = mid + 1;
@@ -34,7 +65,33 @@ fn seat_of<T: RowEntry>(rows: &[Row<T>], key: u128) -> usize
             high = mid;
         }
     }
-    low.saturating_sub(1)
+    (low, high)
+}
+
+/// How many rows begin at the key or below it, from `low` to `high`. What a key tells is added, as
+/// in a row.
+fn count_up_to<T: RowEntry>(rows: &[Row<T>], low: usize, high: usize, key: u128) -> usize
+    requires laid { IsLaid T.rank rows.now }
+    requires within { (low ≤ high) × (high ≤ length rows.now) }
+    requires before { (d : T) → 0 < low
+        → T.rank (slice_index_or (slice_index_or rows.now (low - 1) []) 0 d) ≤ key }
+    requires after { (d : T) → high < length rows.now
+        → key < T.rank (slice_index_or (slice_index_or rows.now high []) 0 d) }
+    ensures within { result ≤ length rows.now }
+    ensures before { (d : T) → 0 < result
+        → T.rank (slice_index_or (slice_index_or rows.now (result - 1) []) 0 d) ≤ key }
+    ensures after { (d : T) → result < length rows.now
+        → key < T.rank (slice_index_or (slice_index_or rows.now result []) 0 d) }
+{
+    let mut count = low;
+    let mut at = low;
+    while at < high {
+        if rows[at].first() <= key {
+            count += 1;
+        }
+        at += 1;
+    }
+    count
 }
 
 /// Whether the key belongs in this row, which may be none of the list's.
@@ -79,12 +136,12 @@ pub fn spot_near<T: RowEntry>(rows: &[Row<T>], last: Spot, key: u128) -> Spot
 {
     let seat = seat_near(rows, last, key);
     let row = &rows[seat];
-    let place = row.below_near(key, last.place);
+    let place = row.below_near(key, last.near(seat));
     Spot { seat, place }
 }
 
 /// Puts an entry in its row, which may be full then.
-pub fn insert_in<T: RowEntry>(rows: &mut Vec<Row<T>>, seat: usize, near: usize, entry: T)
+pub fn insert_in<T: RowEntry>(rows: &mut Vec<Row<T>>, seat: usize, near: Option<usize>, entry: T)
     requires laid { IsLaid T.rank rows.old.items }
     requires within { seat < vec_len rows.old }
     requires seat { IsSeat T.rank (T.rank entry) rows.old.items seat }
@@ -151,7 +208,7 @@ pub fn put<T: RowEntry>(rows: &mut Vec<Row<T>>, spare: &mut Vec<Row<T>>, last: S
         return;
     }
     let seat = seat_near(rows, last, entry.key());
-    insert_in(rows, seat, last.place, entry);
+    insert_in(rows, seat, last.near(seat), entry);
     if rows[seat].len() == ROW {
         split(rows, seat, spare);
     }
@@ -177,7 +234,7 @@ fn start<T: RowEntry>(rows: &mut Vec<Row<T>>, spare: &mut Vec<Row<T>>, entry: T)
 }
 
 /// Takes an entry out of its row, which may be empty then.
-fn remove_in<T: RowEntry>(rows: &mut Vec<Row<T>>, seat: usize, near: usize, key: u128) -> T
+fn remove_in<T: RowEntry>(rows: &mut Vec<Row<T>>, seat: usize, near: Option<usize>, key: u128) -> T
     requires laid { IsLaid T.rank rows.old.items }
     requires short { AreShort rows.old.items }
     requires within { seat < vec_len rows.old }
@@ -279,7 +336,7 @@ pub fn take<T: RowEntry>(
     ensures spare_capacity { vec_capacity spare.new ≡ vec_capacity spare.old }
 {
     let seat = seat_near(rows, last, key);
-    let entry = remove_in(rows, seat, last.place, key);
+    let entry = remove_in(rows, seat, last.near(seat), key);
     settle(rows, seat, spare);
     entry
 }
@@ -294,7 +351,7 @@ pub fn least_from<T: RowEntry>(rows: &[Row<T>], last: Spot, key: u128) -> Option
     }
     let seat = seat_near(rows, last, key);
     let row = &rows[seat];
-    let at = row.below_near(key, last.place);
+    let at = row.below_near(key, last.near(seat));
     if at < row.len() {
         Some(row.get(at))
     } else if seat + 1 < rows.len() {
@@ -315,7 +372,7 @@ pub fn greatest_to<T: RowEntry>(rows: &[Row<T>], last: Spot, key: u128) -> Optio
     }
     let seat = seat_near(rows, last, key);
     let row = &rows[seat];
-    let upper = row.up_to(key, last.place);
+    let upper = row.up_to(key, last.near(seat));
     if upper == 0 {
         return None;
     }

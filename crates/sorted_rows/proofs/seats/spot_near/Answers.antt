@@ -1,4 +1,4 @@
-use Rattle.std.proofs.Common.{[], sym, ap, ◌∙◌, subst}
+use Rattle.std.proofs.Common.{[], sym, ◌∙◌, subst}
 use Rattle.std.proofs.lemmas.List.{get_or_default}
 use Rattle.sorted_rows.specs.Order.{Rises, IsRankAt}
 use Rattle.sorted_rows.proofs.RowLemmas.{rises_at}

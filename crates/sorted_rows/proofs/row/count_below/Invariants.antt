@@ -1,0 +1,12 @@
+use Rattle.std.proofs.Common.{ℕ, ◌-◌, ◌≤◌, length, get_or}
+use Rattle.sorted_rows.proofs.PlaceLemmas.{IsCount}
+use Rattle.sorted_rows.proofs.row.count_below.Given as goal
+
+abbrev pub invariant-loop-at : goal.invariant-loop-at
+invariant-loop-at g l = record {
+  within : l.at ≤ length l.items;
+  count : IsCount (λ (d : g.row.T.Denot) (k : ℕ). g.T.RowEntry.rank (get_or l.items k d)) l.key l.low l.at;
+}
+
+abbrev pub decreases-loop-at : goal.decreases-loop-at
+decreases-loop-at g l = length l.items - l.at
