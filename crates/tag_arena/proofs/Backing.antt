@@ -9,20 +9,19 @@ one_at_most : (o : Option Holding) → length (option_to_list o) ≤ 1
 one_at_most None = omega arith
 one_at_most (Some h) = omega arith
 
-module _ (policy : Policy) (old more : FreeIndexState) (rest : more ≡ record old { room = more.room }) where
-  -- more room
-  pub backed_more : (out : ℕ) → old.room ≤ more.room → IsBacked policy old out → IsBacked policy more out
+module _ (policy : Policy) (old more : FreeIndexState) (rest : more ≡ record old { room = more.room; ticks = more.ticks }) where
+  -- more room, and time for more
+  pub backed_more : (out : ℕ) → (old.room ≤ more.room) × (old.ticks ≤ more.ticks) → IsBacked policy old out → IsBacked policy more out
   backed_more out grows b =
       let l = ap (λ v. length v.ranges) rest in
-      let t = ap (λ v. v.ticks) rest in
       record {
         policy_is = ap (λ v. v.policy) rest ∙ b.policy_is;
-        room = omega (arith, b.room, grows, l);
-        ticks = omega (arith, b.ticks, t);
+        room = omega (arith, b.room, grows.0, l);
+        ticks = omega (arith, b.ticks, grows.1);
       }
 
   -- and nothing else
-  pub backed_back : (new : FreeIndexState) (out now : ℕ) → old.room ≤ more.room → new ≡ more → now ≡ out → IsBacked policy old out → IsBacked policy new now
+  pub backed_back : (new : FreeIndexState) (out now : ℕ) → (old.room ≤ more.room) × (old.ticks ≤ more.ticks) → new ≡ more → now ≡ out → IsBacked policy old out → IsBacked policy new now
   backed_back new out now grows same len b =
       let m = backed_more out grows b in
       let l = ap (λ v. length v.ranges) same in

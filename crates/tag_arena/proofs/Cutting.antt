@@ -1,84 +1,68 @@
 -- A free range that is cut, and its rests.
-use Rattle.std.proofs.Common.{◌≡◌, ◌≢◌, ℕ, ◌+◌, ◌*◌, ◌^◌, ◌<◌, ◌≤◌, not, sym, ap, subst, ◌∙◌, inl, inr, ⊎_elim, List, [], ◌++◌, length, filter, All, AllPairs, Contains, Option, None, Some, IfSome, option_to_list, arith}
+use Rattle.std.proofs.Common.{◌≡◌, ℕ, ◌+◌, ◌<◌, ◌≤◌, not, sym, ap, subst, ◌∙◌, inl, inr, ⊎_elim, List, [], ◌++◌, length, filter, All, AllPairs, Contains, Option, None, Some, IfSome, option_to_list, arith}
 use Rattle.std.proofs.lemmas.Bool.{cases_Bool}
 use Rattle.std.proofs.lemmas.List.{append_assoc, length-append}
 use Rattle.std.proofs.lemmas.List.Edits.{length-remove}
 use Rattle.std.proofs.lemmas.List.Elements.{All-contains, Contains-append_cases}
-use Rattle.deed_core.specs.Extent.{IsRange, Covers, end_of}
+use Rattle.deed_core.specs.Extent.{IsRange, end_of}
 use Rattle.deed_core.specs.Holding.{Holding, Apart}
-use Rattle.tag_arena.specs.declared.policies.Policy.{Policy}
 use Rattle.tag_arena.specs.Calls.{rest_between, rests, surrounds}
 use Rattle.tag_arena.specs.Neighbors.{Without}
 use Rattle.tag_arena.proofs.Members.{All-from_members, Contains-head, filter_whole}
-use Rattle.tag_arena.proofs.Merging.{none_left, without_kept, without_filter}
-use Rattle.tag_arena.proofs.Ranges.{between_is, surrounds-true, true-surrounds}
-use Rattle.sorted_rows.specs.Order.{Rises, first_from}
-use Rattle.tag_arena.specs.declared.orders.Order.TheVariants.{Rising}
+use Rattle.tag_arena.proofs.Merging.{none_left, without_member, without_kept, without_filter}
+use Rattle.tag_arena.proofs.Ranges.{apart_or_share, between_is, surrounds-true, true-surrounds}
 use Rattle.tag_arena.specs.Cuts.{CarvesOut, IsCut}
-use Rattle.tag_arena.specs.FreeRanges.{IsIndexed}
-use Rattle.tag_arena.specs.Linked.{ListsState}
-use Rattle.tag_arena.specs.FreeTags.{FreeTag, tag_at, ranges_by_age}
-use Rattle.tag_arena.specs.Orders.{rank_of, entry_of, OrderedIndexState}
+use Rattle.tag_arena.specs.FreeTags.{FreeTag}
 use Rattle.tag_arena.specs.Slotted.{SlotsState}
-use Rattle.tag_arena.proofs.Fitting.{tag_of_free}
-use Rattle.tag_arena.proofs.Indexing.{found_first}
-
--- the tag of a free range is found by its base and length
-pub found_range : (policy : Policy) (s : SlotsState) (r z : OrderedIndexState) (l : ListsState) (clock room : ℕ) → IsIndexed policy s r z l clock room → (range : Holding) (base len : ℕ) → Rises rank_of r.items → Contains (ranges_by_age s.tags) range → base ≡ range.range.base → len ≡ range.range.len
-    → (k : ℕ) × (t : FreeTag) × (tag_at s.tags k ≡ Some t) × (t.range ≡ range) × (first_from rank_of (base * 2 ^ 64 + len) r.items ≡ Some (entry_of Rising k t))
-found_range policy s r z l clock room x range base len rises among base_is len_is =
-    let w = tag_of_free s.tags range among in
-    let same = sym w.3 in
-    (w.0, w.1, w.2, w.3, found_first policy s r z l clock room x w.0 w.1 base len rises w.2 (base_is ∙ ap (λ h. h.range.base) same) (len_is ∙ ap (λ h. h.range.len) same))
 
 -- the same slots
 pub same_table : (s s2 : SlotsState) → s2.tags ≡ s.tags → s2.room ≡ s.room → s2 ≡ s
 same_table s s2 tags room = ap (λ (l : List (Option FreeTag)). record { tags = l; room = s2.room }) tags ∙ ap (λ (n : ℕ). record { tags = s.tags; room = n }) room
 
 module _ (old mid : List Holding) (range : Holding) (ranges : All (λ r. IsRange r.range) old) (apart : AllPairs Apart old) (out : Without old range mid) where
-  -- no other range begins in the range
-  pub none_inside : (b : ℕ) → Covers range.range b → All (λ r. r.range.base ≢ b) mid
-  none_inside b inside =
-      All-from_members (λ r. r.range.base ≢ b) mid
-      (λ r h e.
-      let some = (All-contains (λ x. IsRange x.range) old r ranges (without_kept old mid range r out h)).some in
-      none_left old mid range r b apart out h (omega (arith, e), omega (arith, e, some)) inside)
+  -- the others are apart from it
+  others_apart : All (Apart range) mid
+  others_apart =
+      All-from_members (Apart range) mid
+      (λ r h.
+      let some = λ (x : Holding) (in-x : Contains old x). (All-contains (λ y. IsRange y.range) old x ranges in-x).some in
+      ⊎_elim (λ a. a) (λ sh. absurd (none_left old mid range r sh.0 apart out h sh.2 sh.1))
+      (apart_or_share range r (some range (without_member old mid range out)) (some r (without_kept old mid range r out h))))
 
   pub fewer : length mid + 1 ≡ length old
   fewer = ap (λ l. length l + 1) out.3 ∙ length-remove old out.0 out.1
 
-  -- nor does one where a rest does
-  pub absent_rest : (o : Option Holding) (from to : ℕ) → option_to_list o ≡ rest_between range from to → range.range.base ≤ from → to ≤ end_of range.range → IfSome o (λ h. All (λ r. r.range.base ≢ h.range.base) mid)
-  absent_rest None from to is low high = tt
-  absent_rest (Some h) from to is low high =
+  -- and so from a rest of it
+  clear_rest : (o : Option Holding) (from to : ℕ) → option_to_list o ≡ rest_between range from to → range.range.base ≤ from → to ≤ end_of range.range → IfSome o (λ h. All (Apart h) mid)
+  clear_rest None from to is low high = tt
+  clear_rest (Some h) from to is low high =
       let w = between_is range from to h (subst (λ l. Contains l h) is (Contains-head h [])) in
-      subst (λ x. All (λ r. r.range.base ≢ x.range.base) mid) (sym w.1) (none_inside from (low, omega (arith, w.0, high)))
+      let b = ap (λ x. x.range.base) w.1 in
+      let e : end_of h.range ≡ to = ap (λ x. end_of x.range) w.1 ∙ omega (arith, w.0) in
+      All-from_members (Apart h) mid
+      (λ r in-r. ⊎_elim (λ le. inl (omega (arith, le, e, high))) (λ le. inr (omega (arith, le, b, low))) (All-contains (Apart range) mid r others_apart in-r))
 
   module _ (piece : Holding) (low high : Option Holding) (base end : ℕ) (cut : IsCut range base end low piece high) (from : range.range.base ≤ base) (some : base < end) (to : end ≤ end_of range.range) where
-    -- the low rest is no more than a range below the piece
-    low_below : (r : Holding) → Contains (option_to_list low) r → r.range.base ≢ end
-    low_below r h e =
+    pub clear_low : IfSome low (λ h. All (Apart h) mid)
+    clear_low = clear_rest low range.range.base base cut.low_is (omega arith) (omega (arith, some, to))
+
+    -- the low rest ends by the piece
+    low_below : (r : Holding) → Contains (option_to_list low) r → end_of r.range ≤ end
+    low_below r h =
         let w = between_is range range.range.base base r (subst (λ l. Contains l r) cut.low_is h) in
-        let b = ap (λ x. x.range.base) w.1 in
-        omega (arith, b, e, from, some)
+        let e = ap (λ x. end_of x.range) w.1 in
+        omega (arith, e, w.0, some)
 
-    end_absent : (b : ℕ) → b ≡ end → end < end_of range.range → All (λ r. r.range.base ≢ b) (mid ++ option_to_list low)
-    end_absent b is inside =
-        All-from_members (λ r. r.range.base ≢ b) (mid ++ option_to_list low)
-        (λ r h e. ⊎_elim (λ a. All-contains (λ x. x.range.base ≢ end) mid r (none_inside end (omega (arith, from, some), inside)) a (e ∙ is))
-        (λ a. low_below r a (e ∙ is)) (Contains-append_cases mid (option_to_list low) r h))
-
-    pub absent_low : IfSome low (λ h. All (λ r. r.range.base ≢ h.range.base) mid)
-    absent_low = absent_rest low range.range.base base cut.low_is (omega arith) (omega (arith, some, to))
-
-    absent_behind : (o : Option Holding) → option_to_list o ≡ rest_between range end (end_of range.range) → IfSome o (λ h. All (λ r. r.range.base ≢ h.range.base) (mid ++ option_to_list low))
-    absent_behind None is = tt
-    absent_behind (Some h) is =
+    clear_both : (o : Option Holding) → option_to_list o ≡ rest_between range end (end_of range.range) → IfSome o (λ h. All (Apart h) mid) → IfSome o (λ h. All (Apart h) (mid ++ option_to_list low))
+    clear_both None is clear = tt
+    clear_both (Some h) is clear =
         let w = between_is range end (end_of range.range) h (subst (λ l. Contains l h) is (Contains-head h [])) in
-        end_absent h.range.base (ap (λ x. x.range.base) w.1) w.0
+        let b = ap (λ x. x.range.base) w.1 in
+        All-from_members (Apart h) (mid ++ option_to_list low)
+        (λ r in-r. ⊎_elim (λ a. All-contains (Apart h) mid r clear a) (λ a. inr (omega (arith, low_below r a, b))) (Contains-append_cases mid (option_to_list low) r in-r))
 
-    pub absent_high : (now : List Holding) → now ≡ mid ++ option_to_list low → IfSome high (λ h. All (λ r. r.range.base ≢ h.range.base) now)
-    absent_high now is = subst (λ l. IfSome high (λ h. All (λ r. r.range.base ≢ h.range.base) l)) (sym is) (absent_behind high cut.high_is)
+    pub clear_high : (now : List Holding) → now ≡ mid ++ option_to_list low → IfSome high (λ h. All (Apart h) now)
+    clear_high now is = subst (λ l. IfSome high (λ h. All (Apart h) l)) (sym is) (clear_both high cut.high_is (clear_rest high end (end_of range.range) cut.high_is (omega (arith, from, some)) (omega arith)))
 
     -- the rest of the list is as it was
     others_stay : filter (λ r. not (surrounds r piece)) old ≡ mid

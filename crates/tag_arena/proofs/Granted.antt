@@ -1,23 +1,23 @@
 -- The arena's calls, in terms of the index of its free ranges.
-use Rattle.std.proofs.Common.{◌≡◌, ◌≢◌, ℕ, ◌+◌, ◌<◌, Bool, true, refl, sym, ap, subst, ◌∙◌, ⊎_elim, List, [], ◌∷◌, ◌++◌, length, get_or, HoldsAt, All, AllPairs, Contains, Option, None, Some, IfSome, MatchBool, false, option_to_list, arith}
+use Rattle.std.proofs.Common.{◌≡◌, ◌≢◌, ℕ, ◌+◌, ◌<◌, Bool, true, refl, sym, ap, subst, ◌∙◌, inl, inr, ⊎_elim, List, [], ◌∷◌, ◌++◌, length, get_or, HoldsAt, All, AllPairs, Contains, Option, None, Some, IfSome, MatchBool, false, option_to_list, arith}
 use Rattle.std.proofs.lemmas.List.Elements.{All-contains, at_from_Contains, Contains-append_left, Contains-append_right, Contains-get_or}
 use Rattle.std.proofs.lemmas.List.{map-append}
 use Rattle.std.specs.Ordering.{nat_cmp}
 use Rattle.std.specs.FinMap as finmap
 use Rattle.std.specs.FinMap.{FinMap}
-use Rattle.deed_core.specs.Extent.{IsRange, Covers, Overlap, end_of}
+use Rattle.deed_core.specs.Extent.{IsRange, Overlap, end_of}
 use Rattle.deed_core.specs.Holding.{Holding, Apart}
 use Rattle.deed_core.specs.Tag.{Tag}
 use Rattle.deed_core.specs.Request.{rounding_of, IsGood}
 use Rattle.deed_core.specs.declared.requests.Request.{Request}
 use Rattle.tag_arena.specs.ArenaState.{ArenaState, IsDivided, IsSoundArena, spans_of}
 use Rattle.tag_arena.specs.Calls.{part, rest_between, after_carve, IsClear}
-use Rattle.tag_arena.specs.Layout.{IsPartOf}
+use Rattle.tag_arena.specs.Layout.{Holds, IsPartOf}
 use Rattle.tag_arena.specs.Neighbors.{Without}
 use Rattle.tag_arena.proofs.Members.{All-from_members, Contains-head}
 use Rattle.tag_arena.proofs.Granting.{CarvesAt, FoundAt, IsFoundAt, found_carves}
 use Rattle.tag_arena.proofs.Importing.{Imports}
-use Rattle.tag_arena.proofs.Ranges.{apart_or_share, between_is, not_both, same_where_shared}
+use Rattle.tag_arena.proofs.Ranges.{apart_or_share, between_is, same_where_shared}
 use Rattle.tag_arena.proofs.Returning.{LiesIn, positive, span_holds}
 use Rattle.tag_arena.proofs.Sounding.{sound_import}
 use Rattle.tag_arena.proofs.Taking.{IsLowestAt}
@@ -122,26 +122,25 @@ lowest_at owned free new w at within here so out = (
   λ k d from below in-free. so.2 (get_or owned k d) (Contains-get_or owned k d below) in-free,
 )
 
--- no free range begins in one that is apart from all
-pub begins_outside : (a : ArenaState) (h : Holding) (b : ℕ) → IsDivided a → AllPairs Apart (a.free ++ h ∷ []) → Covers h.range b → All (λ r. r.range.base ≢ b) a.free
-begins_outside a h b sound apart inside =
-    All-from_members (λ r. r.range.base ≢ b) a.free
-    (λ r in-r e.
-    let run = (sound.whole.runs r in-r).run in
-    not_both r h b (AllPairs-cross Apart a.free (h ∷ []) apart r h in-r (Contains-head h [])) (omega (arith, e), omega (arith, e, run.some)) inside)
+-- what lies in a range that is apart from each free one is so too
+pub clear_inside : (free : List Holding) (h r : Holding) → AllPairs Apart (free ++ h ∷ []) → Holds h r → All (Apart r) free
+clear_inside free h r apart inside =
+    All-from_members (Apart r) free
+    (λ x in-x. ⊎_elim (λ le. inr (omega (arith, le, inside.from))) (λ le. inl (omega (arith, le, inside.to))) (AllPairs-cross Apart free (h ∷ []) apart x h in-x (Contains-head h [])))
 
--- nor where the rest of a span that is imported does
-absent_in : (a : ArenaState) (t : Tag) (n : ℕ) (k : Imports a t n) (o : Option Holding) → option_to_list o ≡ rest_between t.holding (t.holding.range.base + n) (end_of t.holding.range) → IfSome o (λ h. All (λ r. r.range.base ≢ h.range.base) a.free)
-absent_in a t n k None is = tt
-absent_in a t n k (Some h) is =
+-- so is the rest of a span that is imported
+clear_rest : (a : ArenaState) (t : Tag) (n : ℕ) (k : Imports a t n) (o : Option Holding) → option_to_list o ≡ rest_between t.holding (t.holding.range.base + n) (end_of t.holding.range) → IfSome o (λ h. All (Apart h) a.free)
+clear_rest a t n k None is = tt
+clear_rest a t n k (Some h) is =
     let w = between_is t.holding (t.holding.range.base + n) (end_of t.holding.range) h (subst (λ l. Contains l h) is (Contains-head h [])) in
     let b : h.range.base ≡ t.holding.range.base + n = ap (λ x. x.range.base) w.1 in
+    let e : end_of h.range ≡ end_of t.holding.range = ap (λ x. end_of x.range) w.1 ∙ omega (arith, w.0) in
     let added = sound_import a k.sound.divided t k.range k.aligned k.clear k.route in
-    begins_outside a t.holding h.range.base k.sound.divided added.whole.free_apart (omega (arith, b), omega (arith, b, w.0))
+    clear_inside a.free t.holding h added.whole.free_apart (record { from = omega (arith, b); to = omega (arith, e) })
 
-pub absent_behind : (a : ArenaState) (t : Tag) (n : ℕ) (k : Imports a t n) (o : Option Holding) → option_to_list o ≡ rest_between t.holding (t.holding.range.base + n) (end_of t.holding.range)
-    → (free : List Holding) → free ≡ a.free → IfSome o (λ h. All (λ r. r.range.base ≢ h.range.base) free)
-absent_behind a t n k o is free same = subst (λ xs. IfSome o (λ h. All (λ r. r.range.base ≢ h.range.base) xs)) (sym same) (absent_in a t n k o is)
+pub clear_behind : (a : ArenaState) (t : Tag) (n : ℕ) (k : Imports a t n) (o : Option Holding) → option_to_list o ≡ rest_between t.holding (t.holding.range.base + n) (end_of t.holding.range)
+    → (free : List Holding) → free ≡ a.free → IfSome o (λ h. All (Apart h) free)
+clear_behind a t n k o is free same = subst (λ xs. IfSome o (λ h. All (Apart h) xs)) (sym same) (clear_rest a t n k o is)
 
 -- a span that comes back whole was lent
 pub lent_there : (A : Type 0) (B : Type 0) (lent : Bool) → MatchBool lent A B → lent ≡ true → A

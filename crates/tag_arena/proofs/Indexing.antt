@@ -1,8 +1,8 @@
 -- The index of the free ranges, with one more and one less.
-use Rattle.std.proofs.Common.{◌≡◌, ◌≢◌, ℕ, ◌+◌, ◌*◌, ◌^◌, ◌<◌, ◌≤◌, sym, ap, subst, ◌∙◌, ⊎_elim, List, [], ◌∷◌, ◌++◌, true, length, map, All, Any, Contains, Option, None, Some, slice_get, arith}
+use Rattle.std.proofs.Common.{◌≡◌, ◌≢◌, ℕ, ◌+◌, ◌*◌, ◌^◌, ◌<◌, ◌≤◌, sym, ap, subst, ◌∙◌, ⊎_elim, Bool, List, [], ◌∷◌, ◌++◌, true, length, map, All, Any, Contains, Option, None, Some, arith}
 use Rattle.std.proofs.lemmas.List.{get_or-map, length-map, map_push}
 use Rattle.std.proofs.lemmas.List.Elements.{All-contains}
-use Rattle.std.proofs.lemmas.Option.{slice_get-get_or, slice_get_cases}
+use Rattle.std.proofs.lemmas.Option.{slice_get_cases}
 use Rattle.deed_core.specs.Extent.{IsRange}
 use Rattle.deed_core.specs.Holding.{Holding}
 use Rattle.tag_arena.specs.declared.policies.Policy.{Policy}
@@ -14,13 +14,13 @@ use Rattle.tag_arena.specs.declared.orders.Order.TheVariants.{Rising, Sizes}
 use Rattle.tag_arena.specs.FreeTags.{FreeTag, range_of, tag_at, SlotBecomes, tags_by_age, ranges_by_age, IsTag, IsTimed, AreTags}
 use Rattle.tag_arena.specs.Orders.{rank_of, entry_of, OrderedIndexState, Mirrors, KeepsUp, HasRoomForOne, IsAbsent}
 use Rattle.tag_arena.specs.Slotted.{SlotsState, taken_count}
-use Rattle.tag_arena.specs.FreeRanges.{MeetsLists, MeetsPolicy, IsIndexed}
+use Rattle.tag_arena.specs.FreeRanges.{MeetsLists, MeetsOrder, IsIndexed, keeps_sizes}
 use Rattle.tag_arena.specs.Linked.{ListsState, IsLinked, lists_room}
 use Rattle.tag_arena.specs.declared.entries.IndexEntry.{IndexEntry}
-use Rattle.tag_arena.proofs.Listing.{None≢Some, Some-injective, map-remove, place_of_member}
+use Rattle.tag_arena.proofs.Listing.{None≢Some, Some-injective, map-remove}
 use Rattle.tag_arena.proofs.Members.{All-from_members}
 use Rattle.tag_arena.proofs.Aging.{in_tags_by_age, from_tags_by_age, length-tags_by_age, put_cases, timed_put, aged_put, take_cases, timed_take, aged_take}
-use Rattle.tag_arena.proofs.Mirroring.{place_for, absent_for}
+use Rattle.tag_arena.proofs.Mirroring.{place_for, absent_for, own}
 use Rattle.tag_arena.proofs.Searching.{is_first, none_from}
 
 -- the range of a tag is one of the free ranges
@@ -57,25 +57,25 @@ differs tags t absent j u here = All-contains (λ r. r.range.base ≢ t.range.ra
 
 module _ (policy : Policy) (s s2 : SlotsState) (r z : OrderedIndexState) (l : ListsState) (r2 z2 : OrderedIndexState) (l2 : ListsState) (clock room k : ℕ) (t : FreeTag) (x : IsIndexed policy s r z l clock room) where
   pub indexed_put : tag_at s.tags k ≡ None → SlotBecomes s.tags s2.tags k (Some t) → s2.room ≡ s.room → IsTag (clock + 1) t → t.since ≡ clock + 1
-      → MeetsPolicy policy Rising s2 room r2 → MeetsPolicy policy Sizes s2 room z2 → MeetsLists policy s2 l2 → IsIndexed policy s2 r2 z2 l2 (clock + 1) room
+      → MeetsOrder r.kept Rising s2 room r2 → MeetsOrder (keeps_sizes policy) Sizes s2 room z2 → MeetsLists policy s2 l2 → IsIndexed policy s2 r2 z2 l2 (clock + 1) room
   indexed_put vacant becomes same is now hr hz hl =
       let later = newer clock k s.tags s2.tags t x.tags now in
       record {
         timed = timed_put s.tags s2.tags k t x.timed vacant becomes later;
         tags = λ j u here. ⊎_elim (λ a. subst (IsTag (clock + 1)) a.1 is) (λ a. tags_later clock s.tags x.tags j u a.1) (put_cases s.tags s2.tags k t becomes j u here);
         slots_room = omega (arith, x.slots_room, same);
-        rising = hr;
+        rising = own hr;
         sizes = hz;
         lists_meet = hl;
       }
 
   pub indexed_take : tag_at s.tags k ≡ Some t → SlotBecomes s.tags s2.tags k None → s2.room ≡ s.room
-      → MeetsPolicy policy Rising s2 room r2 → MeetsPolicy policy Sizes s2 room z2 → MeetsLists policy s2 l2 → IsIndexed policy s2 r2 z2 l2 clock room
+      → MeetsOrder r.kept Rising s2 room r2 → MeetsOrder (keeps_sizes policy) Sizes s2 room z2 → MeetsLists policy s2 l2 → IsIndexed policy s2 r2 z2 l2 clock room
   indexed_take here becomes same hr hz hl = record {
     timed = timed_take s.tags s2.tags k t x.timed here becomes;
     tags = λ j u stays. x.tags j u (take_cases s.tags s2.tags k t becomes j u stays).1;
     slots_room = omega (arith, x.slots_room, same);
-    rising = hr;
+    rising = own hr;
     sizes = hz;
     lists_meet = hl;
   }
@@ -99,68 +99,60 @@ module _ (old new : List (Option FreeTag)) (k : ℕ) (t : FreeTag) (timed : IsTi
       let a = aged_take old new k t timed here becomes in
       (a.0, omega (arith, a.1, length-map (tags_by_age old) range_of), (λ d. get_or-map range_of (tags_by_age old) a.0 t d a.1 ∙ ap range_of (a.2 t)), ap (map range_of) a.3 ∙ map-remove range_of (tags_by_age old) a.0)
 
+-- the order by base has the tags
+pub rising_mirrors : (policy : Policy) (s : SlotsState) (r z : OrderedIndexState) (l : ListsState) (clock room : ℕ) → IsIndexed policy s r z l clock room → r.kept ≡ true → Mirrors Rising r.items s.tags
+rising_mirrors policy s r z l clock room x kept =
+    let up = subst (λ b. KeepsUp b r.order r.items r.room s.tags room) kept x.rising.keeps_up in
+    subst (λ o. Mirrors o r.items s.tags) x.rising.order_is up.0
+
 -- where ranges stand in the order by base
-module _ (policy : Policy) (s : SlotsState) (r z : OrderedIndexState) (l : ListsState) (clock room : ℕ) (x : IsIndexed policy s r z l clock room) where
-  pub rising_mirrors : Mirrors Rising r.items s.tags
-  rising_mirrors =
-      let up = subst (λ b. KeepsUp b r.order r.items r.room s.tags room) x.rising.kept_is x.rising.keeps_up in
-      subst (λ o. Mirrors o r.items s.tags) x.rising.order_is up.0
-
-  -- a range is found by its base and length
-  pub found_first : (k : ℕ) (t : FreeTag) (base len : ℕ) → Rises rank_of r.items → tag_at s.tags k ≡ Some t → base ≡ t.range.range.base → len ≡ t.range.range.len → first_from rank_of (base * 2 ^ 64 + len) r.items ≡ Some (entry_of Rising k t)
-  found_first k t base len rises here base_is len_is =
-      let c = rising_mirrors.into k t here in
-      let e0 = entry_of Rising k t in
-      let key : base * 2 ^ 64 + len ≡ rank_of e0 = omega (arith, base_is, len_is) in
-      let place : place_below rank_of (base * 2 ^ 64 + len) r.items ≡ c.0 = ap (λ n. place_below rank_of n r.items) key ∙ place_of_member rank_of r.items e0 c.0 rises c.1 c.2 in
-      ap (λ p. slice_get r.items p) place ∙ (slice_get-get_or r.items c.0 e0 c.1 ∙ ap (λ e. Some e) c.2)
-
+module _ (clock : ℕ) (items : List IndexEntry) (tags : List (Option FreeTag)) (m : Mirrors Rising items tags) (are : AreTags clock tags) where
   -- one that begins at a base is found by the base alone
-  pub found_at : (base : ℕ) → Rises rank_of r.items → Any (λ h. h.range.base ≡ base) (ranges_by_age s.tags)
-      → (k : ℕ) × (t : FreeTag) × (tag_at s.tags k ≡ Some t) × (t.range.range.base ≡ base) × (first_from rank_of (base * 2 ^ 64 + 0) r.items ≡ Some (entry_of Rising k t))
+  pub found_at : (base : ℕ) → Rises rank_of items → Any (λ h. h.range.base ≡ base) (ranges_by_age tags)
+      → (k : ℕ) × (t : FreeTag) × (tag_at tags k ≡ Some t) × (t.range.range.base ≡ base) × (first_from rank_of (base * 2 ^ 64 + 0) items ≡ Some (entry_of Rising k t))
   found_at base rises present =
       let key : ℕ = base * 2 ^ 64 + 0 in
-      let w = tag_of_range s.tags (λ h. h.range.base ≡ base) present in
+      let w = tag_of_range tags (λ h. h.range.base ≡ base) present in
       let e0 = entry_of Rising w.0 w.1 in
-      let c = rising_mirrors.into w.0 w.1 w.2 in
+      let c = m.into w.0 w.1 w.2 in
       ⊎_elim
       (λ found.
       let e = found.0 in
-      let first = is_first rank_of key r.items rises e found.2 in
-      let m = rising_mirrors.from e (place_below rank_of key r.items, first.within, first.here) in
-      let rank_e = ap rank_of m.2 in
+      let first = is_first rank_of key items rises e found.2 in
+      let n = m.from e (place_below rank_of key items, first.within, first.here) in
+      let rank_e = ap rank_of n.2 in
       let least = first.least e0 c (omega (arith, w.3)) in
-      let top = (x.tags w.0 w.1 w.2).range.below in
-      let top_e = (x.tags e.slot m.0 m.1).range.below in
+      let top = (are w.0 w.1 w.2).range.below in
+      let top_e = (are e.slot n.0 n.1).range.below in
       let from = first.from in
-      (e.slot, m.0, m.1, omega (arith, from, least, rank_e, w.3, top, top_e), found.2 ∙ ap (λ y. Some y) m.2))
-      (λ none. let below = none_from rank_of key r.items rises none.1 e0 c in absurd (omega (arith, below, w.3)))
-      (slice_get_cases r.items (place_below rank_of key r.items)).1
+      (e.slot, n.0, n.1, omega (arith, from, least, rank_e, w.3, top, top_e), found.2 ∙ ap (λ y. Some y) n.2))
+      (λ none. let below = none_from rank_of key items rises none.1 e0 c in absurd (omega (arith, below, w.3)))
+      (slice_get_cases items (place_below rank_of key items)).1
 
   -- the first entry from a base on is that of a free range
-  pub first_at : (base : ℕ) → Rises rank_of r.items → (e : IndexEntry) → first_from rank_of (base * 2 ^ 64 + 0) r.items ≡ Some e
-      → (t : FreeTag) × (tag_at s.tags e.slot ≡ Some t) × (e ≡ entry_of Rising e.slot t)
+  pub first_at : (base : ℕ) → Rises rank_of items → (e : IndexEntry) → first_from rank_of (base * 2 ^ 64 + 0) items ≡ Some e
+      → (t : FreeTag) × (tag_at tags e.slot ≡ Some t) × (e ≡ entry_of Rising e.slot t)
   first_at base rises e found =
-      let first = is_first rank_of (base * 2 ^ 64 + 0) r.items rises e found in
-      rising_mirrors.from e (place_below rank_of (base * 2 ^ 64 + 0) r.items, first.within, first.here)
+      let first = is_first rank_of (base * 2 ^ 64 + 0) items rises e found in
+      m.from e (place_below rank_of (base * 2 ^ 64 + 0) items, first.within, first.here)
 
   -- where there is none, or another base, no free range begins there
-  pub none_at : (base : ℕ) → Rises rank_of r.items → first_from rank_of (base * 2 ^ 64 + 0) r.items ≡ None → All (λ h. h.range.base ≢ base) (ranges_by_age s.tags)
+  pub none_at : (base : ℕ) → Rises rank_of items → first_from rank_of (base * 2 ^ 64 + 0) items ≡ None → All (λ h. h.range.base ≢ base) (ranges_by_age tags)
   none_at base rises none =
-      All-from_members (λ h. h.range.base ≢ base) (ranges_by_age s.tags)
+      All-from_members (λ h. h.range.base ≢ base) (ranges_by_age tags)
       (λ h in-h is.
       let w = found_at base rises (in-h.0, h, in-h.1, in-h.2, is) in
       None≢Some (sym none ∙ w.4))
 
-  pub other_at : (base : ℕ) → Rises rank_of r.items → (e : IndexEntry) → first_from rank_of (base * 2 ^ 64 + 0) r.items ≡ Some e → e.major ≢ base → All (λ h. h.range.base ≢ base) (ranges_by_age s.tags)
+  pub other_at : (base : ℕ) → Rises rank_of items → (e : IndexEntry) → first_from rank_of (base * 2 ^ 64 + 0) items ≡ Some e → e.major ≢ base → All (λ h. h.range.base ≢ base) (ranges_by_age tags)
   other_at base rises e found other =
-      All-from_members (λ h. h.range.base ≢ base) (ranges_by_age s.tags)
+      All-from_members (λ h. h.range.base ≢ base) (ranges_by_age tags)
       (λ h in-h is.
       let w = found_at base rises (in-h.0, h, in-h.1, in-h.2, is) in
       other (ap (λ x. x.major) (Some-injective (sym found ∙ w.4)) ∙ w.3))
 
 -- what a kept index asks before a range is put in
-module _ (policy : Policy) (order : Order) (s : SlotsState) (room : ℕ) (i : OrderedIndexState) (is : MeetsPolicy policy order s room i) where
+module _ (kept : Bool) (order : Order) (s : SlotsState) (room : ℕ) (i : OrderedIndexState) (is : MeetsOrder kept order s room i) where
   pub place_in : IsTimed s.tags → length (ranges_by_age s.tags) < room → HasRoomForOne i.kept i.items i.room
   place_in timed lt = place_for i.kept i.order i.items i.room room s.tags is.keeps_up (taken_below s.tags room timed lt)
 

@@ -42,6 +42,8 @@ pub mod Roving
 pub mod Neighboring
 pub mod Ending
 pub mod Cutting
+pub mod Bordering
+pub mod Entering
 pub mod Rejoining
 pub mod Units
 pub mod Backing

@@ -3,7 +3,6 @@ use Rattle.std.proofs.Common.{◌≡◌, ◌≢◌, ℕ, ◌+◌, ◌<◌, refl,
 use Rattle.std.proofs.lemmas.List.{get_or_default}
 use Rattle.std.proofs.lemmas.List.Edits.{length-insert, length-remove}
 use Rattle.tag_arena.proofs.Members.{All-from_members, Contains-remove, remove_kept, remove_pairs}
-use Rattle.tag_arena.specs.declared.policies.Policy.{Policy}
 use Rattle.sorted_rows.specs.Order.{Rises, PutsIn, TakesOut, place_below}
 use Rattle.tag_arena.specs.declared.entries.IndexEntry.{IndexEntry}
 use Rattle.tag_arena.specs.declared.orders.Order.{Order}
@@ -11,7 +10,7 @@ use Rattle.tag_arena.specs.declared.orders.Order.TheVariants.{Rising, Sizes}
 use Rattle.tag_arena.specs.FreeTags.{FreeTag, tag_at, SlotBecomes, IsTag, AreTags}
 use Rattle.tag_arena.specs.Orders.{rank_of, entry_of, OrderedIndexState, Mirrors, KeepsUp, IsAbsent, HasRoomForOne, PutsEntry, TakesEntry}
 use Rattle.tag_arena.specs.Slotted.{SlotsState, taken_count}
-use Rattle.tag_arena.specs.FreeRanges.{MeetsPolicy}
+use Rattle.tag_arena.specs.FreeRanges.{MeetsOrder}
 use Rattle.tag_arena.proofs.Listing.{Some-injective, Contains-inserted, Contains-insert, Contains-insert_cases, rank_at_place, place_of_member}
 use Rattle.tag_arena.proofs.Aging.{put_cases, put_kept, take_cases}
 
@@ -111,9 +110,13 @@ take_for : (kept : Bool) (order : Order) (items items2 : List IndexEntry) (room 
 take_for true order items items2 room wanted tags new k t h here becomes count rises takes cases = (mirrors_take order items tags h.0 new items2 k t here becomes count rises takes cases, h.1)
 take_for false order items items2 room wanted tags new k t h here becomes count rises takes cases = tt
 
+-- an index is kept as it is
+pub own : {kept : Bool} {order : Order} {s : SlotsState} {room : ℕ} {i : OrderedIndexState} → MeetsOrder kept order s room i → MeetsOrder i.kept order s room i
+own m = record { order_is = m.order_is; kept_is = refl; keeps_up = m.keeps_up }
+
 -- an index of an order, with one more and one less
-module _ (policy : Policy) (order : Order) (old new : SlotsState) (room : ℕ) (i i2 : OrderedIndexState) (is : MeetsPolicy policy order old room i) (rest : i2 ≡ record i { items = i2.items }) where
-  kept_so : KeepsUp i.kept i.order i2.items i.room new.tags room → MeetsPolicy policy order new room i2
+module _ (kept : Bool) (order : Order) (old new : SlotsState) (room : ℕ) (i i2 : OrderedIndexState) (is : MeetsOrder kept order old room i) (rest : i2 ≡ record i { items = i2.items }) where
+  kept_so : KeepsUp i.kept i.order i2.items i.room new.tags room → MeetsOrder kept order new room i2
   kept_so h = record {
     order_is = ap (λ x. x.order) rest ∙ is.order_is;
     kept_is = ap (λ x. x.kept) rest ∙ is.kept_is;
@@ -121,9 +124,9 @@ module _ (policy : Policy) (order : Order) (old new : SlotsState) (room : ℕ) (
   }
 
   pub kept_put : (k : ℕ) (t : FreeTag) → tag_at old.tags k ≡ None → SlotBecomes old.tags new.tags k (Some t) → ((j : ℕ) (u : FreeTag) → tag_at old.tags j ≡ Some u → u.since < t.since) → taken_count new.tags ≡ taken_count old.tags + 1
-      → Rises rank_of i.items → PutsEntry i.kept (entry_of i.order k t) i.items i2.items → MeetsPolicy policy order new room i2
+      → Rises rank_of i.items → PutsEntry i.kept (entry_of i.order k t) i.items i2.items → MeetsOrder kept order new room i2
   kept_put k t vacant becomes newer count rises puts = kept_so (put_for i.kept i.order i.items i2.items i.room room old.tags new.tags k t is.keeps_up vacant becomes newer count rises puts)
 
   pub kept_take : (k : ℕ) (t : FreeTag) → tag_at old.tags k ≡ Some t → SlotBecomes old.tags new.tags k None → taken_count new.tags + 1 ≡ taken_count old.tags → Rises rank_of i.items
-      → TakesEntry i.kept (rank_of (entry_of i.order k t)) i.items i2.items → MeetsPolicy policy order new room i2
+      → TakesEntry i.kept (rank_of (entry_of i.order k t)) i.items i2.items → MeetsOrder kept order new room i2
   kept_take k t here becomes count rises takes = kept_so (take_for i.kept i.order i.items i2.items i.room room old.tags new.tags k t is.keeps_up here becomes count rises takes (λ j u e. take_cases old.tags new.tags k t becomes j u e))

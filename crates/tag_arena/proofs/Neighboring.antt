@@ -1,14 +1,15 @@
 -- The free neighbours of a range.
-use Rattle.std.proofs.Common.{◌≡◌, ℕ, ◌-◌, ◌<◌, sym, ap, ◌∙◌, ⊎_elim, List, All, AllPairs, Contains, Option, None, Some, IfSome, arith}
+use Rattle.std.proofs.Common.{◌≡◌, ◌≢◌, ℕ, ◌-◌, ◌<◌, refl, sym, ◌∙◌, ⊎_elim, List, All, AllPairs, Contains, Option, None, Some, IfSome, arith}
 use Rattle.std.proofs.lemmas.Bool.{cases_lt}
 use Rattle.std.proofs.lemmas.List.Elements.{All-contains}
 use Rattle.deed_core.specs.Extent.{Covers, IsRange, end_of}
 use Rattle.deed_core.specs.Holding.{Holding, Apart, GoesOn}
 use Rattle.tag_arena.specs.Layout.{IsPartOf}
 use Rattle.tag_arena.specs.Neighbors.{IsBeside, TakesLeft, Without}
+use Rattle.tag_arena.proofs.Members.{All-from_members}
 use Rattle.tag_arena.proofs.Merging.{without_member}
+use Rattle.tag_arena.specs.Boundaries.{EndsAt}
 use Rattle.tag_arena.specs.Fits.{IsWith}
-use Rattle.tag_arena.proofs.Ranges.{same_where_shared}
 use Rattle.tag_arena.proofs.Roving.{same_begin}
 
 module _ (free : List Holding) (ranges : All (λ r. IsRange r.range) free) (apart : AllPairs Apart free) where
@@ -16,19 +17,22 @@ module _ (free : List Holding) (ranges : All (λ r. IsRange r.range) free) (apar
   pub taken_is : (h r : Holding) (new : List Holding) → Contains free h → Without free r new → r.range.base ≡ h.range.base → r ≡ h
   taken_is h r new in-h out same = same_begin free ranges apart r h (without_member free new r out) in-h same
 
-  -- a free range is the one with its base in it
-  pub with_is : (range : Holding) (o : Option Holding) → IsWith range.range.base free o → Contains free range → o ≡ Some range
-  with_is range None none in-r =
-      let long = (All-contains (λ x. IsRange x.range) free range ranges in-r).some in
-      absurd (All-contains (λ x. ¬ Covers x.range range.range.base) free range none in-r (omega arith, omega (arith, long)))
-  with_is range (Some h) with in-r =
-      let long = (All-contains (λ x. IsRange x.range) free range ranges in-r).some in
-      ap (λ x. Some x) (same_where_shared free h range range.range.base apart with.0 in-r with.1 (omega arith, omega (arith, long)))
-
 -- where the one with the unit below the base in it hasn't the base, it ends there
 pub ends_there : (base : ℕ) (h : Holding) → 0 < base → Covers h.range (base - 1) → ¬ Covers h.range base → end_of h.range ≡ base
 ends_there base h some has hasnt =
     ⊎_elim (λ lt. let low = has.0 in absurd (hasnt (omega (arith, low), lt))) (λ ge. let up = has.1 in omega (arith, ge, up, some)) (cases_lt base (end_of h.range))
+
+-- where the one with the unit below the end in it hasn't the end, it is the one that ends there
+pub ends_with : (end : ℕ) (free : List Holding) (h : Holding) → 0 < end → All (λ r. ¬ Covers r.range end) free → IsWith (end - 1) free (Some h) → EndsAt end free (Some h.range.base)
+ends_with end free h some clear with =
+    (h, with.0, refl, ends_there end h some with.1 (All-contains (λ r. ¬ Covers r.range end) free h clear with.0))
+
+pub none_with : (end : ℕ) (free : List Holding) → 0 < end → All (λ r. IsRange r.range) free → IsWith (end - 1) free None → EndsAt end free None
+none_with end free some ranges none =
+    All-from_members (λ r. end_of r.range ≢ end) free
+    (λ r in-r is.
+    let long = (All-contains (λ x. IsRange x.range) free r ranges in-r).some in
+    All-contains (λ x. ¬ Covers x.range (end - 1)) free r none in-r (omega (arith, is, long), omega (arith, is, some)))
 
 -- a neighbour on the left has the same root
 pub left_goes_on : (span piece : Holding) (old mid : List Holding) (o : Option Holding) (start base : ℕ) → start ≡ span.range.base → base ≡ piece.range.base → IsPartOf span piece → 0 < piece.range.len → All (IsBeside span) old → TakesLeft start base old o mid → IfSome o (λ l. GoesOn l piece)

@@ -6,6 +6,7 @@ use Rattle.tag_arena.specs.declared.policies.Policy.TheVariants.{Best, Next, Ins
 use Rattle.tag_arena.specs.declared.orders.Order.{Order}
 use Rattle.tag_arena.specs.declared.orders.Order.TheVariants.{Rising, Sizes}
 use Rattle.tag_arena.specs.FreeTags.{IsTimed, AreTags}
+use Rattle.tag_arena.specs.Boundaries.{BoundariesState, AreBoundaries}
 use Rattle.tag_arena.specs.Linked.{ListsState, IsLinked, lists_room}
 use Rattle.tag_arena.specs.Orders.{OrderedIndexState, KeepsUp}
 use Rattle.tag_arena.specs.Slotted.{SlotsState}
@@ -18,12 +19,11 @@ pub record FreeIndexState : Type 0 where
   pub room : ℕ
   pub ticks : ℕ
 
--- the orders that a policy asks for; each asks for the rising one
-abbrev pub keeps : Policy → Order → Bool
-keeps policy Rising = true
-keeps Best Sizes = true
-keeps Instant Sizes = true
-keeps Next Sizes = false
+-- the policies that ask for the order of sizes; for them boundaries may stand in for that of bases
+abbrev pub keeps_sizes : Policy → Bool
+keeps_sizes Best = true
+keeps_sizes Instant = true
+keeps_sizes Next = false
 
 -- `instant` alone asks for the power-of-two lists
 abbrev pub keeps_lists : Policy → Bool
@@ -31,11 +31,11 @@ keeps_lists Instant = true
 keeps_lists Best = false
 keeps_lists Next = false
 
--- an index in this order has what its policy asks for
-pub record MeetsPolicy (policy : Policy) (order : Order) (s : SlotsState) (room : ℕ)
+-- an index in this order, where it is kept, has the tags of the slots
+pub record MeetsOrder (kept : Bool) (order : Order) (s : SlotsState) (room : ℕ)
     (i : OrderedIndexState) : Type 0 where
   pub order_is : i.order ≡ order
-  pub kept_is : i.kept ≡ keeps policy order
+  pub kept_is : i.kept ≡ kept
   pub keeps_up : KeepsUp i.kept i.order i.items i.room s.tags room
 
 -- where the policy asks for them, the power-of-two lists have the tags of the slots
@@ -44,14 +44,21 @@ pub record MeetsLists (policy : Policy) (s : SlotsState) (l : ListsState) : Type
   pub linked : l.kept ≡ true → IsLinked l s.tags
   pub room : l.kept ≡ true → s.room ≤ lists_room l
 
+-- a range's neighbors are told by the boundaries of the tags, or else by the order of bases
+pub record MeetsBoundaries (policy : Policy) (s : SlotsState) (by_base : Bool)
+    (b : BoundariesState) : Type 0 where
+  pub allowed : b.kept ≡ true → keeps_sizes policy ≡ true
+  pub are : b.kept ≡ true → AreBoundaries b s.tags
+  pub order : b.kept ≡ false → by_base ≡ true
+
 -- each index has the tags of the slots, and so have the lists
 pub record IsIndexed (policy : Policy) (s : SlotsState) (up size : OrderedIndexState)
     (lists : ListsState) (clock room : ℕ) : Type 0 where
   pub timed : IsTimed s.tags
   pub tags : AreTags clock s.tags
   pub slots_room : room ≤ s.room
-  pub rising : MeetsPolicy policy Rising s room up
-  pub sizes : MeetsPolicy policy Sizes s room size
+  pub rising : MeetsOrder up.kept Rising s room up
+  pub sizes : MeetsOrder (keeps_sizes policy) Sizes s room size
   pub lists_meet : MeetsLists policy s lists
 
 -- what is out, so many ranges, can come back without memory, and before time runs out

@@ -1,5 +1,6 @@
 pub mod Layout
 pub mod Linked
+pub mod Boundaries
 pub mod Place
 pub mod Reach
 pub mod Choice

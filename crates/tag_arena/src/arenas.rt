@@ -1,12 +1,13 @@
 //! The arena, on the index of its free ranges.
 ghost use Rattle.std.specs.Prelude.{◌≡◌, ◌+◌, ◌-◌, ◌%◌, ◌^◌, ◌≤◌, ◌↔◌, ◌<◌, [], ℕ, length};
 ghost use Rattle.std.specs.Prelude.{IsTrue, IsOk, IfOk, IfErr, IfSome, OnOk, OnErr, Some};
-ghost use Rattle.std.specs.Prelude.{option_to_list, sum_by};
+ghost use Rattle.std.specs.Prelude.{AllPairs, option_to_list, sum_by};
 ghost use Rattle.std.specs.Bool.{OnTrue, OnFalse};
 ghost use Rattle.std.specs.Int.{IsPowerOfTwo};
 ghost use Rattle.std.specs.Option.{option_map};
 ghost use Rattle.std.specs.FinMap as finmap;
 ghost use Rattle.deed_core.specs.Extent.{IsRange};
+ghost use Rattle.deed_core.specs.Holding.{Apart};
 ghost use Rattle.deed_core.specs.Covering.{covers, covers_tag, covering_held, units_held};
 ghost use Rattle.deed_core.specs.Tag.{Tag};
 ghost use Rattle.deed_core.specs.Request.{IsGood};
@@ -453,12 +454,13 @@ fn reserve_free<D: Deed>(
     tags: &Tags,
     more: usize,
 ) -> Result<(), AllocError>
+    requires apart { AllPairs Apart free.old.ranges }
     ensures room { OnOk result
         (length free.new.ranges + finmap.len tags.now + more ≤ free.new.room) }
     ensures ticks { OnOk result (finmap.len tags.now + more < free.new.ticks) }
     ensures bound { OnOk result (finmap.len tags.now + more < 2 ^ 64) }
-    ensures rest { free.new ≡ record free.old { room = free.new.room } }
-    ensures grows { free.old.room ≤ free.new.room }
+    ensures rest { free.new ≡ record free.old { room = free.new.room; ticks = free.new.ticks } }
+    ensures grows { (free.old.room ≤ free.new.room) × (free.old.ticks ≤ free.new.ticks) }
 {
     let Some(back) = tags.len().checked_add(more) else {
         return Err(AllocError);
@@ -466,10 +468,10 @@ fn reserve_free<D: Deed>(
     let Some(room) = free.len().checked_add(back) else {
         return Err(AllocError);
     };
-    if free.ticks() <= back as u64 {
+    let Some(ticks) = back.checked_add(1) else {
         return Err(AllocError);
-    }
-    free.reserve(alloc, room)
+    };
+    free.reserve(alloc, room, ticks)
 }
 
 /// The `len` units from `base` on, which lie in the range.

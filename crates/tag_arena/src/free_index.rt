@@ -1,4 +1,4 @@
-//! The free ranges of an arena, in the orders and on the lists that its policy asks for.
+//! The free ranges of an arena, in orders, by boundaries and on lists, as its policy asks.
 ghost use Rattle.std.specs.Prelude.{◌≡◌, ◌≢◌, ◌+◌, ◌<◌, ◌≤◌, ◌++◌, ◌∷◌, [], All, Any, OnOk, OnErr};
 ghost use Rattle.std.specs.Prelude.{◌-◌, ◌%◌, ◌^◌, length, max, true, AllPairs, Contains, IfOk};
 ghost use Rattle.std.specs.Prelude.{IfSome, MatchBool, option_to_list};
@@ -7,25 +7,26 @@ ghost use Rattle.deed_core.specs.Covering.{units_held};
 ghost use Rattle.deed_core.specs.Extent.{Covers, IsRange, end_of};
 ghost use Rattle.deed_core.specs.Holding.{Apart};
 ghost use Rattle.deed_core.specs.Request.{IsGood};
+ghost use Rattle.tag_arena.specs.Boundaries.{EndsAt};
 ghost use Rattle.tag_arena.specs.Calls.{part};
 ghost use Rattle.tag_arena.specs.Choice.{IsBestChoice, IsChoice, IsInstantChoice, IsNextChoice};
-ghost use Rattle.tag_arena.specs.declared.policies.Policy.TheVariants.{Instant};
+ghost use Rattle.tag_arena.specs.declared.policies.Policy.TheVariants.{Instant, Next};
 ghost use Rattle.tag_arena.specs.Layout.{IsPartOf};
 ghost use Rattle.tag_arena.specs.Neighbors.{IsBeside, Merges, TakesAt, TakesLeft, TakesRight};
 ghost use Rattle.tag_arena.specs.Neighbors.{Without};
 ghost use Rattle.tag_arena.specs.Cuts.{CarvesOut, IsCut};
-ghost use Rattle.tag_arena.specs.Fits.{base_of, IsFit, IsWith, ServedByList};
-ghost use Rattle.tag_arena.specs.FreeRanges.{keeps};
+ghost use Rattle.tag_arena.specs.Fits.{base_of, IsFit, ServedByList};
+ghost use Rattle.tag_arena.specs.FreeRanges.{keeps_sizes};
 ghost use Rattle.tag_arena.specs.Returns.{ComesBack};
-ghost use Rattle.tag_arena.specs.declared.orders.Order.TheVariants.{Sizes};
 
+use crate::boundaries::{Boundaries, boundaries_of, slot_at};
 use crate::cuts::Cut;
 use crate::earliest::next_fit;
 use crate::held_ranges::{HeldRange, held_range_of};
 use crate::merges::{join_left, join_right};
 use crate::newest_lists::NewestLists;
 use crate::orders::{Order, OrderedIndex};
-use crate::policies::{Policy, has_lists, is_kept};
+use crate::policies::{Policy, has_lists, has_sizes};
 use crate::probes::Probes;
 use crate::searches::{Fit, best_fit, newest, range_with};
 use crate::slots::{Slots, TimedDeed};
@@ -34,21 +35,22 @@ use std::alloc::{AllocError, Global};
 use std::marker::Model;
 
 /// The deeds of the free ranges of an arena. A contract sees the ranges from the oldest to the
-/// newest, how many there may be, and how many more may become free before time runs out.
+/// newest, how many there may be, and how many more may become free without memory.
 pub struct FreeIndex<D: Deed> {
     policy: Policy,
     slots: Slots<D>,
     rising: OrderedIndex,
     sizes: OrderedIndex,
     lists: NewestLists,
+    boundaries: Boundaries,
     clock: u64,
     room: usize,
 }
 
 impl<D: Deed> Model for FreeIndex<D> {
-    ghost use Rattle.std.specs.Prelude.{◌-◌, ◌^◌};
+    ghost use Rattle.std.specs.Prelude.{◌-◌, ◌^◌, min};
     ghost use Rattle.tag_arena.specs.FreeTags.{ranges_by_age};
-    ghost use Rattle.tag_arena.specs.FreeRanges.{FreeIndexState, IsIndexed};
+    ghost use Rattle.tag_arena.specs.FreeRanges.{FreeIndexState, IsIndexed, MeetsBoundaries};
 
     ghost Value = { FreeIndexState };
 
@@ -56,22 +58,16 @@ impl<D: Deed> Model for FreeIndex<D> {
       policy = f.policy;
       ranges = ranges_by_age f.slots.tags;
       room = f.room;
-      ticks = 2 ^ 64 - 1 - f.clock;
+      ticks = min (2 ^ 64 - 1 - f.clock) f.boundaries.more;
     } };
 
     ghost invariant = { λ f.
-        IsIndexed f.policy f.slots f.rising f.sizes f.lists f.clock f.room };
+        IsIndexed f.policy f.slots f.rising f.sizes f.lists f.clock f.room
+        × MeetsBoundaries f.policy f.slots f.rising.kept f.boundaries };
 }
 
-/// An index with nothing in it, which is kept where the policy asks for it.
-fn index_in(alloc: Global, policy: Policy, order: Order) -> OrderedIndex
-    ensures order { result.order ≡ order }
-    ensures is_kept { result.kept ≡ keeps policy order }
-    ensures items { result.items ≡ [] }
-    ensures room { result.room ≡ 0 }
-{
-    OrderedIndex::new(alloc, order, is_kept(policy, order))
-}
+/// With more free ranges than this, boundaries tell neighbors faster than the order of bases does.
+const FEW_RANGES: usize = 64;
 
 impl<D: Deed> FreeIndex<D> {
     /// No free range, and no room for any.
@@ -79,24 +75,44 @@ impl<D: Deed> FreeIndex<D> {
         ensures policy { result.policy ≡ policy }
         ensures ranges { result.ranges ≡ [] }
         ensures room { result.room ≡ 0 }
-        ensures ticks { result.ticks ≡ 2 ^ 64 - 1 }
+        ensures ticks { result.ticks ≡ 0 }
     {
         FreeIndex {
             policy,
             slots: Slots::new(alloc),
-            rising: index_in(alloc, policy, Order::Rising),
-            sizes: index_in(alloc, policy, Order::Sizes),
+            rising: OrderedIndex::new(alloc, Order::Rising, true),
+            sizes: OrderedIndex::new(alloc, Order::Sizes, has_sizes(policy)),
             lists: NewestLists::new(alloc, has_lists(policy)),
+            boundaries: Boundaries::new(alloc, false),
             clock: 0,
             room: 0,
         }
     }
 
-    /// Makes room for `room` free ranges in all. Of all calls this one alone takes memory, and a
-    /// carve what its deed's splits take.
-    pub fn reserve(&mut self, alloc: Global, room: usize) -> Result<(), AllocError>
+    /// Makes room for `room` free ranges in all, and for `ticks` more to become free. Of all calls
+    /// this one alone takes memory, and a carve what its deed's splits take.
+    pub fn reserve(&mut self, alloc: Global, room: usize, ticks: usize) -> Result<(), AllocError>
+        requires apart { AllPairs Apart self.old.ranges }
+        ensures room { OnOk result (self.new.room ≡ max room self.old.room) }
+        ensures ticks { OnOk result (ticks ≤ self.new.ticks) }
+        ensures grows { (self.old.room ≤ self.new.room) × (self.old.ticks ≤ self.new.ticks) }
+        ensures rest { self.new ≡ record self.old {
+          room = self.new.room;
+          ticks = self.new.ticks;
+        } }
+    {
+        if u64::MAX - self.clock < ticks as u64 {
+            return Err(AllocError);
+        }
+        self.boundaries.reserve(ticks)?;
+        self.turn(alloc);
+        self.widen(alloc, room)
+    }
+
+    /// Makes room for `room` free ranges in all.
+    fn widen(&mut self, alloc: Global, room: usize) -> Result<(), AllocError>
         ensures ok { OnOk result (self.new.room ≡ max room self.old.room) }
-        ensures unchanged { OnErr result (self.new.room ≡ self.old.room) }
+        ensures grows { self.old.room ≤ self.new.room }
         ensures rest { self.new ≡ record self.old { room = self.new.room } }
     {
         if room <= self.room {
@@ -110,6 +126,23 @@ impl<D: Deed> FreeIndex<D> {
         Ok(())
     }
 
+    /// Turns from the order of bases to the boundaries, where the policy allows it and there are
+    /// more than a few ranges. It is for speed alone, and need do nothing: where there is no memory
+    /// for them, the order stays.
+    fn turn(&mut self, alloc: Global)
+        requires apart { AllPairs Apart self.old.ranges }
+        ensures unchanged { self.new ≡ self.old }
+    {
+        let is_few = self.slots.taken() <= FEW_RANGES;
+        if is_few || self.boundaries.is_kept() || !has_sizes(self.policy) {
+            return;
+        }
+        if let Ok(boundaries) = boundaries_of(alloc, &self.slots, self.boundaries.more()) {
+            self.boundaries = boundaries;
+            self.rising = OrderedIndex::new(alloc, Order::Rising, false);
+        }
+    }
+
     /// Goes to where a range lies by base. It is for speed alone: the calls that follow there need
     /// no search in the order of bases.
     fn go_to(&mut self, range: HeldRange)
@@ -120,7 +153,7 @@ impl<D: Deed> FreeIndex<D> {
 
     /// A range becomes free: it is the newest. It takes no memory.
     pub fn insert(&mut self, deed: Stored<D>)
-        requires absent { All (λ r. r.range.base ≢ deed.range.base) self.old.ranges }
+        requires clear { All (Apart deed) self.old.ranges }
         requires room { length self.old.ranges < self.old.room }
         requires ticks { 0 < self.old.ticks }
         ensures ranges { self.new.ranges ≡ self.old.ranges ++ deed ∷ [] }
@@ -136,6 +169,7 @@ impl<D: Deed> FreeIndex<D> {
         self.rising.enter(slot, tag);
         self.sizes.enter(slot, tag);
         self.lists.enter(slot, tag);
+        self.boundaries.enter(slot, tag);
     }
 
     /// Takes out the free range that begins at `base`, if there is one.
@@ -143,15 +177,12 @@ impl<D: Deed> FreeIndex<D> {
         ensures taken { TakesAt base self.old.ranges result self.new.ranges }
         ensures rest { self.new ≡ record self.old { ranges = self.new.ranges } }
     {
-        let entry = self.rising.first_from(base, 0)?;
-        if entry.major != base {
-            return None;
-        }
-        let slot = entry.slot;
+        let slot = slot_at(&self.rising, &self.boundaries, base)?;
         let tag = self.slots.tag(slot);
         self.rising.strike(slot, tag);
         self.sizes.strike(slot, tag);
         self.lists.strike(slot, tag);
+        self.boundaries.strike(tag);
         Some(self.slots.take(slot).into_deed())
     }
 
@@ -179,20 +210,6 @@ impl<D: Deed> FreeIndex<D> {
         self.slots.taken()
     }
 
-    /// How many free ranges there may be before it needs more room.
-    pub fn room(&self) -> usize
-        ensures { result ≡ self.now.room }
-    {
-        self.room
-    }
-
-    /// How many more ranges may become free before the clock has run out.
-    pub fn ticks(&self) -> u64
-        ensures { result ≡ self.now.ticks }
-    {
-        u64::MAX - self.clock
-    }
-
     /// How many units the free ranges have.
     pub fn units(&self) -> u128
         ensures { result ≡ units_held self.now.ranges }
@@ -206,29 +223,35 @@ impl<D: Deed> FreeIndex<D> {
         ensures { MatchBool result (Contains self.now.ranges range)
             (¬ Contains self.now.ranges range) }
     {
-        // For its clause: each free range has units.
-        let _ = self.len();
-        let Some(found) = self.range_with(range.base()) else {
+        let Some(slot) = slot_at(&self.rising, &self.boundaries, range.base()) else {
             return false;
         };
-        if found != range {
+        if self.slots.tag(slot).range() != range {
             return false;
         }
         true
     }
 
-    /// The free range with this unit in it.
-    fn range_with(&self, unit: u64) -> Option<HeldRange>
-        requires { AllPairs Apart self.now.ranges }
-        ensures { IsWith unit self.now.ranges result }
+    /// The base of the free range that ends at `end`, if there is one. Where the boundaries aren't
+    /// kept, it is the one with the unit below `end`, since none has the unit `end`.
+    fn base_before(&self, end: u64) -> Option<u64>
+        requires some { 0 < end }
+        requires apart { AllPairs Apart self.now.ranges }
+        requires clear { All (λ r. ¬ Covers r.range end) self.now.ranges }
+        ensures { EndsAt end self.now.ranges result }
     {
-        range_with(&self.slots, &self.rising, unit)
+        if self.boundaries.is_kept() {
+            let slot = self.boundaries.ending_at(end)?;
+            return Some(self.slots.tag(slot).range().base());
+        }
+        let left = range_with(&self.slots, &self.rising, end - 1)?;
+        Some(left.base())
     }
 
     /// The best range that serves the request, and its least address that does. Under `next` there
     /// is no index for it.
     pub fn best(&mut self, quantum: u64, request: &Request, probes: &mut Probes) -> Option<Fit>
-        requires is_kept { keeps self.old.policy Sizes ≡ true }
+        requires is_kept { keeps_sizes self.old.policy ≡ true }
         requires quantum { IsPowerOfTwo quantum }
         requires good { IsGood quantum request.now }
         ensures choice { IsBestChoice quantum request.now self.old.ranges (base_of result) }
@@ -271,7 +294,7 @@ impl<D: Deed> FreeIndex<D> {
     }
 
     /// The least address at or past the rover that serves the request, else the least that does. It
-    /// is what `next` chooses.
+    /// is what `next` chooses, which always has the order of bases.
     pub fn next(
         &mut self,
         rover: u64,
@@ -279,6 +302,7 @@ impl<D: Deed> FreeIndex<D> {
         request: &Request,
         probes: &mut Probes,
     ) -> Option<Fit>
+        requires is_next { self.old.policy ≡ Next }
         requires quantum { IsPowerOfTwo quantum }
         requires good { IsGood quantum request.now }
         requires rover { rover ≤ 2 ^ 62 }
@@ -288,14 +312,8 @@ impl<D: Deed> FreeIndex<D> {
         ensures placed { IfSome result (IsFit quantum request.now self.old.ranges) }
         ensures unchanged { self.new ≡ self.old }
     {
-        next_fit(
-            &self.slots,
-            &mut self.rising,
-            rover,
-            quantum,
-            request,
-            probes,
-        )
+        let (slots, rising) = (&self.slots, &mut self.rising);
+        next_fit(slots, rising, rover, quantum, request, probes)
     }
 
     /// What the policy chooses.
@@ -325,8 +343,7 @@ impl<D: Deed> FreeIndex<D> {
         }
     }
 
-    /// Takes out the free range that ends at `base`, unless the span begins there: the one with the
-    /// unit below it, since none has the unit `base`.
+    /// Takes out the free range that ends at `base`, unless the span begins there.
     fn take_left(&mut self, start: u64, base: u64) -> Option<Stored<D>>
         requires start { start ≤ base }
         requires apart { AllPairs Apart self.old.ranges }
@@ -339,8 +356,8 @@ impl<D: Deed> FreeIndex<D> {
         }
         // For its clause: each free range has units.
         let _ = self.len();
-        let left = self.range_with(base - 1)?;
-        Some(self.take(left.base()))
+        let left = self.base_before(base)?;
+        Some(self.take(left))
     }
 
     /// Takes out the free range that begins at `end`, unless the span ends there.
@@ -401,27 +418,27 @@ impl<D: Deed> FreeIndex<D> {
         requires from { range.range.base ≤ base }
         requires some { base < end }
         requires to { end ≤ end_of range.range }
+        requires apart { AllPairs Apart self.old.ranges }
         ensures cut { IfOk result (λ cut. IsCut range base end cut.low cut.piece cut.high) }
         ensures ranges { OnOk result (Without self.old.ranges range self.new.ranges) }
         ensures unchanged { OnErr result (self.new.ranges ≡ self.old.ranges) }
         ensures rest { self.new ≡ record self.old { ranges = self.new.ranges } }
     {
-        let Some(entry) = self.rising.first_from(range.base(), range.len()) else {
+        let Some(slot) = slot_at(&self.rising, &self.boundaries, range.base()) else {
             unreachable!()
         };
-        let slot = entry.slot;
         let tag = self.slots.tag(slot);
         let cut = self.slots.cut(slot, tag, base, end)?;
         self.rising.strike(slot, tag);
         self.sizes.strike(slot, tag);
         self.lists.strike(slot, tag);
+        self.boundaries.strike(tag);
         Ok(cut)
     }
 
     /// A rest, if there is one, becomes free.
     pub fn insert_rest(&mut self, rest: Option<Stored<D>>)
-        requires absent { IfSome rest (λ h.
-            All (λ r. r.range.base ≢ h.range.base) self.old.ranges) }
+        requires clear { IfSome rest (λ h. All (Apart h) self.old.ranges) }
         requires room { length self.old.ranges < self.old.room }
         requires ticks { 0 < self.old.ticks }
         ensures ranges { self.new.ranges ≡ self.old.ranges ++ option_to_list rest }
@@ -473,6 +490,7 @@ impl<D: Deed> FreeIndex<D> {
             rising: _,
             sizes: _,
             lists: _,
+            boundaries: _,
             clock: _,
             room: _,
         } = self;

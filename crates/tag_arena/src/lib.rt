@@ -17,6 +17,9 @@
 //! * `slots` has each deed in a slot of its own, with the time at which it became free;
 //! * `rising` has the ranges by base, for the neighbors of a range, with their lengths as weights,
 //!   for `next`;
+//! * `boundaries` has the slots by where ranges begin and by where they end, in hashed maps, for
+//!   the neighbors of a range: under `best` and `instant` it takes the place of `rising` for good,
+//!   once there are more than 64 ranges;
 //! * `sizes` has them by length and base, under `best` and `instant`;
 //! * `lists` has them by power-of-two list, linked from the newest to the oldest, under `instant`.
 //!
@@ -24,22 +27,25 @@
 //! and the imported spans, each in the order of their ends, in `Spans`; a contract sees spans in
 //! order of coming.
 //!
-//! What it costs: a call seeks in each index, by a binary search for a row of up to 192 ranges and
-//! one in the row, and moves up to 287 entries. On the lists a range comes and goes without a
-//! search, and `instant` looks at 64 heads at most. `next`, and a request with an `align` or a
-//! `nocross` of its own, pass by the rows that have no room with one look at each; `Arena::probes`
-//! tells how many ranges the last grant tried. Other calls look at more: `Arena::report` at each
-//! slot that a free range ever had, and `Arena::remove_owned` at each owned span below the one that
-//! it takes. A request with a window of its own, from `min` to `max`, may try many ranges that
-//! don't serve it, and one on another grid than the last may weigh many anew. An index takes some
-//! 100 bytes for each range, free or allocated, and the lists 32 to 64, beside 1,024 of each arena:
-//! a carve and a new span make room for what they add, and for each allocated range to become free,
-//! before they change anything. So `Arena::free` and `Arena::remove_owned` take no memory.
+//! What it costs: a call seeks in each index, by a search for a row of up to 192 ranges and one in
+//! the row, and moves up to 287 entries; by boundaries it looks a neighbor up. On the lists a range
+//! comes and goes without a search, and `instant` looks at 64 heads at most. `next`, and a request
+//! with an `align` or a `nocross` of its own, pass by the rows that have no room with one look at
+//! each; `Arena::probes` tells how many ranges the last grant tried. Other calls look at more:
+//! `Arena::report` at each slot that a free range ever had, `Arena::remove_owned` at each owned
+//! span below the one that it takes, and a carve, a new span or an import that turns to boundaries or
+//! makes a map larger, at each range. A request with a window of its own, from `min` to `max`, may
+//! try many ranges that don't serve it, and one on another grid than the last may weigh many anew.
+//! An index takes some 100 bytes for each range, free or allocated, boundaries some 60 to 250, and
+//! the lists 32 to 64, beside 1,024 of each arena: a carve and a new span make room for what they
+//! add, and for each allocated range to become free, before they change anything. So `Arena::free`
+//! and `Arena::remove_owned` take no memory.
 //!
 //! Its rules are those of "Magazines and Vmem" (2001), where no other source is named.
 #![tactic(auto)]
 
 mod arenas;
+mod boundaries;
 mod cuts;
 mod earliest;
 mod entries;
@@ -60,6 +66,7 @@ mod span_entries;
 mod span_searches;
 mod spans;
 mod tags;
+mod unit_slots;
 mod whole_spans;
 
 pub use arenas::{Arena, ArenaReport};

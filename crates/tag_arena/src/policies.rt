@@ -1,8 +1,6 @@
-//! How an arena chooses, and by which orders and lists.
+//! How an arena chooses, and by which orders, boundaries and lists.
 ghost use Rattle.std.specs.Prelude.{◌≡◌};
-ghost use Rattle.tag_arena.specs.FreeRanges.{keeps, keeps_lists};
-
-use crate::orders::Order;
+ghost use Rattle.tag_arena.specs.FreeRanges.{keeps_lists, keeps_sizes};
 
 /// How an arena chooses among its free ranges. That each arena has one, fixed when it is made, is
 /// our own choice.
@@ -16,16 +14,14 @@ pub enum Policy {
     Next,
 }
 
-/// Whether the policy asks for the order. Each asks for the rising one.
-pub(crate) fn is_kept(policy: Policy, order: Order) -> bool
-    ensures { result ≡ keeps policy order }
+/// Whether the policy asks for the order of sizes. For such a one boundaries may stand in for the
+/// order of bases.
+pub(crate) fn has_sizes(policy: Policy) -> bool
+    ensures { result ≡ keeps_sizes policy }
 {
-    match order {
-        Order::Rising => true,
-        Order::Sizes => match policy {
-            Policy::Next => false,
-            Policy::Best | Policy::Instant => true,
-        },
+    match policy {
+        Policy::Next => false,
+        Policy::Best | Policy::Instant => true,
     }
 }
 

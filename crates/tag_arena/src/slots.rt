@@ -1,6 +1,6 @@
 //! Deeds of free ranges in numbered slots.
 ghost use Rattle.std.specs.Prelude.{◌≡◌, ◌+◌, ◌<◌, ◌≤◌, [], None, Some, OnOk, OnErr, IsTrue, ◌↔◌};
-ghost use Rattle.std.specs.Prelude.{All, max, IfOk, sum_by};
+ghost use Rattle.std.specs.Prelude.{All, length, max, IfOk, sum_by};
 ghost use Rattle.deed_core.specs.Extent.{IsRange, end_of};
 ghost use Rattle.tag_arena.specs.Cuts.{IsCut};
 ghost use Rattle.tag_arena.specs.FreeTags.{FreeTag, tag_at, SlotBecomes};
@@ -229,6 +229,24 @@ impl<D: Deed> Slots<D> {
             unreachable!()
         };
         deed.tag()
+    }
+
+    /// How many slots there are, vacant ones among them.
+    pub fn len(&self) -> usize
+        ensures { result ≡ length self.now.tags }
+    {
+        self.slots.len()
+    }
+
+    /// What lies in a slot, if anything does.
+    pub fn peek(&self, slot: usize) -> Option<SlotTag>
+        requires { slot < length self.now.tags }
+        ensures { result ≡ tag_at self.now.tags slot }
+    {
+        match &self.slots[slot] {
+            Some(deed) => Some(deed.tag()),
+            None => None,
+        }
     }
 
     /// How many deeds lie in the slots.

@@ -1,7 +1,7 @@
 use Rattle.std.proofs.Common.{◌≡◌, ℕ, ◌++◌, ◌∷◌, [], List, All, ◌≢◌, refl, subst, sym, ap, ◌∙◌, arith}
 use Rattle.std.proofs.lemmas.List.Elements.{Contains-append_left}
 use Rattle.deed_core.specs.Extent.{Extent, end_of}
-use Rattle.deed_core.specs.Holding.{Holding}
+use Rattle.deed_core.specs.Holding.{Holding, Apart}
 use Rattle.deed_core.specs.Tag.{Tag}
 use Rattle.tag_arena.specs.ArenaState.{ArenaState, OnQuantum}
 use Rattle.tag_arena.specs.Calls.{IsClear}
@@ -10,19 +10,18 @@ use Rattle.tag_arena.proofs.Sounding.{the_state}
 use Rattle.tag_arena.proofs.Using.{added_sound}
 use Rattle.tag_arena.proofs.Backing.{backed_insert}
 use Rattle.tag_arena.specs.Spanned.{holdings_of}
-use Rattle.tag_arena.proofs.Granted.{begins_outside, ends_alone, held_more}
+use Rattle.tag_arena.proofs.Granted.{clear_inside, ends_alone, held_more}
 use Rattle.tag_arena.proofs.arenas.Arena.add_span.Goals as goal
 
-pub insert-requires-clause-absent : goal.insert-requires-clause-absent
-insert-requires-clause-absent g c =
+pub insert-requires-clause-clear : goal.insert-requires-clause-clear
+insert-requires-clause-clear g c =
     let a = the_state c.self.invariant.0 in
     let h : Holding = c.new-stored.result in
     let range : c.range-range.result ≡ h.range = same_range _ h _ c.range-range.ensures.value c.new-stored.ensures in
     let clear = subst (λ (s : ArenaState). IsClear s c.range-range.result × OnQuantum s.quantum c.range-range.result) (sym c.self.view_is) (c.if-has_overlap.ensures.clear, c.if-not-is_aligned.ensures.0 refl) in
     let sound = added_sound a c.self.invariant.0 h c.held_range_of.ensures.range (subst (λ (e : Extent). OnQuantum c.self.inside.quantum e) range clear.1) (subst (λ (e : Extent). IsClear a e) range clear.0) in
-    let some = c.held_range_of.ensures.range.some in
-    subst (λ (xs : List Holding). All (λ r. r.range.base ≢ h.range.base) xs) (sym (ap (λ v. v.ranges) c.reserve_free.ensures.rest))
-    (begins_outside a h h.range.base c.self.invariant.0.divided sound.divided.whole.free_apart (omega arith, omega (arith, some)))
+    subst (λ (xs : List Holding). All (Apart h) xs) (sym (ap (λ v. v.ranges) c.reserve_free.ensures.rest))
+    (clear_inside a.free h h sound.divided.whole.free_apart (record { from = omega arith; to = omega arith }))
 
 pub invariant_of-self-2 : goal.invariant_of-self-2
 invariant_of-self-2 g c =

@@ -13,7 +13,7 @@ use Rattle.tag_arena.proofs.Sounding.{the_state}
 use Rattle.tag_arena.proofs.Returning.{tagged_is, same_tag}
 use Rattle.tag_arena.specs.Spanned.{holdings_of}
 use Rattle.tag_arena.proofs.Backing.{backed_back, backed_import}
-use Rattle.tag_arena.proofs.Granted.{absent_behind, ends_alone}
+use Rattle.tag_arena.proofs.Granted.{clear_behind, ends_alone}
 use Rattle.tag_arena.proofs.arenas.Arena.import.Goals as goal
 
 pub insert-requires-clause-absent : goal.insert-requires-clause-absent
@@ -67,14 +67,14 @@ returns-in-Err-clause-unchanged g c =
     let same = ap (λ (xs : List Tag). record a { imported = xs; free = c.reserve_free.new.free.ranges; allocated = c.remove.new.self }) c.reserve.ensures.items ∙ as_it_was a _ _ (ap (λ v. v.ranges) c.reserve_free.ensures.rest) tags in
     same ∙ c.self.view_is
 
-pub insert_rest-requires-clause-absent : goal.insert_rest-requires-clause-absent
-insert_rest-requires-clause-absent g c =
+pub insert_rest-requires-clause-clear : goal.insert_rest-requires-clause-clear
+insert_rest-requires-clause-clear g c =
     let a = the_state c.self.invariant.0 in
     let t : Tag = c.args.span in
     let n : ℕ = c.args.len in
     let range : IsRange t.holding.range = subst IsRange c.range.ensures.value c.range.ensures.range in
     let k = imports a c.args.self.now t n c.self.invariant.0 c.self.view_is range c.requires.route c.requires.clear c.requires.aligned c.requires.some c.requires.room c.requires.whole in
-    absent_behind a t n k c.in-Ok-cut_first.parts.1 c.in-Ok-cut_first.ensures.high c.reserve_free.new.free.ranges (ap (λ v. v.ranges) c.reserve_free.ensures.rest)
+    clear_behind a t n k c.in-Ok-cut_first.parts.1 c.in-Ok-cut_first.ensures.high c.reserve_free.new.free.ranges (ap (λ v. v.ranges) c.reserve_free.ensures.rest)
 
 pub invariant_of-self-2 : goal.invariant_of-self-2
 invariant_of-self-2 g c =

@@ -1,9 +1,9 @@
 use Rattle.std.proofs.Common.{ap, arith}
-use Rattle.tag_arena.proofs.Rejoining.{merged_absent, merged_fewer}
+use Rattle.tag_arena.proofs.Rejoining.{merged_clear, merged_fewer}
 use Rattle.tag_arena.proofs.free_index.FreeIndex.give_back.Goals as goal
 
-pub insert-requires-clause-absent : goal.insert-requires-clause-absent
-insert-requires-clause-absent g c = merged_absent c.args.span c.args.deed c.merge-merged.result c.args.self.now.ranges c.merge-merged.new.self.ranges c.merge-merged.ensures.merges c.requires.some c.requires.beside c.requires.apart c.requires.clear
+pub insert-requires-clause-clear : goal.insert-requires-clause-clear
+insert-requires-clause-clear g c = merged_clear c.args.span c.args.deed c.merge-merged.result c.args.self.now.ranges c.merge-merged.new.self.ranges c.merge-merged.ensures.merges c.requires.some c.requires.beside c.requires.apart c.requires.clear
 
 pub insert-requires-clause-room : goal.insert-requires-clause-room
 insert-requires-clause-room g c =
