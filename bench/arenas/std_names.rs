@@ -104,6 +104,10 @@ impl<K: Hash + Eq, V> HashMap<K, V> {
     pub fn new(_: Global) -> Self {
         HashMap(Default::default())
     }
+    pub fn reserve(&mut self, more: usize) -> Result<(), AllocError> {
+        self.0.reserve(more);
+        Ok(())
+    }
     pub fn get(&self, key: &K) -> Option<&V> {
         self.0.get(key)
     }
