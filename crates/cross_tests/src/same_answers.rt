@@ -19,7 +19,7 @@ pub(crate) fn run_both(
     range: Range,
     steps: &[Step],
 ) {
-    let mut walk = Walk::new(rt, policy, 1);
+    let mut walk = Walk::new(rt, policy, 1, 16);
     walk.source.add(rt, 1, range);
     for &step in steps {
         match step {
@@ -30,25 +30,56 @@ pub(crate) fn run_both(
     walk.end(rt);
 }
 
-/// Takes 50,000 random calls of arenas of a policy and a quantum, one importing from the other.
-fn walk(rt: &(impl Abort + AllocGlobal), policy: Policy, quantum: u64) {
+/// How many spans and random calls a walk has, and how many segments of an arena are out at most.
+#[derive(Clone, Copy)]
+struct WalkSize {
+    roots: u32,
+    most: u32,
+    calls: u32,
+}
+
+/// Takes random calls of arenas of a policy and a quantum, one importing from the other.
+fn walk(rt: &(impl Abort + AllocGlobal), policy: Policy, quantum: u64, size: WalkSize) {
     let mut chances = Chances::new(quantum);
-    let mut walk = Walk::new(rt, policy, quantum);
-    for root in 0..6 {
-        let range = Range::new(u64::from(root) * 256, 256 - 64 * u64::from(root % 2));
-        walk.source.add(rt, root, range.expect(rt, "a range"));
-    }
-    for _ in 0..50_000 {
+    let mut walk = Walk::new(rt, policy, quantum, size.most);
+    add_roots(rt, &mut walk, size.roots);
+    for _ in 0..size.calls {
         walk.step(rt, &mut chances);
     }
     walk.end(rt);
 }
 
+/// Adds spans to the source, of which every second touches the next.
+fn add_roots(rt: &impl Abort, walk: &mut Walk, roots: u32) {
+    for root in 0..roots {
+        let range = Range::new(u64::from(root) * 256, 256 - 64 * u64::from(root % 2));
+        walk.source.add(rt, root, range.expect(rt, "a range"));
+    }
+}
+
 #[test]
 fn same_answers(rt: HostRuntime) {
+    let size = WalkSize {
+        roots: 6,
+        most: 160,
+        calls: 50_000,
+    };
     for policy in [Policy::Best, Policy::Next, Policy::Instant] {
         for quantum in [1, 4] {
-            walk(&rt, policy, quantum);
+            walk(&rt, policy, quantum, size);
         }
+    }
+}
+
+/// With more than 64 free ranges most of the time, where the index of them is another.
+#[test]
+fn same_answers_of_many(rt: HostRuntime) {
+    let size = WalkSize {
+        roots: 24,
+        most: 400,
+        calls: 15_000,
+    };
+    for policy in [Policy::Best, Policy::Next, Policy::Instant] {
+        walk(&rt, policy, 1, size);
     }
 }

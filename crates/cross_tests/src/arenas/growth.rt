@@ -6,6 +6,7 @@ use super::{
     take_back, try_import,
 };
 use deed_core::{Deed, PlainDeed, Range, Request, Segment};
+use std::alloc::AllocGlobal;
 use std::process::Abort;
 use tag_arena::{Arena, ArenaFault, Policy};
 
@@ -97,4 +98,35 @@ fn calls_can_be_made_again(rt: HostRuntime) {
     end_span(&rt, &mut source, 0, 64);
     end_span(&rt, &mut source, 64, 64);
     close(&rt, source);
+}
+
+/// Carves segments with gaps between them, so many that the arena turns to another index of its
+/// free ranges and that index grows. Where it can't be had, the arena goes on with the first.
+fn make_many_gaps(rt: &(impl Abort + AllocGlobal), policy: Policy) {
+    let Ok(mut held) = Vec::with_capacity(rt.alloc(), 120) else {
+        return;
+    };
+    let mut arena = Arena::new(rt.alloc(), 1, 1, policy);
+    let range = Range::new(0, 480).expect(rt, "a range");
+    add_again(rt, &mut arena, range);
+    let two = Request {
+        align: 4,
+        phase: 1,
+        ..Request::plain(2)
+    };
+    for place in 0..120 {
+        let segment = grant_again(rt, &mut arena, &two, 4 * place + 1, 2);
+        assert!(rt; held.len() < held.capacity());
+        held.push_reserved(segment);
+    }
+    give_all(rt, &mut arena, held);
+    end_span(rt, &mut arena, 0, 480);
+    close(rt, arena);
+}
+
+#[test]
+fn calls_of_many_can_be_made_again(rt: HostRuntime) {
+    for policy in [Policy::Best, Policy::Instant] {
+        make_many_gaps(&rt, policy);
+    }
 }

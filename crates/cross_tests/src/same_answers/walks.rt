@@ -6,14 +6,12 @@ use std::alloc::AllocGlobal;
 use std::process::Abort;
 use tag_arena::Policy;
 
-/// The most segments of an arena that are out.
-const MOST: usize = 160;
-
 /// No walk has more spans.
-const MOST_SPANS: usize = 8;
+const MOST_SPANS: usize = 32;
 
-/// Two arenas with what is out of them.
+/// Two arenas with what is out of them, of each at most so many segments.
 pub(super) struct Walk {
+    most: u32,
     pub(super) source: Bodies,
     child: Bodies,
     leased: Vec<Twins>,
@@ -21,12 +19,18 @@ pub(super) struct Walk {
 }
 
 impl Walk {
-    pub(super) fn new(rt: &(impl Abort + AllocGlobal), policy: Policy, quantum: u64) -> Walk {
+    pub(super) fn new(
+        rt: &(impl Abort + AllocGlobal),
+        policy: Policy,
+        quantum: u64,
+        most: u32,
+    ) -> Walk {
         Walk {
+            most,
             source: Bodies::new(rt, 1, quantum, policy),
             child: Bodies::new(rt, 2, quantum, policy),
-            leased: Vec::with_capacity(rt.alloc(), MOST).expect(rt, "room"),
-            lent: Vec::with_capacity(rt.alloc(), MOST).expect(rt, "room"),
+            leased: Vec::with_capacity(rt.alloc(), most as usize).expect(rt, "room"),
+            lent: Vec::with_capacity(rt.alloc(), most as usize).expect(rt, "room"),
         }
     }
 
@@ -106,20 +110,25 @@ impl Walk {
         }
     }
 
+    /// A place among the segments that are out, or past them.
+    fn place(&self, chances: &mut Chances) -> usize {
+        chances.below(1 + u64::from(self.most)) as usize
+    }
+
     /// A random call.
     pub(super) fn step(&mut self, rt: &impl Abort, chances: &mut Chances) {
         match chances.below(16) {
             0..=4 => self.lease(rt, &chances.request()),
             5..=6 => self.lease_of_child(rt, &chances.request()),
             7..=11 => {
-                let at = chances.below(MOST as u64) as usize;
+                let at = self.place(chances);
                 if at < self.leased.len() {
                     let twins = self.leased.swap_remove(at);
                     self.free(rt, twins);
                 }
             }
             12..=13 => {
-                let at = chances.below(MOST as u64) as usize;
+                let at = self.place(chances);
                 if at < self.lent.len() {
                     let twins = self.lent.swap_remove(at);
                     self.free_of_child(rt, twins);
@@ -135,7 +144,7 @@ impl Walk {
         match chances.below(4) {
             0 => self.turn_span(rt),
             1 => {
-                let at = chances.below(MOST as u64) as usize;
+                let at = self.place(chances);
                 self.free_at_another(rt, at);
             }
             _ => {
@@ -148,6 +157,7 @@ impl Walk {
     /// Frees all, and ends both arenas.
     pub(super) fn end(self, rt: &impl Abort) {
         let Walk {
+            most: _,
             mut source,
             mut child,
             leased,
