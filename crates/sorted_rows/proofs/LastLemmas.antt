@@ -9,7 +9,7 @@ use Rattle.sorted_rows.proofs.PlaceLemmas.{below_is, is_place, place_across}
 use Rattle.sorted_rows.proofs.RowLemmas.{entries_at, any_of}
 
 -- the last of the first ones
-last_of_first : {X : Type 0} (xs : List X) (n : ℕ) (d : X) → 0 < n → n ≤ length xs → last_of (take n xs) ≡ Some (get_or xs (n - 1) d)
+pub last_of_first : {X : Type 0} (xs : List X) (n : ℕ) (d : X) → 0 < n → n ≤ length xs → last_of (take n xs) ≡ Some (get_or xs (n - 1) d)
 last_of_first xs n d some within =
     let long : length (take n xs) ≡ n = length-take-le n xs within in
     let end : length (take n xs) - 1 ≡ n - 1 = omega (arith, long) in

@@ -120,6 +120,24 @@ module _ {X : Type 0} (weight : X → ℕ) where
   pub less_removed : (xs : List X) (p : ℕ) (x : X) (top : ℕ) → top ≡ greatest_weight weight xs → p < length xs → greatest_weight weight (remove xs p) ≤ top
   less_removed xs p x top is lt = let h = greatest_remove xs p x lt in omega (arith, h, is)
 
+  -- nor where another took the place of one, if it weighs less than that,
+  greatest_put : (xs : List X) (p : ℕ) (x d : X) → p < length xs → (greatest_weight weight xs ≡ max (weight (get_or xs p d)) (greatest_weight weight (remove xs p))) × (greatest_weight weight (insert (remove xs p) p x) ≡ max (weight x) (greatest_weight weight (remove xs p)))
+  greatest_put xs p x d lt = (greatest_remove xs p d lt, greatest_insert (remove xs p) p x)
+
+  pub less_put : (xs : List X) (p : ℕ) (x : X) (top w : ℕ) → top ≡ greatest_weight weight xs → w ≡ weight x → w < top → p < length xs → greatest_weight weight (insert (remove xs p) p x) ≤ top
+  less_put xs p x top w is heavy less lt = let h = greatest_put xs p x x lt in omega (arith, h, is, heavy)
+
+  -- which leaves it where the other weighed less,
+  pub top_put_same : (xs : List X) (p : ℕ) (x y : X) (top w v : ℕ) → top ≡ greatest_weight weight xs → w ≡ weight x → w < top → v ≡ weight y → y ≡ get_or xs p y → v ≢ top → p < length xs → top ≡ greatest_weight weight (insert (remove xs p) p x)
+  top_put_same xs p x y top w v is heavy less was at other lt =
+      let h = greatest_put xs p x y lt in
+      let here = ap weight at in
+      omega (arith, h, is, heavy, was, here, other)
+
+  -- and is the new one's weight where that is no less
+  pub top_put_high : (xs : List X) (p : ℕ) (x : X) (top w : ℕ) → top ≡ greatest_weight weight xs → w ≡ weight x → top ≤ w → p < length xs → w ≡ greatest_weight weight (insert (remove xs p) p x)
+  top_put_high xs p x top w is heavy more lt = let h = greatest_put xs p x x lt in omega (arith, h, is, heavy)
+
   -- nor among the first, or among the rest
   pub less_taken : (xs : List X) (k top : ℕ) → top ≡ greatest_weight weight xs → greatest_weight weight (take k xs) ≤ top
   less_taken xs k top is =

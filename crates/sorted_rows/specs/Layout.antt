@@ -1,6 +1,8 @@
 -- Lists in rows.
 use Rattle.std.specs.Prelude.{◌≢◌, ◌<◌, ◌≤◌, ◌+◌, ℕ, List, [], get_or, length, take, drop, suc, All}
+use Rattle.std.specs.Prelude.{Option, Some, None, remove}
 use Rattle.std.specs.List.{flat_map}
+use Rattle.sorted_rows.specs.declared.seats.Spot.{Spot}
 use Rattle.sorted_rows.specs.Order.{Rises}
 
 module _ {X : Type 0} where
@@ -11,6 +13,15 @@ module _ {X : Type 0} where
   -- where in the list the p-th entry of the i-th row stands
   abbrev pub place_in : List (List X) → (i p : ℕ) → ℕ
   place_in rows i p = length (entries_in (take i rows)) + p
+
+  -- an entry stands at the spot
+  abbrev pub IsSpot : List (List X) → Spot → Type 0
+  IsSpot rows s = (s.seat < length rows) × (s.place < length (get_or rows s.seat []))
+
+  -- the entries, but for the one at a spot where one is struck
+  abbrev pub left_in : List (List X) → Option Spot → List X
+  left_in rows None = entries_in rows
+  left_in rows (Some s) = remove (entries_in rows) (place_in rows s.seat s.place)
 
   -- two neighbors never have 96 or fewer between them
   abbrev pub ArePaired : List (List X) → Type 0

@@ -17,10 +17,13 @@
 //! second time wrong which half it is, and LLVM makes no branch of a count. Near the key that
 //! `Rows::go_to` was given last one of the searches, or both, fall away.
 //!
-//! A row that comes to 192 is halved; neighbours with 96 or fewer together are put together. So
-//! with n entries an insert moves at most 287 entries, where it halves a row, a remove at most 191,
-//! and each n / 48 rows' headers; no call is recursive. Once `Rows::reserve` has made room,
-//! `insert` and `remove` take no memory and can't fail: a spare row is there for each split.
+//! An entry that is taken out is struck first: it lies in its row until the next change. One that is
+//! put in next and belongs in its place takes it, and nothing moves: so it is where a free range
+//! gives way to its rest, or to a longer one that it has become part of. A row that comes to 192 is
+//! halved; neighbors with 96 or fewer together are put together. So with n entries a change moves at
+//! most 478 entries, where it takes the struck one out of its row and halves another, and each n / 48
+//! rows' headers; no call is recursive. Once `Rows::reserve` has made room, `insert` and `remove`
+//! take no memory and can't fail: a spare row is there for each split.
 //!
 //! Begin with `Rows`; what an entry is, the trait `RowEntry` says. The form is our own choice.
 #![tactic(auto)]
@@ -30,6 +33,7 @@ mod heavy;
 mod row;
 mod rows;
 mod seats;
+mod struck;
 
 pub use entries::RowEntry;
 pub use rows::Rows;

@@ -163,6 +163,19 @@ impl<T: RowEntry> Row<T> {
         self.is_up_to(key, place)
     }
 
+    /// Whether the key isn't below what stands before the place, nor above what stands behind it.
+    pub fn is_between(&self, place: usize, key: u128) -> bool
+        requires { place < length self.now }
+        ensures above { IsTrue result → (d : T) → 0 < place
+            → T.rank (slice_index_or self.now (place - 1) d) < key }
+        ensures below { IsTrue result → (d : T) → place + 1 < length self.now
+            → key ≤ T.rank (slice_index_or self.now (place + 1) d) }
+    {
+        // For its clause: a row is short.
+        let _ = self.len();
+        self.is_above(key, place) && self.is_up_to(key, place + 1)
+    }
+
     /// How many entries stand below the key. They are searched through where `near` isn't given, or
     /// they aren't as many, nor one more or less.
     pub fn below_near(&self, key: u128, near: Option<usize>) -> usize
@@ -228,6 +241,22 @@ impl<T: RowEntry> Row<T> {
             self.top = greatest_in(&self.items, self.measure, Some(self.top));
         }
         entry
+    }
+
+    /// Puts an entry in the place of another.
+    pub fn set(&mut self, at: usize, entry: T)
+        requires { at < length self.old }
+        ensures { self.new ≡ insert (remove self.old at) at entry }
+    {
+        let old = self.items[at];
+        self.items[at] = entry;
+        self.first = self.items[0].key();
+        let weight = entry.weight(self.measure);
+        if weight >= self.top {
+            self.top = weight;
+        } else if old.weight(self.measure) == self.top {
+            self.top = greatest_in(&self.items, self.measure, Some(self.top));
+        }
     }
 
     /// Moves the upper half of a full row to an empty one.

@@ -8,7 +8,8 @@ ghost use Rattle.sorted_rows.specs.Weights.{first_heavy_from};
 use crate::entries::RowEntry;
 use crate::heavy::least_weighing;
 use crate::row::Row;
-use crate::seats::{Spot, greatest_to, least_from, put, spot_near, take};
+use crate::seats::{Spot, spot_near};
+use crate::struck::{clear, entry_at, greatest_left, least_left, put_over};
 use std::alloc::{AllocError, Global};
 use std::marker::Model;
 
@@ -18,6 +19,8 @@ use std::marker::Model;
 pub struct Rows<T: RowEntry> {
     rows: Vec<Row<T>>,
     spare: Vec<Row<T>>,
+    /// The entry that was taken out last, which lies in its row until the next change.
+    struck: Option<Spot>,
     len: usize,
     room: usize,
     /// Where it was last at, if that is still there: where a search looks first.
@@ -29,12 +32,12 @@ impl<T: RowEntry> Model for Rows<T> {
 
     ghost Value = { RowsState T };
 
-    ghost use Rattle.sorted_rows.specs.Layout.{entries_in};
+    ghost use Rattle.sorted_rows.specs.Layout.{left_in};
     ghost use Rattle.sorted_rows.specs.Stocked.{IsStocked};
 
-    ghost view = { λ a. record { items = entries_in a.rows.items; room = a.room } };
+    ghost view = { λ a. record { items = left_in a.rows.items a.struck; room = a.room } };
 
-    ghost invariant = { λ a. IsStocked T.rank a.rows a.spare a.len a.room };
+    ghost invariant = { λ a. IsStocked T.rank a.rows a.spare a.struck a.len a.room };
 }
 
 impl<T: RowEntry> Rows<T> {
@@ -46,6 +49,7 @@ impl<T: RowEntry> Rows<T> {
         Rows {
             rows: Vec::new(alloc),
             spare: Vec::new(alloc),
+            struck: None,
             len: 0,
             room: 0,
             last: Spot { seat: 0, place: 0 },
@@ -117,7 +121,14 @@ impl<T: RowEntry> Rows<T> {
         ensures items { PutsIn T.rank entry self.old.items self.new.items }
         ensures room { self.new.room ≡ self.old.room }
     {
-        put(&mut self.rows, &mut self.spare, self.last, entry);
+        put_over(
+            &mut self.rows,
+            &mut self.spare,
+            self.struck,
+            self.last,
+            entry,
+        );
+        self.struck = None;
         self.len += 1;
     }
 
@@ -129,7 +140,10 @@ impl<T: RowEntry> Rows<T> {
         ensures value { StandsAtKey T.rank key result self.old.items }
         ensures room { self.new.room ≡ self.old.room }
     {
-        let entry = take(&mut self.rows, &mut self.spare, self.last, key);
+        clear(&mut self.rows, &mut self.spare, self.struck);
+        let spot = spot_near(&self.rows, self.last, key);
+        let entry = entry_at(&self.rows, spot);
+        self.struck = Some(spot);
         self.len -= 1;
         entry
     }
@@ -138,14 +152,14 @@ impl<T: RowEntry> Rows<T> {
     pub fn least_from(&self, key: u128) -> Option<T>
         ensures { result ≡ first_from T.rank key self.now.items }
     {
-        least_from(&self.rows, self.last, key)
+        least_left(&self.rows, self.struck, self.last, key)
     }
 
     /// The last entry at or below the key.
     pub fn greatest_to(&self, key: u128) -> Option<T>
         ensures { result ≡ last_to T.rank key self.now.items }
     {
-        greatest_to(&self.rows, self.last, key)
+        greatest_left(&self.rows, self.struck, self.last, key)
     }
 
     /// The first entry, from the first at or above the key on, that weighs as much as `least` or
@@ -157,6 +171,8 @@ impl<T: RowEntry> Rows<T> {
             self.old.items }
         ensures unchanged { self.new ≡ self.old }
     {
+        clear(&mut self.rows, &mut self.spare, self.struck);
+        self.struck = None;
         least_weighing(&mut self.rows, self.last, measure, key, least)
     }
 }

@@ -95,7 +95,7 @@ fn count_up_to<T: RowEntry>(rows: &[Row<T>], low: usize, high: usize, key: u128)
 }
 
 /// Whether the key belongs in this row, which may be none of the list's.
-fn belongs<T: RowEntry>(rows: &[Row<T>], seat: usize, key: u128) -> bool
+pub fn belongs<T: RowEntry>(rows: &[Row<T>], seat: usize, key: u128) -> bool
     requires laid { IsLaid T.rank rows.now }
     ensures within { IsTrue result → seat < length rows.now }
     ensures seat { IsTrue result → IsSeat T.rank key rows.now seat }
@@ -131,6 +131,7 @@ pub fn seat_near<T: RowEntry>(rows: &[Row<T>], last: Spot, key: u128) -> usize
 pub fn spot_near<T: RowEntry>(rows: &[Row<T>], last: Spot, key: u128) -> Spot
     requires laid { IsLaid T.rank rows.now }
     requires some { 0 < length rows.now }
+    ensures within { result.seat < length rows.now }
     ensures seat { IsSeat T.rank key rows.now result.seat }
     ensures place { IsRankAt T.rank key (slice_index_or rows.now result.seat []) result.place }
 {
@@ -233,26 +234,6 @@ fn start<T: RowEntry>(rows: &mut Vec<Row<T>>, spare: &mut Vec<Row<T>>, entry: T)
     rows.push_reserved(row);
 }
 
-/// Takes an entry out of its row, which may be empty then.
-fn remove_in<T: RowEntry>(rows: &mut Vec<Row<T>>, seat: usize, near: Option<usize>, key: u128) -> T
-    requires laid { IsLaid T.rank rows.old.items }
-    requires short { AreShort rows.old.items }
-    requires within { seat < vec_len rows.old }
-    requires seat { IsSeat T.rank key rows.old.items seat }
-    requires present { Any (λ x. T.rank x ≡ key) (entries_in rows.old.items) }
-    ensures loose { IsLoose T.rank seat rows.new.items }
-    ensures short { AreShort rows.new.items }
-    ensures items { TakesOut T.rank key (entries_in rows.old.items) (entries_in rows.new.items) }
-    ensures value { StandsAtKey T.rank key result (entries_in rows.old.items) }
-    ensures size { length (entries_in rows.new.items) + 1 ≡ length (entries_in rows.old.items) }
-    ensures len { vec_len rows.new ≡ vec_len rows.old }
-    ensures capacity { vec_capacity rows.new ≡ vec_capacity rows.old }
-{
-    let row = &mut rows[seat];
-    let at = row.below_near(key, near);
-    row.remove(at)
-}
-
 /// Moves the entries of the next row into this one, and keeps that row as a spare one. One of the
 /// two may have lost an entry.
 fn merge<T: RowEntry>(rows: &mut Vec<Row<T>>, at: usize, spare: &mut Vec<Row<T>>)
@@ -280,7 +261,7 @@ fn merge<T: RowEntry>(rows: &mut Vec<Row<T>>, at: usize, spare: &mut Vec<Row<T>>
 
 /// Puts the row that has lost an entry together with a neighbor, where the two are small or the
 /// row is empty.
-fn settle<T: RowEntry>(rows: &mut Vec<Row<T>>, at: usize, spare: &mut Vec<Row<T>>)
+pub fn settle<T: RowEntry>(rows: &mut Vec<Row<T>>, at: usize, spare: &mut Vec<Row<T>>)
     requires loose { IsLoose T.rank at rows.old.items }
     requires short { AreShort rows.old.items }
     requires within { at < vec_len rows.old }
@@ -291,6 +272,7 @@ fn settle<T: RowEntry>(rows: &mut Vec<Row<T>>, at: usize, spare: &mut Vec<Row<T>
     ensures items { entries_in rows.new.items ≡ entries_in rows.old.items }
     ensures spare { All (λ r. r ≡ []) spare.new.items }
     ensures len { vec_len rows.new + vec_len spare.new ≡ vec_len rows.old + vec_len spare.old }
+    ensures fewer { vec_len rows.new ≤ vec_len rows.old }
     ensures capacity { vec_capacity rows.new ≡ vec_capacity rows.old }
     ensures spare_capacity { vec_capacity spare.new ≡ vec_capacity spare.old }
 {
@@ -311,34 +293,6 @@ fn goes_with(here: usize, beside: usize) -> bool
     ensures { IsTrue result ↔ ((here ≡ 0) ⊎ (here + beside ≤ 96)) }
 {
     here == 0 || here + beside <= ROW / 2
-}
-
-/// Takes out the entry with this key.
-pub fn take<T: RowEntry>(
-    rows: &mut Vec<Row<T>>,
-    spare: &mut Vec<Row<T>>,
-    last: Spot,
-    key: u128,
-) -> T
-    requires laid { IsLaid T.rank rows.old.items }
-    requires short { AreShort rows.old.items }
-    requires spare { All (λ r. r ≡ []) spare.old.items }
-    requires room { vec_len rows.old + vec_len spare.old ≤ vec_capacity spare.old }
-    requires present { Any (λ x. T.rank x ≡ key) (entries_in rows.old.items) }
-    ensures laid { IsLaid T.rank rows.new.items }
-    ensures short { AreShort rows.new.items }
-    ensures items { TakesOut T.rank key (entries_in rows.old.items) (entries_in rows.new.items) }
-    ensures value { StandsAtKey T.rank key result (entries_in rows.old.items) }
-    ensures size { length (entries_in rows.new.items) + 1 ≡ length (entries_in rows.old.items) }
-    ensures spare { All (λ r. r ≡ []) spare.new.items }
-    ensures len { vec_len rows.new + vec_len spare.new ≡ vec_len rows.old + vec_len spare.old }
-    ensures capacity { vec_capacity rows.new ≡ vec_capacity rows.old }
-    ensures spare_capacity { vec_capacity spare.new ≡ vec_capacity spare.old }
-{
-    let seat = seat_near(rows, last, key);
-    let entry = remove_in(rows, seat, last.near(seat), key);
-    settle(rows, seat, spare);
-    entry
 }
 
 /// The first entry at or above the key.
