@@ -1,7 +1,7 @@
 //! One row of a list: a short vector with room for 192 entries.
 ghost use Rattle.std.specs.Prelude.{◌≡◌, ◌+◌, ◌-◌, ◌*◌, ◌<◌, ◌≤◌, [], ◌++◌, length, take, drop};
 ghost use Rattle.std.specs.Prelude.{insert, remove, slice_index_or, max, IfOk, IfErr, OnErr};
-ghost use Rattle.std.specs.Prelude.{IsTrue, IfSome, Some, None};
+ghost use Rattle.std.specs.Prelude.{IsTrue, IfSome, Some, None, List, ◌∷◌, vec_len, vec_capacity};
 ghost use Rattle.std.specs.List.{find};
 ghost use Rattle.sorted_rows.specs.Order.{Rises, IsRankAt, FirstIs};
 ghost use Rattle.sorted_rows.specs.Weights.{greatest_weight, weighs};
@@ -218,10 +218,7 @@ impl<T: RowEntry> Row<T> {
         requires room { length self.old < 192 }
         ensures { self.new ≡ insert self.old at entry }
     {
-        match self.items.insert(at, entry) {
-            Ok(()) => {}
-            Err(_) => unreachable!(),
-        }
+        put_in(&mut self.items, at, entry);
         self.first = self.items[0].key();
         let weight = entry.weight(self.measure);
         if weight > self.top {
@@ -293,6 +290,27 @@ impl<T: RowEntry> Row<T> {
         self.top = greater(self.top, top);
         next.top = 0;
     }
+}
+
+/// Puts an entry in, where there is room. LLVM makes a `memmove` of a turn by one, where
+/// `Vec::insert` moves entry by entry.
+fn put_in<T: RowEntry>(items: &mut Vec<T>, at: usize, entry: T)
+    requires at { at ≤ vec_len items.old }
+    requires room { vec_len items.old < vec_capacity items.old }
+    ensures items { items.new.items ≡ insert items.old.items at entry }
+    ensures len { vec_len items.new ≡ vec_len items.old + 1 }
+    ensures capacity { vec_capacity items.new ≡ vec_capacity items.old }
+{
+    items.push_reserved(entry);
+    turn_last(items, at);
+}
+
+/// Puts the last entry at a place, and those from there on behind it.
+fn turn_last<T: RowEntry>(items: &mut [T], at: usize)
+    requires { at < length items.old }
+    ensures { (xs : List T) (x : T) → items.old ≡ xs ++ x ∷ [] → items.new ≡ insert xs at x }
+{
+    items[at..].rotate_right(1);
 }
 
 /// How many entries stand below the key: those of whole blocks, and the rest in the next block.
