@@ -9,3 +9,4 @@ pub mod ReadLemmas
 pub mod FramedLemmas
 pub mod ReplyLemmas
 pub mod OperatorLemmas
+pub mod PartLemmas

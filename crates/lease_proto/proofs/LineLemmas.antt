@@ -300,6 +300,12 @@ words_say first words line e = elim (told first (codes "hello") _ _ _ e) [
   ]
 ]
 
+-- they are words
+pub line_words : (first : List ℕ) (words : List (List ℕ)) (line : Line) → line_of_first first words ≡ Ok line → list_all is_word (first ∷ words) ≡ true
+line_words first words line e =
+    let said = words_say first words line e in
+    and_from (is_word first) _ (ap is_word said.1 ∙ first_is_word line) (are_words line words said.0 said.2)
+
 line_says : (bytes : List ℕ) (words : List (List ℕ)) (line : Line) → bytes ≡ join_with_byte 32 words → line_in words ≡ Ok line
     → IsLine line × IsTextOf line bytes
 unfolding line_in

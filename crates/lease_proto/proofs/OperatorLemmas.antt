@@ -12,6 +12,7 @@ use Rattle.lease_proto.specs.declared.operators.MagazineSize.{MagazineSize}
 use Rattle.lease_proto.specs.declared.operators.MagazineSize.TheVariants.{Three, Seven, Fifteen, ThirtyOne}
 use Rattle.lease_proto.specs.declared.operators.OperatorLine.{OperatorLine}
 use Rattle.lease_proto.specs.declared.operators.OperatorLine.TheVariants.{Cpu, Offline, Tick, Resize, Reap, Audit, Clients}
+use Rattle.lease_proto.specs.declared.operators.ServedLine.{ServedLine}
 use Rattle.lease_proto.specs.declared.operators.ServedLine.TheVariants.{Client, Operator}
 use Rattle.lease_proto.specs.Words.{number_in, is_sentence}
 use Rattle.lease_proto.specs.Cpus.{IsCpu, cpu_in}
@@ -22,7 +23,7 @@ use Rattle.lease_proto.specs.Operators.{cpu_line_in, size_in, size_word, resize_
 use Rattle.lease_proto.proofs.WordLemmas.{numbers}
 use Rattle.lease_proto.proofs.ReadLemmas.{step, told, named, number_within_says, word_step, end_step, name_step, words_says, join_with_byte-sentence}
 use Rattle.lease_proto.proofs.GrammarLemmas.{decimal_word, decimal_short, name_short, parts_of-sentence}
-use Rattle.lease_proto.proofs.LineLemmas.{words_say}
+use Rattle.lease_proto.proofs.LineLemmas.{words_say, line_words}
 
 -- an operator's word is no client's
 client_words : (words : List (List ℕ)) (line : Line) → served_in words ≡ Ok (Client line) → line_in words ≡ Ok line
@@ -208,6 +209,22 @@ are_words (Resize r) is =
 are_words Reap is = refl
 are_words Audit is = refl
 are_words Clients is = refl
+
+-- what is served is words
+pub served_words : (words : List (List ℕ)) (s : ServedLine) → served_in words ≡ Ok s → list_all is_word words ≡ true
+unfolding served_in
+served_words [] s e = absurd (cc)
+served_words (first ∷ words) s e = elim (cases_Bool (is_operator_word first)) [
+  | inl own ↦
+      let found : (operator_in first words >>= λ o. Ok (Operator o)) ≡ Ok s = rw own at e in
+      let (o, read, made) = step (operator_in first words) (λ o. Ok (Operator o)) s found in
+      let said = operator_says first words o read in
+      and_from (is_word first) _ (ap is_word said.1 ∙ first_is_word o) (ap (list_all is_word) said.2 ∙ are_words o said.0)
+  | inr other ↦
+      let found : (line_of_first first words >>= λ l. Ok (Client l)) ≡ Ok s = rw other at e in
+      let (l, read, made) = step (line_of_first first words) (λ l. Ok (Client l)) s found in
+      line_words first words l read
+]
 
 short : (o : OperatorLine) → IsOperator o → length (operator_text o) ≤ LONGEST_LINE
 short (Cpu n) is = let d = decimal_short 19 n (omega arith) (omega arith) (omega arith) in simp length-append (omega arith)

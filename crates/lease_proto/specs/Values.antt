@@ -45,6 +45,14 @@ id_in words = do
 abbrev pub name_in : List ℕ → Result (List ℕ) LineFault
 name_in word = if is_name word then Ok word else Err BadLine
 
+-- the parts of a line that is short enough
+abbrev pub short_parts : List ℕ → Result (List (List ℕ)) LineFault
+short_parts line = if nat_lt LONGEST_LINE (length line) then Err TooLong else Ok (parts_of line)
+
+-- the first reason to refuse a line whose parts are refused for this one
+abbrev pub first_reason : List ℕ → LineFault → LineFault
+first_reason line fault = if is_sentence line then fault else BadLine
+
 -- the words of a line that is short enough: words with one space between them
 abbrev pub words_of : List ℕ → Result (List (List ℕ)) LineFault
 words_of line =

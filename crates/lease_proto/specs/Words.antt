@@ -15,15 +15,10 @@ parts_of line = slice_split (λ b. b == 32) line
 abbrev pub is_sentence : List ℕ → Bool
 is_sentence line = list_all is_word (parts_of line)
 
--- the words of what is behind a word, where more is
-abbrev pub words_behind : Option (Bor (List ℕ)) → List (List ℕ)
-words_behind None = []
-words_behind (Some rest) = parts_of rest.now
-
--- the words that are left: one that was cut, and those behind it
-abbrev pub words_left : (word rest : Option (Bor (List ℕ))) → List (List ℕ)
-words_left None rest = []
-words_left (Some word) rest = word.now ∷ words_behind rest
+-- the words that are left of a line, where more is
+abbrev pub words_left : Option (Bor (List ℕ)) → List (List ℕ)
+words_left None = []
+words_left (Some rest) = parts_of rest.now
 
 -- the number that n's digits and these write, up to the largest
 abbrev pub digits_from : ℕ → List ℕ → Option ℕ

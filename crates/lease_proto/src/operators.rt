@@ -9,7 +9,7 @@ use crate::cpus::{CpuNumber, cpu};
 use crate::faults::LineFault;
 use crate::lines::Line;
 use crate::sentences::{Words, name};
-use crate::taking::words;
+use crate::taking::{first_fault, parts};
 use lease_terms::ArenaName;
 
 /// How many rounds a magazine takes, by the word of a line.
@@ -162,12 +162,16 @@ pub enum ServedLine {
 
 impl ServedLine {
     /// The line that these bytes are, or the first reason why they are none. They are given without
-    /// the line feed. It is checked and then cut once, whoever's it is. It takes no memory.
-    #[tactic(auto, unfolding(crate::specs::Operators::served_of))]
+    /// the line feed. It is cut once, whoever's it is. A line whose parts are read is words with one
+    /// space between them, so whether it is that is looked at only where it is refused. It takes no
+    /// memory.
     pub fn read(bytes: &[u8]) -> Result<ServedLine, LineFault>
         ensures { result ≡ served_of bytes.now }
     {
-        ServedLine::of_words(&mut words(bytes)?)
+        match ServedLine::of_words(&mut parts(bytes)?) {
+            Ok(line) => Ok(line),
+            Err(fault) => Err(first_fault(bytes, fault)),
+        }
     }
 
     #[tactic(auto, unfolding(crate::specs::Operators::served_in))]

@@ -3,7 +3,7 @@ ghost use Rattle.std.specs.Prelude.{◌≡◌, ◌==◌, ℕ, List, [], ◌∷�
 ghost use Rattle.std.specs.Prelude.{position};
 ghost use Rattle.lease_proto.specs.Grammar.{word_at, end_at};
 ghost use Rattle.lease_proto.specs.Values.{name_in};
-ghost use Rattle.lease_proto.specs.Words.{words_left, words_behind, parts_of};
+ghost use Rattle.lease_proto.specs.Words.{words_left, parts_of};
 ghost use Rattle.lease_proto.specs.Words as spec;
 
 use crate::faults::LineFault;
@@ -20,18 +20,17 @@ pub fn name(word: &[u8]) -> Result<ArenaName, LineFault>
     }
 }
 
-/// The words of a line that are left to read. A contract sees them as a list. Each is cut once: the
-/// next one is at hand, and what is behind it isn't cut yet.
+/// The words of a line that are left to read. A contract sees them as a list. Each is cut once, when
+/// it is taken: what is left of the line isn't cut yet.
 #[derive(Drop)]
 pub struct Words<'a> {
-    word: Option<&'a [u8]>,
     rest: Option<&'a [u8]>,
 }
 
 impl<'a> Model for Words<'a> {
     ghost Value = { List (List ℕ) };
 
-    ghost view = { λ w. words_left w.word w.rest };
+    ghost view = { λ w. words_left w.rest };
 }
 
 impl<'a> Words<'a> {
@@ -39,48 +38,14 @@ impl<'a> Words<'a> {
     pub(crate) fn new(line: &'a [u8]) -> Self
         ensures { result ≡ parts_of line.now }
     {
-        match first_space(line) {
-            Some(i) => Words {
-                word: Some(&line[..i]),
-                rest: Some(&line[i + 1..]),
-            },
-            None => Words {
-                word: Some(line),
-                rest: None,
-            },
-        }
-    }
-
-    /// The words of what is behind a word that was cut.
-    fn behind(rest: Option<&'a [u8]>) -> Self
-        ensures { result ≡ words_behind rest.entry }
-    {
-        match rest {
-            Some(rest) => Words::new(rest),
-            None => Words {
-                word: None,
-                rest: None,
-            },
-        }
+        Words { rest: Some(line) }
     }
 
     /// The same words, to look ahead.
     pub fn ahead(&self) -> Words<'a>
         ensures { result ≡ self.now }
     {
-        Words {
-            word: self.word,
-            rest: self.rest,
-        }
-    }
-
-    /// The next word, which stays.
-    pub fn first(&self) -> Option<&'a [u8]>
-        ensures { MatchOption result
-            (self.now ≡ [])
-            (λ word. (rest : List (List ℕ)) × (self.now ≡ word.now ∷ rest)) }
-    {
-        self.word
+        Words { rest: self.rest }
     }
 
     /// The next word.
@@ -89,9 +54,17 @@ impl<'a> Words<'a> {
             ((self.old ≡ []) × (self.new ≡ []))
             (λ word. self.old ≡ word.now ∷ self.new) }
     {
-        let word = self.word?;
-        *self = Words::behind(self.rest);
-        Some(word)
+        let rest = self.rest?;
+        match first_space(rest) {
+            Some(i) => {
+                self.rest = Some(&rest[i + 1..]);
+                Some(&rest[..i])
+            }
+            None => {
+                self.rest = None;
+                Some(rest)
+            }
+        }
     }
 
     /// The next word, where the line has to have one: `BadLine` where it has none left.
@@ -107,7 +80,7 @@ impl<'a> Words<'a> {
     pub fn end(&self) -> Result<(), LineFault>
         ensures { result ≡ end_at self.now }
     {
-        match self.first() {
+        match self.rest {
             Some(_) => Err(LineFault::BadLine),
             None => Ok(()),
         }
