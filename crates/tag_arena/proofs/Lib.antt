@@ -15,6 +15,7 @@ pub mod Allocations
 pub mod Counting
 pub mod SpanLists
 pub mod Lookups
+pub mod Striking
 pub mod Sounding
 pub mod Using
 pub mod Reporting

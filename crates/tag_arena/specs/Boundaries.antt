@@ -1,7 +1,7 @@
 -- Where free ranges begin and end, by hashed maps.
 use Rattle.std.specs.Prelude.{◌≡◌, ◌≢◌, ℕ, Bool, List, Option, None, Some, All, Contains}
 use Rattle.std.specs.Ordering.{nat_cmp}
-use Rattle.std.specs.FinMap.{FinMap, get}
+use Rattle.std.specs.FinMap.{FinMap, get, remove}
 use Rattle.deed_core.specs.Extent.{end_of}
 use Rattle.deed_core.specs.Holding.{Holding}
 use Rattle.tag_arena.specs.FreeTags.{FreeTag, tag_at, ranges_by_age}
@@ -10,6 +10,11 @@ use Rattle.tag_arena.specs.FreeTags.{FreeTag, tag_at, ranges_by_age}
 pub record UnitSlotsState : Type 0 where
   pub slots : FinMap nat_cmp ℕ
   pub more : ℕ
+
+-- the slots in the map but that of a struck unit, if there is one
+abbrev pub without_struck : FinMap nat_cmp ℕ → Option ℕ → FinMap nat_cmp ℕ
+without_struck slots None = slots
+without_struck slots (Some unit) = remove slots unit
 
 -- whether they are kept; the slot of the range that begins at each base, and of the one that ends
 -- at each end; and how many more ranges may come

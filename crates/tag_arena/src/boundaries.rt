@@ -17,6 +17,9 @@ use deed_core::Deed;
 use std::alloc::{AllocError, Global};
 use std::marker::Model;
 
+/// With more free ranges than this, boundaries tell neighbors faster than the order of bases does.
+pub const FEW_RANGES: usize = 64;
+
 /// The slots of free ranges by where they begin and by where they end, which may not be kept, and
 /// how many more ranges may come without memory.
 #[derive(Drop)]
@@ -114,8 +117,9 @@ impl Boundaries {
         }
     }
 
-    /// A range goes.
-    pub fn strike(&mut self, tag: SlotTag)
+    /// A range goes. Whether its base and its end are likely to bound the next ranges that come is
+    /// for speed alone.
+    pub fn strike(&mut self, tag: SlotTag, base_again: bool, end_again: bool)
         ensures begins { self.old.kept ≡ true
             → self.new.begins ≡ finmap.remove self.old.begins (begin_of tag) }
         ensures ends { self.old.kept ≡ true
@@ -125,8 +129,8 @@ impl Boundaries {
     {
         if self.kept {
             let range = tag.range();
-            self.begins.take(range.base());
-            self.ends.take(range.end());
+            self.begins.take(range.base(), base_again);
+            self.ends.take(range.end(), end_again);
         }
     }
 

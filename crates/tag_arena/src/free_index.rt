@@ -19,7 +19,7 @@ ghost use Rattle.tag_arena.specs.Fits.{base_of, IsFit, ServedByList};
 ghost use Rattle.tag_arena.specs.FreeRanges.{keeps_sizes};
 ghost use Rattle.tag_arena.specs.Returns.{ComesBack};
 
-use crate::boundaries::{Boundaries, boundaries_of, slot_at};
+use crate::boundaries::{Boundaries, FEW_RANGES, boundaries_of, slot_at};
 use crate::cuts::Cut;
 use crate::earliest::next_fit;
 use crate::held_ranges::{HeldRange, held_range_of};
@@ -65,9 +65,6 @@ impl<D: Deed> Model for FreeIndex<D> {
         IsIndexed f.policy f.slots f.rising f.sizes f.lists f.clock f.room
         × MeetsBoundaries f.policy f.slots f.rising.kept f.boundaries };
 }
-
-/// With more free ranges than this, boundaries tell neighbors faster than the order of bases does.
-const FEW_RANGES: usize = 64;
 
 impl<D: Deed> FreeIndex<D> {
     /// No free range, and no room for any.
@@ -172,8 +169,9 @@ impl<D: Deed> FreeIndex<D> {
         self.boundaries.enter(slot, tag);
     }
 
-    /// Takes out the free range that begins at `base`, if there is one.
-    fn take_at(&mut self, base: u64) -> Option<Stored<D>>
+    /// Takes out the free range that begins at `base`, if there is one. Whether its base and its end
+    /// are likely to bound the next ranges that come is for speed alone.
+    fn take_at(&mut self, base: u64, base_again: bool, end_again: bool) -> Option<Stored<D>>
         ensures taken { TakesAt base self.old.ranges result self.new.ranges }
         ensures rest { self.new ≡ record self.old { ranges = self.new.ranges } }
     {
@@ -182,7 +180,7 @@ impl<D: Deed> FreeIndex<D> {
         self.rising.strike(slot, tag);
         self.sizes.strike(slot, tag);
         self.lists.strike(slot, tag);
-        self.boundaries.strike(tag);
+        self.boundaries.strike(tag, base_again, end_again);
         Some(self.slots.take(slot).into_deed())
     }
 
@@ -195,7 +193,8 @@ impl<D: Deed> FreeIndex<D> {
         ensures room { self.new.room ≡ self.old.room }
         ensures ticks { self.new.ticks ≡ self.old.ticks }
     {
-        match self.take_at(base) {
+        // As the left neighbor of what comes, which then begins there.
+        match self.take_at(base, true, false) {
             Some(deed) => deed,
             None => unreachable!(),
         }
@@ -369,7 +368,7 @@ impl<D: Deed> FreeIndex<D> {
         if end == limit {
             return None;
         }
-        self.take_at(end)
+        self.take_at(end, false, true)
     }
 
     /// The deed and its free neighbours inside the span, which are taken out. It takes no memory.
@@ -432,7 +431,8 @@ impl<D: Deed> FreeIndex<D> {
         self.rising.strike(slot, tag);
         self.sizes.strike(slot, tag);
         self.lists.strike(slot, tag);
-        self.boundaries.strike(tag);
+        self.boundaries
+            .strike(tag, cut.low.is_some(), cut.high.is_some());
         Ok(cut)
     }
 
