@@ -169,8 +169,8 @@ impl<D: Deed> FreeIndex<D> {
         self.boundaries.enter(slot, tag);
     }
 
-    /// Takes out the free range that begins at `base`, if there is one. Whether its base and its end
-    /// are likely to bound the next ranges that come is for speed alone.
+    /// Takes out the free range that begins at `base`, if there is one. Whether its base and its
+    /// end are likely to bound the next ranges that come is for speed alone.
     fn take_at(&mut self, base: u64, base_again: bool, end_again: bool) -> Option<Stored<D>>
         ensures taken { TakesAt base self.old.ranges result self.new.ranges }
         ensures rest { self.new ≡ record self.old { ranges = self.new.ranges } }
