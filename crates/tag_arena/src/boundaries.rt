@@ -20,6 +20,32 @@ use std::marker::Model;
 /// With more free ranges than this, boundaries tell neighbors faster than the order of bases does.
 pub const FEW_RANGES: usize = 64;
 
+/// Which boundaries of a range that goes are likely to bound a range that comes next. It is for
+/// speed alone.
+#[derive(Clone, Copy, Debug)]
+pub struct Lasting {
+    base: bool,
+    end: bool,
+}
+
+impl Lasting {
+    /// The base alone: so it is with the left neighbor of what comes.
+    pub const BASE: Lasting = Lasting {
+        base: true,
+        end: false,
+    };
+
+    /// The end alone: so it is with the right neighbor of what comes.
+    pub const END: Lasting = Lasting {
+        base: false,
+        end: true,
+    };
+
+    pub fn new(base: bool, end: bool) -> Lasting {
+        Lasting { base, end }
+    }
+}
+
 /// The slots of free ranges by where they begin and by where they end, which may not be kept, and
 /// how many more ranges may come without memory.
 #[derive(Drop)]
@@ -117,9 +143,8 @@ impl Boundaries {
         }
     }
 
-    /// A range goes. Whether its base and its end are likely to bound the next ranges that come is
-    /// for speed alone.
-    pub fn strike(&mut self, tag: SlotTag, base_again: bool, end_again: bool)
+    /// A range goes.
+    pub fn strike(&mut self, tag: SlotTag, lasting: Lasting)
         ensures begins { self.old.kept ≡ true
             → self.new.begins ≡ finmap.remove self.old.begins (begin_of tag) }
         ensures ends { self.old.kept ≡ true
@@ -129,8 +154,8 @@ impl Boundaries {
     {
         if self.kept {
             let range = tag.range();
-            self.begins.take(range.base(), base_again);
-            self.ends.take(range.end(), end_again);
+            self.begins.take(range.base(), lasting.base);
+            self.ends.take(range.end(), lasting.end);
         }
     }
 

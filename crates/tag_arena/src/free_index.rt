@@ -19,7 +19,7 @@ ghost use Rattle.tag_arena.specs.Fits.{base_of, IsFit, ServedByList};
 ghost use Rattle.tag_arena.specs.FreeRanges.{keeps_sizes};
 ghost use Rattle.tag_arena.specs.Returns.{ComesBack};
 
-use crate::boundaries::{Boundaries, FEW_RANGES, boundaries_of, slot_at};
+use crate::boundaries::{Boundaries, FEW_RANGES, Lasting, boundaries_of, slot_at};
 use crate::cuts::Cut;
 use crate::earliest::next_fit;
 use crate::held_ranges::{HeldRange, held_range_of};
@@ -169,9 +169,8 @@ impl<D: Deed> FreeIndex<D> {
         self.boundaries.enter(slot, tag);
     }
 
-    /// Takes out the free range that begins at `base`, if there is one. Whether its base and its
-    /// end are likely to bound the next ranges that come is for speed alone.
-    fn take_at(&mut self, base: u64, base_again: bool, end_again: bool) -> Option<Stored<D>>
+    /// Takes out the free range that begins at `base`, if there is one.
+    fn take_at(&mut self, base: u64, lasting: Lasting) -> Option<Stored<D>>
         ensures taken { TakesAt base self.old.ranges result self.new.ranges }
         ensures rest { self.new ≡ record self.old { ranges = self.new.ranges } }
     {
@@ -180,7 +179,7 @@ impl<D: Deed> FreeIndex<D> {
         self.rising.strike(slot, tag);
         self.sizes.strike(slot, tag);
         self.lists.strike(slot, tag);
-        self.boundaries.strike(tag, base_again, end_again);
+        self.boundaries.strike(tag, lasting);
         Some(self.slots.take(slot).into_deed())
     }
 
@@ -193,8 +192,7 @@ impl<D: Deed> FreeIndex<D> {
         ensures room { self.new.room ≡ self.old.room }
         ensures ticks { self.new.ticks ≡ self.old.ticks }
     {
-        // As the left neighbor of what comes, which then begins there.
-        match self.take_at(base, true, false) {
+        match self.take_at(base, Lasting::BASE) {
             Some(deed) => deed,
             None => unreachable!(),
         }
@@ -368,7 +366,7 @@ impl<D: Deed> FreeIndex<D> {
         if end == limit {
             return None;
         }
-        self.take_at(end, false, true)
+        self.take_at(end, Lasting::END)
     }
 
     /// The deed and its free neighbours inside the span, which are taken out. It takes no memory.
@@ -431,8 +429,8 @@ impl<D: Deed> FreeIndex<D> {
         self.rising.strike(slot, tag);
         self.sizes.strike(slot, tag);
         self.lists.strike(slot, tag);
-        self.boundaries
-            .strike(tag, cut.low.is_some(), cut.high.is_some());
+        let lasting = Lasting::new(cut.low.is_some(), cut.high.is_some());
+        self.boundaries.strike(tag, lasting);
         Ok(cut)
     }
 
