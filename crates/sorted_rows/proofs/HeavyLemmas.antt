@@ -1,11 +1,11 @@
 -- Searches by weight over rows.
-use Rattle.std.proofs.Common.{◌≡◌, ℕ, suc, ◌+◌, ◌<◌, ◌≤◌, List, ◌++◌, length, take, drop, set, get_or, sym, ap, subst, ◌∙◌, arith, rules, Bool, Option, None, Some}
+use Rattle.std.proofs.Common.{◌≡◌, ℕ, suc, ◌+◌, ◌<◌, List, [], ◌++◌, length, take, drop, get_or, sym, ap, subst, refl, ◌∙◌, arith, rules, Bool, Option, None, Some}
 use Rattle.std.specs.List.{find}
 use Rattle.std.specs.Option.{option_or}
-use Rattle.std.proofs.lemmas.List.{drop-append-le, drop_all, set-get_or, take-append-drop}
+use Rattle.std.proofs.lemmas.List.{drop-append-le, take-append-drop}
 use Rattle.std.proofs.lemmas.List.Folds.{find-append}
 use Rattle.std.proofs.Math.Seq.{drop-cons, drop-append-add}
-use Rattle.sorted_rows.specs.Order.{Rises, place_below, IsRankAt}
+use Rattle.sorted_rows.specs.Order.{place_below, IsRankAt}
 use Rattle.sorted_rows.specs.Layout.{entries_in, IsLaid, IsSeat}
 use Rattle.sorted_rows.specs.Weights.{weighs, first_heavy_from}
 use Rattle.sorted_rows.proofs.PlaceLemmas.{below_is, below_stands}
@@ -40,46 +40,36 @@ module _ {X : Type 0} (p : X → Bool) where
       let next : suc k ≡ k + 1 = omega arith in
       so ∙ ap (find p) (rows_from rows k r lt at) ∙ (found_behind r (entries_in (drop (suc k) rows)) is ∙ ap (λ n. find p (entries_in (drop n rows))) next)
 
-  -- a row that is put back leaves the rows as they are
-  pub row_kept : (rows : List (List X)) (k : ℕ) (r q : List X) → q ≡ get_or rows k r → set rows k q ≡ rows
-  row_kept rows k r q same = ap (set rows k) same ∙ set-get_or rows k r
-
-  pub none_left : (rows : List (List X)) (k : ℕ) → length rows ≤ k → None ≡ find p (entries_in (drop k rows))
-  none_left rows k past = sym (ap (λ rs. find p (entries_in rs)) (drop_all k rows past))
-
 module _ {X : Type 0} (rank weight : X → ℕ) where
   -- what stands from the place of a key on, in its row and behind
-  pub from_place : (key : ℕ) (rows : List (List X)) (i q : ℕ) (r : List X) → IsLaid rank rows → i < length rows → r ≡ get_or rows i r → IsSeat rank key rows i → IsRankAt rank key r q
+  pub from_place : (key : ℕ) (rows : List (List X)) (i q : ℕ) (r : List X) → IsLaid rank rows → i < length rows → r ≡ get_or rows i [] → IsSeat rank key rows i → IsRankAt rank key r q
       → drop (place_below rank key (entries_in rows)) (entries_in rows) ≡ drop q r ++ entries_in (drop (suc i) rows)
   from_place key rows i q r laid lt e seat place =
-      let at = place_in_seat rank key rows i q r lt seat (subst (λ xs. IsRankAt rank key xs q) e place) in
+      let at = place_in_seat rank key rows i q [] lt seat (subst (λ xs. IsRankAt rank key xs q) e place) in
       let a = entries_in (take i rows) in
       let b = entries_in (drop (suc i) rows) in
-      let whole : entries_in rows ≡ a ++ (r ++ b) = rw e (entries_at rows i r lt) in
-      let some : 0 < length r = rw e (laid.filled i r lt) in
+      let whole : entries_in rows ≡ a ++ (r ++ b) = rw e (entries_at rows i [] lt) in
+      let some : 0 < length r = rw e (laid.filled i [] lt) in
       let is = below_is rank key (entries_in rows) _ (any_of r 0 some) at in
       ap (λ n. drop n (entries_in rows)) is ∙ (ap (drop (length a + q)) whole ∙ (drop-append-add a (r ++ b) q ∙ drop-append-le q r b place.within))
 
-  pub heavy_here : (key least : ℕ) (rows : List (List X)) (i q : ℕ) (r : List X) (x : X) → IsLaid rank rows → i < length rows → r ≡ get_or rows i r → IsSeat rank key rows i → IsRankAt rank key r q
+  pub heavy_here : (key least : ℕ) (rows : List (List X)) (i q : ℕ) (r : List X) (x : X) → IsLaid rank rows → i < length rows → r ≡ get_or rows i [] → IsSeat rank key rows i → IsRankAt rank key r q
       → Some x ≡ find (weighs weight least) (drop q r) → Some x ≡ first_heavy_from rank weight key least (entries_in rows)
   heavy_here key least rows i q r x laid lt e seat place is =
       found_first (weighs weight least) (drop q r) (entries_in (drop (suc i) rows)) x is ∙ ap (find (weighs weight least)) (sym (from_place key rows i q r laid lt e seat place))
 
-  pub heavy_behind : (key least : ℕ) (rows : List (List X)) (i q : ℕ) (r : List X) (o : Option X) → IsLaid rank rows → i < length rows → r ≡ get_or rows i r → IsSeat rank key rows i → IsRankAt rank key r q
+  pub heavy_behind : (key least : ℕ) (rows : List (List X)) (i q : ℕ) (r : List X) (o : Option X) → IsLaid rank rows → i < length rows → r ≡ get_or rows i [] → IsSeat rank key rows i → IsRankAt rank key r q
       → None ≡ find (weighs weight least) (drop q r) → o ≡ find (weighs weight least) (entries_in (drop (i + 1) rows)) → o ≡ first_heavy_from rank weight key least (entries_in rows)
   heavy_behind key least rows i q r o laid lt e seat place is behind =
       let next : i + 1 ≡ suc i = omega arith in
       behind ∙ (ap (λ n. find (weighs weight least) (entries_in (drop n rows))) next ∙ (sym (found_behind (weighs weight least) (drop q r) (entries_in (drop (suc i) rows)) is) ∙ ap (find (weighs weight least)) (sym (from_place key rows i q r laid lt e seat place))))
 
   -- behind a row that has none
-  pub heavy_past : (key least : ℕ) (rows : List (List X)) (i : ℕ) (r : List X) (o : Option X) → IsLaid rank rows → i < length rows → r ≡ get_or rows i r → IsSeat rank key rows i
-      → find (weighs weight least) r ≡ None → o ≡ find (weighs weight least) (entries_in (drop (i + 1) rows)) → o ≡ first_heavy_from rank weight key least (entries_in rows)
-  heavy_past key least rows i r o laid lt e seat is behind =
-      let rises : Rises rank r = rw e (rises_at rank rows i r lt laid.rises) in
-      heavy_behind key least rows i (place_below rank key r) r o laid lt e seat (below_stands rank key r rises) (none_in_rest (weighs weight least) (place_below rank key r) r is) behind
-
--- what heavy_after finds in the rows from one on
-pub ruleset found_from = (row_has, none_left)
+  pub heavy_past : (key least : ℕ) (rows : List (List X)) (i : ℕ) (o : Option X) → IsLaid rank rows → i < length rows → IsSeat rank key rows i
+      → find (weighs weight least) (get_or rows i []) ≡ None → o ≡ find (weighs weight least) (entries_in (drop (i + 1) rows)) → o ≡ first_heavy_from rank weight key least (entries_in rows)
+  heavy_past key least rows i o laid lt seat is behind =
+      let r = get_or rows i [] in
+      heavy_behind key least rows i (place_below rank key r) r o laid lt refl seat (below_stands rank key r (rises_at rank rows i [] lt laid.rises)) (none_in_rest (weighs weight least) (place_below rank key r) r is) behind
 
 -- where least_weighing finds it: in the key's row, or in those behind
 pub ruleset found_heavy = (heavy_here, heavy_behind, heavy_past)

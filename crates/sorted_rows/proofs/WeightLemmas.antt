@@ -56,9 +56,6 @@ module _ {X : Type 0} (weight : X → ℕ) where
       omega (arith, h, heavy, here, most)
 
   -- a walk from the first on, with the greatest weight of those before `k`
-  pub walk_begun : (xs : List X) → greatest_weight weight xs ≡ max 0 (greatest_weight weight (drop 0 xs))
-  walk_begun xs = omega arith
-
   pub walk_on : (xs : List X) (k : ℕ) (x : X) (whole top : ℕ) → k < length xs → x ≡ get_or xs k x → whole ≡ max top (greatest_weight weight (drop k xs)) → whole ≡ max (max top (weight x)) (greatest_weight weight (drop (k + 1) xs))
   walk_on xs k x whole top lt is so =
       let more = greatest_more xs k x lt in
@@ -95,37 +92,23 @@ module _ {X : Type 0} (weight : X → ℕ) where
       let rest = find_none least xs (omega (arith, head)) in
       search (rules, light, rest)
 
-  -- the greatest weight after an entry was put in,
-  pub top_grows : (xs : List X) (p : ℕ) (x : X) (top w : ℕ) → top ≡ greatest_weight weight xs → w ≡ weight x → top < w → w ≡ greatest_weight weight (insert xs p x)
-  top_grows xs p x top w is heavy more = let h = greatest_insert xs p x in omega (arith, h, is, heavy)
-
-  pub top_stays : (xs : List X) (p : ℕ) (x : X) (top w : ℕ) → top ≡ greatest_weight weight xs → w ≡ weight x → w ≤ top → top ≡ greatest_weight weight (insert xs p x)
-  top_stays xs p x top w is heavy less = let h = greatest_insert xs p x in omega (arith, h, is, heavy)
-
-  -- after one was taken out where all weigh 0, or where this one weighs less,
-  pub none_left_over : (xs : List X) (p : ℕ) (x : X) → 0 ≡ greatest_weight weight xs → p < length xs → 0 ≡ greatest_weight weight (remove xs p)
-  none_left_over xs p x none lt = let h = greatest_remove xs p x lt in omega (arith, h, none)
-
+  -- the greatest weight after one was taken out that weighs less,
   pub top_left : (xs : List X) (p : ℕ) (x : X) (top w : ℕ) → top ≡ greatest_weight weight xs → w ≡ weight x → p < length xs → x ≡ get_or xs p x → w ≢ top → top ≡ greatest_weight weight (remove xs p)
   top_left xs p x top w is heavy lt at other =
       let h = greatest_remove xs p x lt in
       let here = ap weight at in
       omega (arith, h, is, heavy, here, other)
 
-  -- and after further ones were put behind
-  pub top_joined : (xs ys : List X) (top more most : ℕ) → top ≡ greatest_weight weight xs → more ≡ greatest_weight weight ys → most ≡ max top more → most ≡ greatest_weight weight (xs ++ ys)
-  top_joined xs ys top more most is are so = let h = greatest_append xs ys in omega (arith, h, is, are, so)
-
-  -- the greatest weight is no greater once one was taken out,
+  -- it is no greater once one was taken out,
   pub less_removed : (xs : List X) (p : ℕ) (x : X) (top : ℕ) → top ≡ greatest_weight weight xs → p < length xs → greatest_weight weight (remove xs p) ≤ top
   less_removed xs p x top is lt = let h = greatest_remove xs p x lt in omega (arith, h, is)
 
-  -- nor where another took the place of one, if it weighs less than that,
+  -- nor where another took the place of one, or else as great as its weight,
   greatest_put : (xs : List X) (p : ℕ) (x d : X) → p < length xs → (greatest_weight weight xs ≡ max (weight (get_or xs p d)) (greatest_weight weight (remove xs p))) × (greatest_weight weight (insert (remove xs p) p x) ≡ max (weight x) (greatest_weight weight (remove xs p)))
   greatest_put xs p x d lt = (greatest_remove xs p d lt, greatest_insert (remove xs p) p x)
 
-  pub less_put : (xs : List X) (p : ℕ) (x : X) (top w : ℕ) → top ≡ greatest_weight weight xs → w ≡ weight x → w < top → p < length xs → greatest_weight weight (insert (remove xs p) p x) ≤ top
-  less_put xs p x top w is heavy less lt = let h = greatest_put xs p x x lt in omega (arith, h, is, heavy)
+  pub most_put : (xs : List X) (p : ℕ) (x : X) (top : ℕ) → top ≡ greatest_weight weight xs → p < length xs → greatest_weight weight (insert (remove xs p) p x) ≤ max top (weight x)
+  most_put xs p x top is lt = let h = greatest_put xs p x x lt in omega (arith, h, is)
 
   -- which leaves it where the other weighed less,
   pub top_put_same : (xs : List X) (p : ℕ) (x y : X) (top w v : ℕ) → top ≡ greatest_weight weight xs → w ≡ weight x → w < top → v ≡ weight y → y ≡ get_or xs p y → v ≢ top → p < length xs → top ≡ greatest_weight weight (insert (remove xs p) p x)
@@ -150,9 +133,3 @@ module _ {X : Type 0} (weight : X → ℕ) where
       let parts = greatest_append (take k xs) (drop k xs) in
       let whole = ap (greatest_weight weight) (take-append-drop k xs) in
       omega (arith, parts, whole, is)
-
--- the greatest weight with one entry more
-pub ruleset top_inserted = (top_grows, top_stays)
-
--- the greatest weights of two rows that become one, and an empty one
-pub ruleset tops_joined = (top_joined, greatest_none)

@@ -23,14 +23,14 @@ module _ {X : Type 0} where
   left_in rows None = entries_in rows
   left_in rows (Some s) = remove (entries_in rows) (place_in rows s.seat s.place)
 
-  -- two neighbors never have 96 or fewer between them
+  -- two neighbors never have 32 or fewer between them
   abbrev pub ArePaired : List (List X) → Type 0
   ArePaired rows = (k : ℕ) → suc k < length rows
-      → 96 < length (get_or rows k []) + length (get_or rows (suc k) [])
+      → 32 < length (get_or rows k []) + length (get_or rows (suc k) [])
 
   -- each row has place for one more
   abbrev pub AreShort : List (List X) → Type 0
-  AreShort rows = (k : ℕ) → length (get_or rows k []) < 192
+  AreShort rows = (k : ℕ) → length (get_or rows k []) < 64
 
 module _ {X : Type 0} (rank : X → ℕ) where
   -- rows that a list stands in
@@ -44,9 +44,9 @@ module _ {X : Type 0} (rank : X → ℕ) where
     pub rises : Rises rank (entries_in rows)
     pub filled : (k : ℕ) → k < length rows → k ≢ i → 0 < length (get_or rows k [])
     pub almost : (k : ℕ) → suc k < length rows
-        → 96 ≤ length (get_or rows k []) + length (get_or rows (suc k) [])
+        → 32 ≤ length (get_or rows k []) + length (get_or rows (suc k) [])
     pub paired : (k : ℕ) → suc k < length rows → k ≢ i → suc k ≢ i
-        → 96 < length (get_or rows k []) + length (get_or rows (suc k) [])
+        → 32 < length (get_or rows k []) + length (get_or rows (suc k) [])
 
   -- the row where a key belongs: what stands before the row is below the key, what stands behind
   -- the row above it

@@ -1,3 +1,4 @@
+pub mod Heads
 pub mod Layout
 pub mod Order
 pub mod Stocked

@@ -27,6 +27,6 @@ pub trait RowEntry: Copy + Drop {
     fn is_same(one: Self::Measure, other: Self::Measure) -> bool
         ensures { IsTrue result ↔ (one ≡ other) };
 
-    /// The measure of a row that no search has come by.
+    /// The measure of a list that wasn't searched by weight yet.
     fn first_measure() -> Self::Measure;
 }

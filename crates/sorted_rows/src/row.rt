@@ -1,7 +1,7 @@
-//! One row of a list: a short vector with room for 192 entries.
+//! One row of a list: a short vector with room for 64 entries.
 ghost use Rattle.std.specs.Prelude.{◌≡◌, ◌+◌, ◌-◌, ◌*◌, ◌<◌, ◌≤◌, [], ◌++◌, length, take, drop};
 ghost use Rattle.std.specs.Prelude.{insert, remove, slice_index_or, max, IfOk, IfErr, OnErr};
-ghost use Rattle.std.specs.Prelude.{IsTrue, IfSome, Some, None, List, ◌∷◌, vec_len, vec_capacity};
+ghost use Rattle.std.specs.Prelude.{IsTrue, Some, None, List, ◌∷◌, vec_len, vec_capacity};
 ghost use Rattle.std.specs.List.{find};
 ghost use Rattle.sorted_rows.specs.Order.{Rises, IsRankAt, FirstIs};
 ghost use Rattle.sorted_rows.specs.Weights.{greatest_weight, weighs};
@@ -11,63 +11,51 @@ use std::alloc::{AllocError, Global};
 use std::marker::Model;
 
 /// The greatest number of entries in a row.
-pub const ROW: usize = 192;
+pub const ROW: usize = 64;
 
 /// The number of entries in a block, by whose last entry a search passes it.
 const BLOCK: usize = 8;
 
-/// A row: its entries, with the key of the first at hand, and the greatest weight by the measure
-/// by which all of it was last searched in vain. A contract sees its entries.
+/// A row: its entries, and a place for each that it may have. A contract sees the entries.
 #[derive(Drop)]
 pub struct Row<T: RowEntry> {
-    first: u128,
-    measure: T::Measure,
-    top: u64,
     items: Vec<T>,
 }
 
 impl<T: RowEntry> Model for Row<T> {
-    ghost use Rattle.std.specs.Prelude.{◌≡◌, ◌≤◌, List, vec_len, vec_capacity};
-    ghost use Rattle.sorted_rows.specs.Order.{FirstIs};
-    ghost use Rattle.sorted_rows.specs.Weights.{greatest_weight};
+    ghost use Rattle.std.specs.Prelude.{◌≤◌, List, vec_len, vec_capacity};
 
     ghost Value = { List T };
 
     ghost view = { λ r. r.items.items };
 
-    ghost invariant = { λ r. (vec_len r.items ≤ 192) × (192 ≤ vec_capacity r.items)
-        × FirstIs T.rank r.first r.items.items
-        × (r.top ≡ greatest_weight (T.weight r.measure) r.items.items) };
+    ghost invariant = { λ r. (vec_len r.items ≤ 64) × (64 ≤ vec_capacity r.items) };
 }
 
 impl<T: RowEntry> Row<T> {
-    #[tactic(auto, using(crate::proofs::WeightLemmas::greatest_none))]
     pub fn new(alloc: Global) -> Result<Row<T>, AllocError>
         ensures { IfOk result (λ row. row ≡ []) }
     {
         let items = Vec::with_capacity(alloc, ROW)?;
-        Ok(Row {
-            first: 0,
-            measure: T::first_measure(),
-            top: 0,
-            items,
-        })
+        Ok(Row { items })
     }
 
     /// How many entries it has.
     pub fn len(&self) -> usize
         ensures len { result ≡ length self.now }
-        ensures bound { result ≤ 192 }
+        ensures bound { result ≤ 64 }
     {
         self.items.len()
     }
 
-    /// The key of the first entry.
+    /// The key of the first entry; 0 where there is none.
     pub fn first(&self) -> u128
-        requires { 0 < length self.now }
-        ensures { (d : T) → result ≡ T.rank (slice_index_or self.now 0 d) }
+        ensures { FirstIs T.rank result self.now }
     {
-        self.first
+        if self.items.is_empty() {
+            return 0;
+        }
+        self.items[0].key()
     }
 
     /// The entry at a place.
@@ -78,22 +66,12 @@ impl<T: RowEntry> Row<T> {
         self.items[at]
     }
 
-    /// Whether it is known, without a look at its entries, that each weighs less than `least`.
-    pub fn is_light(&self, measure: T::Measure, least: u64) -> bool
-        ensures { IsTrue result → find (weighs (T.weight measure) least) self.now ≡ None }
-    {
-        self.top < least && T::is_same(self.measure, measure)
-    }
-
-    /// The greatest weight of its entries; 0 where there is none. It is at hand where the row keeps
-    /// this measure.
-    fn top(&self, measure: T::Measure) -> u64
+    /// The greatest weight of its entries, which is `most` or less; 0 where there is none.
+    pub fn greatest(&self, measure: T::Measure, most: u64) -> u64
+        requires { greatest_weight (T.weight measure) self.now ≤ most }
         ensures { result ≡ greatest_weight (T.weight measure) self.now }
     {
-        if T::is_same(self.measure, measure) {
-            return self.top;
-        }
-        greatest_in(&self.items, measure, None)
+        greatest_in(&self.items, measure, most)
     }
 
     /// Its first entry, from the place `from` on, that weighs as much as `least` or more.
@@ -103,24 +81,14 @@ impl<T: RowEntry> Row<T> {
         heavy_in(&self.items, measure, from, least)
     }
 
-    /// Its first entry that weighs as much as `least` or more. A row that is known to be too light
-    /// costs one look. One that is searched in vain keeps the measure, and the greatest weight met
-    /// on the way.
-    pub fn search(&mut self, measure: T::Measure, least: u64) -> Option<T>
-        ensures value { result ≡ find (weighs (T.weight measure) least) self.old }
-        ensures unchanged { self.new ≡ self.old }
+    /// Its first entry that weighs as much as `least` or more, or else its greatest weight.
+    pub fn search(&self, measure: T::Measure, least: u64) -> Result<T, u64>
+        ensures found { IfOk result (λ x. find (weighs (T.weight measure) least) self.now
+            ≡ Some x) }
+        ensures none { OnErr result (find (weighs (T.weight measure) least) self.now ≡ None) }
+        ensures top { IfErr result (λ top. top ≡ greatest_weight (T.weight measure) self.now) }
     {
-        if self.is_light(measure, least) {
-            return None;
-        }
-        match heavy_or_top(&self.items, measure, least) {
-            Ok(entry) => Some(entry),
-            Err(top) => {
-                self.measure = measure;
-                self.top = top;
-                None
-            }
-        }
+        heavy_or_top(&self.items, measure, least)
     }
 
     /// How many entries stand below the key.
@@ -164,6 +132,7 @@ impl<T: RowEntry> Row<T> {
     }
 
     /// Whether the key isn't below what stands before the place, nor above what stands behind it.
+    /// False is always a right answer: it is for speed alone.
     pub fn is_between(&self, place: usize, key: u128) -> bool
         requires { place < length self.now }
         ensures above { IsTrue result → (d : T) → 0 < place
@@ -212,32 +181,20 @@ impl<T: RowEntry> Row<T> {
         }
     }
 
-    #[tactic(auto, using(crate::proofs::WeightLemmas::top_inserted))]
     pub fn insert(&mut self, at: usize, entry: T)
         requires at { at ≤ length self.old }
-        requires room { length self.old < 192 }
+        requires room { length self.old < 64 }
         ensures { self.new ≡ insert self.old at entry }
     {
         put_in(&mut self.items, at, entry);
-        self.first = self.items[0].key();
-        let weight = entry.weight(self.measure);
-        if weight > self.top {
-            self.top = weight;
-        }
     }
 
-    #[tactic(auto, using(crate::proofs::WeightLemmas::top_left))]
     pub fn remove(&mut self, at: usize) -> T
         requires { at < length self.old }
         ensures items { self.new ≡ remove self.old at }
         ensures value { (d : T) → result ≡ slice_index_or self.old at d }
     {
-        let entry = self.items.remove(at);
-        self.first = first_in(&self.items);
-        if self.top > 0 && entry.weight(self.measure) == self.top {
-            self.top = greatest_in(&self.items, self.measure, Some(self.top));
-        }
-        entry
+        self.items.remove(at)
     }
 
     /// Puts an entry in the place of another.
@@ -245,50 +202,33 @@ impl<T: RowEntry> Row<T> {
         requires { at < length self.old }
         ensures { self.new ≡ insert (remove self.old at) at entry }
     {
-        let old = self.items[at];
         self.items[at] = entry;
-        self.first = self.items[0].key();
-        let weight = entry.weight(self.measure);
-        if weight >= self.top {
-            self.top = weight;
-        } else if old.weight(self.measure) == self.top {
-            self.top = greatest_in(&self.items, self.measure, Some(self.top));
-        }
     }
 
     /// Moves the upper half of a full row to an empty one.
     pub fn split(&mut self, high: &mut Row<T>)
-        requires full { length self.old ≡ 192 }
+        requires full { length self.old ≡ 64 }
         requires empty { high.old ≡ [] }
-        ensures low { self.new ≡ take 96 self.old }
-        ensures high { high.new ≡ drop 96 self.old }
+        ensures low { self.new ≡ take 32 self.old }
+        ensures high { high.new ≡ drop 32 self.old }
     {
         match high.items.extend_from_slice(&self.items[ROW / 2..]) {
             Ok(()) => {}
             Err(_) => unreachable!(),
         }
-        high.first = high.items[0].key();
-        high.measure = self.measure;
-        high.top = greatest_in(&high.items, self.measure, Some(self.top));
         self.items.truncate(ROW / 2);
-        self.top = greatest_in(&self.items, self.measure, Some(self.top));
     }
 
     /// Moves all entries of the next row here.
-    #[tactic(auto, using(crate::proofs::WeightLemmas::tops_joined))]
     pub fn join(&mut self, next: &mut Row<T>)
-        requires room { length self.old + length next.old ≤ 192 }
+        requires room { length self.old + length next.old ≤ 64 }
         ensures items { self.new ≡ self.old ++ next.old }
         ensures next { next.new ≡ [] }
     {
-        let top = next.top(self.measure);
         match self.items.append(&mut next.items) {
             Ok(()) => {}
             Err(_) => unreachable!(),
         }
-        self.first = first_in(&self.items);
-        self.top = greater(self.top, top);
-        next.top = 0;
     }
 }
 
@@ -361,27 +301,16 @@ fn count_below<T: RowEntry>(items: &[T], key: u128) -> usize
     low
 }
 
-/// The key of the first, where there is one.
-fn first_in<T: RowEntry>(items: &[T]) -> u128
-    ensures { FirstIs T.rank result items.now }
-{
-    if items.is_empty() {
-        return 0;
-    }
-    items[0].key()
-}
-
 /// The greater of two weights.
-fn greater(one: u64, other: u64) -> u64
+pub fn greater(one: u64, other: u64) -> u64
     ensures { result ≡ max one other }
 {
     if one < other { other } else { one }
 }
 
-/// The greatest weight. Where it is known to be `most` or less, the first that weighs `most` ends
-/// the walk.
-fn greatest_in<T: RowEntry>(items: &[T], measure: T::Measure, most: Option<u64>) -> u64
-    requires { IfSome most (λ m. greatest_weight (T.weight measure) items.now ≤ m) }
+/// The greatest weight, which is `most` or less. The first that weighs `most` ends the walk.
+fn greatest_in<T: RowEntry>(items: &[T], measure: T::Measure, most: u64) -> u64
+    requires { greatest_weight (T.weight measure) items.now ≤ most }
     ensures { result ≡ greatest_weight (T.weight measure) items.now }
 {
     let mut top = 0;
@@ -389,7 +318,7 @@ fn greatest_in<T: RowEntry>(items: &[T], measure: T::Measure, most: Option<u64>)
     while at > 0 {
         at -= 1;
         let weight = items[at].weight(measure);
-        if most == Some(weight) {
+        if weight == most {
             return weight;
         }
         if weight > top {

@@ -6,6 +6,7 @@ ghost use Rattle.sorted_rows.specs.Order.{last_to};
 ghost use Rattle.sorted_rows.specs.Weights.{first_heavy_from};
 
 use crate::entries::RowEntry;
+use crate::headed::HeadedRows;
 use crate::heavy::least_weighing;
 use crate::row::Row;
 use crate::seats::{Spot, spot_near};
@@ -17,9 +18,10 @@ use std::marker::Model;
 /// it before it needs more room.
 #[derive(Drop)]
 pub struct Rows<T: RowEntry> {
-    rows: Vec<Row<T>>,
+    rows: HeadedRows<T>,
     spare: Vec<Row<T>>,
-    /// The entry that was taken out last, which lies in its row until the next change.
+    /// The entry that was taken out last, which lies in its row until the next change or search by
+    /// weight.
     struck: Option<Spot>,
     len: usize,
     room: usize,
@@ -47,7 +49,7 @@ impl<T: RowEntry> Rows<T> {
         ensures room { result.room ≡ 0 }
     {
         Rows {
-            rows: Vec::new(alloc),
+            rows: HeadedRows::new(alloc),
             spare: Vec::new(alloc),
             struck: None,
             len: 0,
@@ -82,7 +84,7 @@ impl<T: RowEntry> Rows<T> {
         if room <= self.room {
             return Ok(());
         }
-        let wanted = room.div_ceil(48) + 1;
+        let wanted = room.div_ceil(16) + 1;
         let rows = self.rows.len();
         let spare = self.spare.len();
         if rows + spare < wanted {
@@ -163,9 +165,10 @@ impl<T: RowEntry> Rows<T> {
     }
 
     /// The first entry, from the first at or above the key on, that weighs as much as `least` or
-    /// more by this measure. A row behind the key's own that is searched in vain keeps the measure
-    /// and its greatest weight. From then on it is passed by with one look wherever that is less
-    /// than `least`, until it is searched so by another measure. The list stays as it is.
+    /// more by this measure. The head of a row behind the key's own that is searched in vain keeps
+    /// its greatest weight. From then on the row is passed by with one look there wherever that is
+    /// less than `least`, until a search by another measure. The list stays as it is, but a struck
+    /// entry is taken out of its row.
     pub fn least_weighing(&mut self, measure: T::Measure, key: u128, least: u64) -> Option<T>
         ensures value { result ≡ first_heavy_from T.rank (T.weight measure) key least
             self.old.items }

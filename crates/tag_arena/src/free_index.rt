@@ -183,7 +183,8 @@ impl<D: Deed> FreeIndex<D> {
         Some(self.slots.take(slot).into_deed())
     }
 
-    /// The free range that begins at `base` is free no more.
+    /// The free range that begins at `base` is free no more. It is mostly merged with what stands
+    /// behind it, so that another will begin there: for speed alone.
     pub fn take(&mut self, base: u64) -> Stored<D>
         requires present { Any (λ r. r.range.base ≡ base) self.old.ranges }
         ensures ranges { Without self.old.ranges result self.new.ranges }

@@ -27,19 +27,20 @@
 //! and the imported spans, each in the order of their ends, in `Spans`; a contract sees spans in
 //! order of coming.
 //!
-//! What it costs: a call seeks in each index, by a search for a row of up to 192 ranges and one in
-//! the row, and moves up to 287 entries; by boundaries it looks a neighbor up. On the lists a range
-//! comes and goes without a search, and `instant` looks at 64 heads at most. `next`, and a request
-//! with an `align` or a `nocross` of its own, pass by the rows that have no room with one look at
-//! each; `Arena::probes` tells how many ranges the last grant tried. Other calls look at more:
-//! `Arena::report` at each slot that a free range ever had, `Arena::remove_owned` at each owned
-//! span below the one that it takes, and a carve, a new span or an import that turns to boundaries or
-//! makes a map larger, at each range. A request with a window of its own, from `min` to `max`, may
-//! try many ranges that don't serve it, and one on another grid than the last may weigh many anew.
-//! An index takes some 100 bytes for each range, free or allocated, boundaries some 60 to 250, and
-//! the lists 32 to 64, beside 1,024 of each arena: a carve and a new span make room for what they
-//! add, and for each allocated range to become free, before they change anything. So `Arena::free`
-//! and `Arena::remove_owned` take no memory.
+//! What it costs: a call seeks in each index, by a search for a row of up to 64 ranges and one in
+//! the row. Each change of an index moves up to 158 entries, and a search by weight up to 63; by
+//! boundaries a neighbor is looked up. On the lists a range comes and goes without a search, and
+//! `instant` looks at 64 heads at most. `next`, and a request with an `align` or a `nocross` of its
+//! own, pass by the rows that have no room with one look at each; `Arena::probes` tells how many
+//! ranges the last grant tried. Other calls look at more: `Arena::report` at each slot that a free
+//! range ever had, `Arena::remove_owned` at each owned span below the one that it takes, and a
+//! carve, a new span or an import that turns to boundaries or makes a map larger, at each range. A
+//! request with a window of its own, from `min` to `max`, may try many ranges that don't serve it,
+//! and one on another grid than the last may weigh many anew. An index takes some 100 bytes for
+//! each range, free or allocated, boundaries some 60 to 250, and the lists 32 to 64, beside 1,024
+//! of each arena: a carve and a new span make room for what they add, and for each allocated range
+//! to become free, before they change anything. So `Arena::free` and `Arena::remove_owned` take no
+//! memory.
 //!
 //! Its rules are those of "Magazines and Vmem" (2001), where no other source is named.
 #![tactic(auto)]

@@ -1,4 +1,4 @@
-use Rattle.std.proofs.Common.{◌≡◌, ◌≤◌, length, ap, subst, ◌∙◌, sym, arith, rules, Some, IfSome}
+use Rattle.std.proofs.Common.{length, ap, ◌∙◌, sym, arith}
 use Rattle.std.proofs.lemmas.List.{drop_all}
 use Rattle.sorted_rows.specs.Weights.{greatest_weight}
 use Rattle.sorted_rows.proofs.WeightLemmas.{greatest_before, greatest_none, greatest_met}
@@ -20,8 +20,5 @@ loop-at-preserved g c =
     let step = greatest_before (g.T.RowEntry.weight c.args.measure) c.args.items.now c.loop-at.at c.index-items-at.result c.loop-at.top (omega arith) c.loop-at.invariant.within c.index-items-at.is c.loop-at.invariant.top in
     record { within = omega arith; top = omega (arith, step, c.weight-weight.ensures) }
 
-pub returns-then-eq : goal.returns-then-eq
-returns-then-eq g c =
-    let is : c.args.most ≡ Some c.weight-weight.result = search rules in
-    let most = subst (λ o. IfSome o (λ m. greatest_weight (g.T.RowEntry.weight c.args.measure) c.args.items.now ≤ m)) is c.requires in
-    greatest_met (g.T.RowEntry.weight c.args.measure) c.args.items.now _ c.index-items-at.result c.weight-weight.result (omega arith) c.index-items-at.is c.weight-weight.ensures most
+pub returns-then-weight-most : goal.returns-then-weight-most
+returns-then-weight-most g c = greatest_met (g.T.RowEntry.weight c.args.measure) c.args.items.now _ c.index-items-at.result c.weight-weight.result (omega arith) c.index-items-at.is c.weight-weight.ensures (omega (arith, c.requires))

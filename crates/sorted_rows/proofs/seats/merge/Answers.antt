@@ -1,19 +1,16 @@
-use Rattle.std.proofs.Common.{◌+◌, ◌≡◌, [], arith}
+use Rattle.std.proofs.Common.{◌≡◌, [], refl, arith}
 use Rattle.std.proofs.lemmas.List.Elements.{All-push}
-use Rattle.sorted_rows.proofs.RowLemmas.{merge_step}
+use Rattle.sorted_rows.proofs.RowLemmas.{laid_merge}
 use Rattle.sorted_rows.proofs.seats.merge.Goals as goal
 
 pub returns-clause-laid : goal.returns-clause-laid
-returns-clause-laid g c =
-    (merge_step g.T.RowEntry.rank c.args.rows.now.items _ c.args.at c.requires.loose.0 (c.args.at + 1) _ _ _ c.requires.loose.1 c.requires.loose.2 c.requires.short (omega arith) (omega arith) c.remove-next.ensures.items c.index_mut-row.ensures.value c.remove-next.ensures.value c.requires.total c.join.ensures.items).0
+returns-clause-laid g c = (laid_merge g.T.RowEntry.rank c.args.rows.now.items _ c.args.at c.requires.loose.0 _ _ c.requires.loose.1 c.requires.loose.2 c.requires.short (omega (arith, c.requires.within)) refl refl c.requires.total c.join-row.ensures.items).0
 
 pub returns-clause-items : goal.returns-clause-items
-returns-clause-items g c =
-    (merge_step g.T.RowEntry.rank c.args.rows.now.items _ c.args.at c.requires.loose.0 (c.args.at + 1) _ _ _ c.requires.loose.1 c.requires.loose.2 c.requires.short (omega arith) (omega arith) c.remove-next.ensures.items c.index_mut-row.ensures.value c.remove-next.ensures.value c.requires.total c.join.ensures.items).1
+returns-clause-items g c = (laid_merge g.T.RowEntry.rank c.args.rows.now.items _ c.args.at c.requires.loose.0 _ _ c.requires.loose.1 c.requires.loose.2 c.requires.short (omega (arith, c.requires.within)) refl refl c.requires.total c.join-row.ensures.items).1
 
 pub returns-clause-short : goal.returns-clause-short
-returns-clause-short g c =
-    (merge_step g.T.RowEntry.rank c.args.rows.now.items _ c.args.at c.requires.loose.0 (c.args.at + 1) _ _ _ c.requires.loose.1 c.requires.loose.2 c.requires.short (omega arith) (omega arith) c.remove-next.ensures.items c.index_mut-row.ensures.value c.remove-next.ensures.value c.requires.total c.join.ensures.items).2
+returns-clause-short g c = (laid_merge g.T.RowEntry.rank c.args.rows.now.items _ c.args.at c.requires.loose.0 _ _ c.requires.loose.1 c.requires.loose.2 c.requires.short (omega (arith, c.requires.within)) refl refl c.requires.total c.join-row.ensures.items).2
 
 pub returns-clause-spare : goal.returns-clause-spare
-returns-clause-spare g c = rw c.push_reserved.ensures.items (All-push (λ r. r ≡ []) _ _ c.requires.spare c.join.ensures.next)
+returns-clause-spare g c = rw c.push_reserved.ensures.items (All-push (λ r. r ≡ []) _ _ c.requires.spare c.join-row.ensures.empty)

@@ -1,24 +1,24 @@
-use Rattle.std.proofs.Common.{◌∙◌, ◌+◌, ◌<◌, ◌≡◌, length, [], ap, suc, arith}
-use Rattle.std.proofs.lemmas.List.{get_or_default}
+use Rattle.std.proofs.Common.{◌+◌, ◌<◌, ◌≡◌, length, [], ap, suc, arith}
 use Rattle.sorted_rows.proofs.StruckLemmas.{behind_here, behind_next, behind_none}
 use Rattle.sorted_rows.proofs.struck.behind.Goals as goal
 
 pub returns-then-len-spot-gt1 : goal.returns-then-len-spot-gt1
 returns-then-len-spot-gt1 g c =
-    let e = c.index-rows-spot.is ∙ get_or_default c.args.rows.now c.args.spot.seat _ [] c.requires.spot.0 in
-    let less : c.args.spot.place + 1 < length c.index-rows-spot.result = omega (arith, c.len.ensures.len) in
-    behind_here c.args.rows.now c.args.spot.seat c.args.spot.place c.index-rows-spot.result c.get.result c.requires.spot.0 e less c.get.ensures
+    let e = c.row-row.ensures in
+    let less : c.args.spot.place + 1 < length c.row-row.result.now = omega (arith, c.len.ensures.len) in
+    behind_here c.args.rows.now.items c.args.spot.seat c.args.spot.place c.row-row.result.now c.get.result c.requires.spot.0 e less c.get.ensures
 
-pub returns-then-spot-rows : goal.returns-then-spot-rows
-returns-then-spot-rows g c =
-    let e = c.index-rows-spot.is ∙ get_or_default c.args.rows.now c.args.spot.seat _ [] c.requires.spot.0 in
-    let s = c.index-rows-spot-then-spot-rows.is ∙ get_or_default c.args.rows.now (c.args.spot.seat + 1) _ [] c.if-spot-rows.true in
-    let end : c.args.spot.place + 1 ≡ length c.index-rows-spot.result = omega (arith, c.len.ensures.len, ap length e, c.requires.spot.1) in
+pub returns-then-len-spot-gt1-2 : goal.returns-then-len-spot-gt1-2
+returns-then-len-spot-gt1-2 g c =
+    let e = c.row-row.ensures in
+    let s = c.row-next.ensures in
+    let end : c.args.spot.place + 1 ≡ length c.row-row.result.now = omega (arith, c.len.ensures.len, ap length e, c.requires.spot.1) in
+    let next_lt : c.args.spot.seat + 1 < length c.args.rows.now.items = omega arith in
     let next : c.args.spot.seat + 1 ≡ suc c.args.spot.seat = omega arith in
-    behind_next c.args.rows.now c.args.spot.seat c.args.spot.place (c.args.spot.seat + 1) c.index-rows-spot.result c.index-rows-spot-then-spot-rows.result c.get-then-spot-rows.result c.requires.spot.0 e end next c.if-spot-rows.true s (rw s (c.requires.laid.filled (c.args.spot.seat + 1) [] c.if-spot-rows.true)) c.get-then-spot-rows.ensures
+    behind_next c.args.rows.now.items c.args.spot.seat c.args.spot.place (c.args.spot.seat + 1) c.row-row.result.now c.row-next.result.now c.get-then-len-spot-gt1-2.result c.requires.spot.0 e end next next_lt s (rw s (c.requires.laid.filled (c.args.spot.seat + 1) [] next_lt)) c.get-then-len-spot-gt1-2.ensures
 
-pub returns-else-spot-rows : goal.returns-else-spot-rows
-returns-else-spot-rows g c =
-    let e = c.index-rows-spot.is ∙ get_or_default c.args.rows.now c.args.spot.seat _ [] c.requires.spot.0 in
-    let end : c.args.spot.place + 1 ≡ length c.index-rows-spot.result = omega (arith, c.len.ensures.len, ap length e, c.requires.spot.1) in
-    behind_none c.args.rows.now c.args.spot.seat c.args.spot.place c.index-rows-spot.result c.requires.spot.0 e end (omega arith)
+pub returns-else-len-spot-gt1-2 : goal.returns-else-len-spot-gt1-2
+returns-else-len-spot-gt1-2 g c =
+    let e = c.row-row.ensures in
+    let end : c.args.spot.place + 1 ≡ length c.row-row.result.now = omega (arith, c.len.ensures.len, ap length e, c.requires.spot.1) in
+    behind_none c.args.rows.now.items c.args.spot.seat c.args.spot.place c.row-row.result.now c.requires.spot.0 e end (omega arith)
