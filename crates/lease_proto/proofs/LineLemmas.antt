@@ -306,6 +306,12 @@ line_words first words line e =
     let said = words_say first words line e in
     and_from (is_word first) _ (ap is_word said.1 ∙ first_is_word line) (are_words line words said.0 said.2)
 
+-- and so are all parts that are read as a line
+pub words_of_line : (words : List (List ℕ)) (line : Line) → line_in words ≡ Ok line → list_all is_word words ≡ true
+unfolding line_in
+words_of_line [] line e = absurd (cc)
+words_of_line (first ∷ words) line e = line_words first words line e
+
 line_says : (bytes : List ℕ) (words : List (List ℕ)) (line : Line) → bytes ≡ join_with_byte 32 words → line_in words ≡ Ok line
     → IsLine line × IsTextOf line bytes
 unfolding line_in

@@ -2,7 +2,8 @@
 ghost use Rattle.std.specs.Prelude.{◌≡◌, ◌++◌, IsOk, OnOk, OnErr, [], ◌∷◌, ◌+◌, ◌*◌, ◌≤◌, ℕ, List};
 ghost use Rattle.std.specs.Prelude.{Some, vec_len};
 ghost use Rattle.lease_proto.specs.Frames.{with_line_feed};
-ghost use Rattle.lease_proto.specs.Grammar.{line_of, line_of_first, hello_in, lease_in, release_in};
+ghost use Rattle.lease_proto.specs.Grammar.{line_in, line_of, line_of_first, hello_in};
+ghost use Rattle.lease_proto.specs.Grammar.{lease_in, release_in};
 ghost use Rattle.lease_proto.specs.Requests.{client_of, incarnation_of, request_of, op_of};
 ghost use Rattle.lease_proto.specs.declared.lines.TheConstants.{OPTIONS_ROOM};
 ghost use Rattle.lease_proto.specs.declared.writing.TheConstants.{NUMBER_ROOM, NAME_ROOM};
@@ -18,7 +19,7 @@ use crate::ids::IdWords;
 use crate::limits::LINE_ROOM;
 use crate::numbers::{client, ordinal, quantity};
 use crate::sentences::{Words, name};
-use crate::taking::{option, quantity_or_default, words};
+use crate::taking::{first_fault, option, parts, quantity_or_default};
 use crate::writing::{NUMBER_ROOM, push_id, push_name, push_number, push_option, push_text};
 use lease_terms::{ArenaName, ClientId, Ordinal, Quantity, RequestId};
 use std::alloc::AllocError;
@@ -235,14 +236,23 @@ pub enum Line {
 
 impl Line {
     /// The line that these bytes are, or the first reason why they are none. They are given without
-    /// the line feed. It takes no memory.
-    #[tactic(auto, unfolding(crate::specs::Grammar::line_of, crate::specs::Grammar::line_in))]
+    /// the line feed. As a line that is read is words with one space between them, whether these are
+    /// is looked at only where it is refused. It takes no memory.
     pub fn read(bytes: &[u8]) -> Result<Line, LineFault>
         ensures { result ≡ line_of bytes.now }
     {
-        let mut words = words(bytes)?;
+        match Line::of_parts(&mut parts(bytes)?) {
+            Ok(line) => Ok(line),
+            Err(fault) => Err(first_fault(bytes, fault)),
+        }
+    }
+
+    #[tactic(auto, unfolding(crate::specs::Grammar::line_in))]
+    fn of_parts(words: &mut Words<'_>) -> Result<Line, LineFault>
+        ensures { result ≡ line_in words.old }
+    {
         match words.next() {
-            Some(first) => Line::of_words(first, &mut words),
+            Some(first) => Line::of_words(first, words),
             None => Err(LineFault::Word),
         }
     }

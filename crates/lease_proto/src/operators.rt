@@ -162,9 +162,8 @@ pub enum ServedLine {
 
 impl ServedLine {
     /// The line that these bytes are, or the first reason why they are none. They are given without
-    /// the line feed. It is cut once, whoever's it is. A line whose parts are read is words with one
-    /// space between them, so whether it is that is looked at only where it is refused. It takes no
-    /// memory.
+    /// the line feed. As with `Line::read`, whether they are words with one space between them is
+    /// looked at only where the line is refused. It takes no memory.
     pub fn read(bytes: &[u8]) -> Result<ServedLine, LineFault>
         ensures { result ≡ served_of bytes.now }
     {
