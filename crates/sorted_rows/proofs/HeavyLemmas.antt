@@ -40,6 +40,9 @@ module _ {X : Type 0} (p : X → Bool) where
       let next : suc k ≡ k + 1 = omega arith in
       so ∙ ap (find p) (rows_from rows k r lt at) ∙ (found_behind r (entries_in (drop (suc k) rows)) is ∙ ap (λ n. find p (entries_in (drop n rows))) next)
 
+-- where a walk over rows finds it
+pub ruleset found_among = (row_has, row_lacks)
+
 module _ {X : Type 0} (rank weight : X → ℕ) where
   -- what stands from the place of a key on, in its row and behind
   pub from_place : (key : ℕ) (rows : List (List X)) (i q : ℕ) (r : List X) → IsLaid rank rows → i < length rows → r ≡ get_or rows i [] → IsSeat rank key rows i → IsRankAt rank key r q

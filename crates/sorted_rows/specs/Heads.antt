@@ -11,7 +11,7 @@ module _ {X : Type 0} (rank weight : X → ℕ) (measured : ℕ) where
     pub past : h.measured ≤ measured
     pub top : h.measured ≡ measured → h.top ≡ greatest_weight weight r
 
-  -- a head for each row, and a number that a new head hasn't
+  -- a head for each row; 0 is no measure's number
   pub record AreHeads (heads : List Head) (rows : List (List X)) : Type 0 where
     pub begun : 0 < measured
     pub same : length heads ≡ length rows

@@ -8,9 +8,13 @@ ghost use Rattle.sorted_rows.specs.Weights.{weighs};
 
 use crate::entries::RowEntry;
 use crate::heads::{Head, next_measure};
-use crate::row::Row;
+use crate::row::{Row, put_in};
 use std::alloc::{AllocError, Global};
 use std::marker::Model;
+
+/// How many searches in a row by other measures a list keeps its own for. Heads that are wiped for
+/// each search in turn would tell nothing.
+const PATIENCE: u8 = 8;
 
 /// Rows, with a head for each. All that changes either goes through here. A contract sees the rows,
 /// and how many may stand here.
@@ -18,9 +22,11 @@ use std::marker::Model;
 pub struct HeadedRows<T: RowEntry> {
     heads: Vec<Head>,
     rows: Vec<Row<T>>,
-    /// The measure of the last search by weight, and its number: a head that has it too is current.
+    /// The measure that weights are by, and its number: a head that has it too is current.
     measure: T::Measure,
     measured: u64,
+    /// How many searches by other measures came since the last by this one.
+    others: u8,
 }
 
 impl<T: RowEntry> Model for HeadedRows<T> {
@@ -47,6 +53,7 @@ impl<T: RowEntry> HeadedRows<T> {
             rows: Vec::new(alloc),
             measure: T::first_measure(),
             measured: 1,
+            others: 0,
         }
     }
 
@@ -166,14 +173,8 @@ impl<T: RowEntry> HeadedRows<T> {
         let head = self.heads[seat];
         let behind = head.lowered(&high, self.measure, self.measured);
         self.heads[seat] = head.lowered(low, self.measure, self.measured);
-        match self.heads.insert(seat + 1, behind) {
-            Ok(()) => {}
-            Err(_) => unreachable!(),
-        }
-        match self.rows.insert(seat + 1, high) {
-            Ok(()) => {}
-            Err(_) => unreachable!(),
-        }
+        put_in(&mut self.heads, seat + 1, behind);
+        put_in(&mut self.rows, seat + 1, high);
     }
 
     /// Moves the entries of the next row to this one, and takes that row out.
@@ -217,18 +218,26 @@ impl<T: RowEntry> HeadedRows<T> {
         head.is_light(self.measured, least) && T::is_same(self.measure, measure)
     }
 
-    /// The first entry behind a row that weighs as much as `least` or more. The heads keep this
-    /// measure.
+    /// The first entry behind a row that weighs as much as `least` or more. The heads keep their
+    /// measure until so many searches by others came that it seems not to be asked for any more.
     pub fn search(&mut self, measure: T::Measure, seat: usize, least: u64) -> Option<T>
         requires { seat < length self.old.items }
         ensures value { result ≡ find (weighs (T.weight measure) least)
             (entries_in (drop (seat + 1) self.old.items)) }
         ensures unchanged { self.new ≡ self.old }
     {
+        if self.rows.len() - seat == 1 {
+            return None;
+        }
         if !T::is_same(self.measure, measure) {
+            if self.others < PATIENCE {
+                self.others += 1;
+                return heavy_among(&self.rows, measure, seat + 1, least);
+            }
             self.measure = measure;
             self.measured = next_measure(&mut self.heads, self.measured);
         }
+        self.others = 0;
         heavy_from(
             &mut self.heads,
             &self.rows,
@@ -238,6 +247,26 @@ impl<T: RowEntry> HeadedRows<T> {
             least,
         )
     }
+}
+
+/// The first entry, from a row on, that weighs so much, without a look at what is known of rows.
+#[tactic(auto, using(crate::proofs::HeavyLemmas::found_among))]
+fn heavy_among<T: RowEntry>(
+    rows: &[Row<T>],
+    measure: T::Measure,
+    from: usize,
+    least: u64,
+) -> Option<T>
+    ensures { result ≡ find (weighs (T.weight measure) least) (entries_in (drop from rows.now)) }
+{
+    let mut seat = from;
+    while seat < rows.len() {
+        if let Some(entry) = rows[seat].heavy(measure, 0, least) {
+            return Some(entry);
+        }
+        seat += 1;
+    }
+    None
 }
 
 /// The first entry, from a row on, that weighs so much. A row that is known to be too light costs

@@ -11,10 +11,12 @@
 //!   spare:  [ ] [ ]                                         a row for each that a split may need
 //! ```
 //!
-//! These weights are by one measure, that of the last search by weight. Measures are numbered, and a
-//! head has the number of the measure that its weight is by. So a search by another measure takes
-//! the next number, and no head's weight counts until its row is searched in vain; one that doesn't
-//! count isn't kept up. By the measure that a list begins with all count from the first on.
+//! These weights are by one measure. Measures are numbered, and a head has the number of the
+//! measure that its weight is by: where that is the list's, it counts and is kept up. A list begins
+//! with a measure, by which all heads count. A search by another looks at no head and weighs all
+//! that it comes by, until 9 that went on behind the key's row came with none by the list's between
+//! them. Then its measure becomes the list's and takes the next number, and a head counts again
+//! when its row is searched in vain behind the key's.
 //!
 //! An entry is found by two searches, for its row and for its place there. The heads are halved
 //! until 16 or fewer are left, and of these are counted those that begin at the key or below it. In

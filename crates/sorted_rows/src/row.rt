@@ -232,23 +232,23 @@ impl<T: RowEntry> Row<T> {
     }
 }
 
-/// Puts an entry in, where there is room. LLVM makes a `memmove` of a turn by one, where
+/// Puts an item in, where there is room. LLVM makes a `memmove` of a turn by one, where
 /// `Vec::insert` moves entry by entry.
-fn put_in<T: RowEntry>(items: &mut Vec<T>, at: usize, entry: T)
+pub fn put_in<X>(items: &mut Vec<X>, at: usize, item: X)
     requires at { at ≤ vec_len items.old }
     requires room { vec_len items.old < vec_capacity items.old }
-    ensures items { items.new.items ≡ insert items.old.items at entry }
+    ensures items { items.new.items ≡ insert items.old.items at item }
     ensures len { vec_len items.new ≡ vec_len items.old + 1 }
     ensures capacity { vec_capacity items.new ≡ vec_capacity items.old }
 {
-    items.push_reserved(entry);
+    items.push_reserved(item);
     turn_last(items, at);
 }
 
-/// Puts the last entry at a place, and those from there on behind it.
-fn turn_last<T: RowEntry>(items: &mut [T], at: usize)
+/// Puts the last item at a place, and those from there on behind it.
+fn turn_last<X>(items: &mut [X], at: usize)
     requires { at < length items.old }
-    ensures { (xs : List T) (x : T) → items.old ≡ xs ++ x ∷ [] → items.new ≡ insert xs at x }
+    ensures { (xs : List X) (x : X) → items.old ≡ xs ++ x ∷ [] → items.new ≡ insert xs at x }
 {
     items[at..].rotate_right(1);
 }

@@ -82,8 +82,8 @@ impl Grid {
 /// By what the entries of an index are weighed.
 #[derive(Clone, Copy, PartialEq, Eq, Debug)]
 pub enum Measure {
-    /// By the second number of the key: the length, in the rising order. Each row keeps it from the
-    /// first on, so that no search of `next` has to weigh all ranges.
+    /// By the second number of the key: the length, in the rising order. Each row's head keeps it
+    /// from the first on, so that no search of `next` has to weigh all ranges.
     Minor,
     /// By how many units can stand so in the range, in the order of sizes.
     Reach(Grid),
