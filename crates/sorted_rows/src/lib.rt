@@ -21,9 +21,9 @@
 //! An entry is found by two searches, for its row and for its place there. The heads are halved
 //! until 16 or fewer are left, and of these are counted those that begin at the key or below it. In
 //! the row the entries below the key are counted: by the last of each 8, and in one 8 one by one,
-//! so that at most 15 are looked at. To halve there would be slower. The processor guesses every
-//! second time wrong what a key tells, so that nothing branches on it: it is added, or multiplied.
-//! Near the key that `Rows::go_to` was given last one of the searches, or both, fall away.
+//! so that at most 15 are looked at. To halve there would be slower: the processor guesses every
+//! second time wrong which half it is, and LLVM makes no branch of a count. Near the key that
+//! `Rows::go_to` was given last one of the searches, or both, fall away.
 //!
 //! An entry that is taken out is struck first: it lies in its row until the next change or search
 //! by weight. One that is put in next and belongs in its place takes it, and nothing moves: so it

@@ -45,8 +45,7 @@ fn seat_of<T: RowEntry>(rows: &HeadedRows<T>, key: u128) -> usize
     count_up_to(rows, low, high, key).saturating_sub(1)
 }
 
-/// At least and at most how many rows begin at the key or below it. What a key tells is multiplied
-/// in, so that LLVM makes no branch of it.
+/// At least and at most how many rows begin at the key or below it.
 fn halve<T: RowEntry>(rows: &HeadedRows<T>, key: u128) -> (usize, usize)
     requires laid { IsLaid T.rank rows.now.items }
     ensures within { (result.0 ≤ result.1) × (result.1 ≤ length rows.now.items) }
