@@ -236,8 +236,8 @@ pub enum Line {
 
 impl Line {
     /// The line that these bytes are, or the first reason why they are none. They are given without
-    /// the line feed. As a line that is read is words with one space between them, whether these are
-    /// is looked at only where it is refused. It takes no memory.
+    /// the line feed. A line that is read is words with one space between them, so whether these
+    /// are is looked at only where they are refused. It takes no memory.
     pub fn read(bytes: &[u8]) -> Result<Line, LineFault>
         ensures { result ≡ line_of bytes.now }
     {

@@ -20,8 +20,8 @@ pub fn name(word: &[u8]) -> Result<ArenaName, LineFault>
     }
 }
 
-/// The words of a line that are left to read. A contract sees them as a list. Each is cut when it is
-/// taken: what is left of the line isn't cut yet.
+/// The words of a line that are left to read. A contract sees them as a list. Each is cut when it
+/// is taken: what is left of the line isn't cut yet.
 #[derive(Drop)]
 pub struct Words<'a> {
     rest: Option<&'a [u8]>,

@@ -1,6 +1,6 @@
 //! What is known of a row without a look at its entries.
 ghost use Rattle.std.specs.Prelude.{◌≡◌, ◌<◌, ◌≤◌, ℕ, List, [], ◌++◌, length, insert, remove, max};
-ghost use Rattle.std.specs.Prelude.{slice_index_or, IsTrue};
+ghost use Rattle.std.specs.Prelude.{slice_index_or, min, IsTrue};
 ghost use Rattle.sorted_rows.specs.Heads.{IsHead};
 ghost use Rattle.sorted_rows.specs.Weights.{greatest_weight};
 
@@ -43,7 +43,8 @@ impl Head {
         requires past { self.measured ≤ measured }
         requires most { self.measured ≡ measured
             → greatest_weight (T.weight measure) row.now ≤ self.top }
-        ensures { IsHead T.rank (T.weight measure) measured result row.now }
+        ensures head { IsHead T.rank (T.weight measure) measured result row.now }
+        ensures current { result.measured ≡ self.measured }
     {
         let first = row.first();
         if self.measured != measured {
@@ -65,9 +66,10 @@ impl Head {
         measure: T::Measure,
         measured: u64,
     ) -> Head
-        ensures { (xs : List T) (at : ℕ) → IsHead T.rank (T.weight measure) measured self xs
+        ensures head { (xs : List T) (at : ℕ) → IsHead T.rank (T.weight measure) measured self xs
             → row.now ≡ insert xs at entry
             → IsHead T.rank (T.weight measure) measured result row.now }
+        ensures current { result.measured ≡ self.measured }
     {
         let first = row.first();
         if self.measured != measured {
@@ -92,9 +94,10 @@ impl Head {
         requires past { self.measured ≤ measured }
         requires most { self.measured ≡ measured
             → greatest_weight (T.weight measure) row.now ≤ self.top }
-        ensures { (xs : List T) (at : ℕ) → IsHead T.rank (T.weight measure) measured self xs
+        ensures head { (xs : List T) (at : ℕ) → IsHead T.rank (T.weight measure) measured self xs
             → at < length xs → entry ≡ slice_index_or xs at entry → row.now ≡ remove xs at
             → IsHead T.rank (T.weight measure) measured result row.now }
+        ensures current { result.measured ≡ self.measured }
     {
         let first = row.first();
         if self.measured != measured {
@@ -118,10 +121,11 @@ impl Head {
         requires past { self.measured ≤ measured }
         requires most { self.measured ≡ measured → greatest_weight (T.weight measure) row.now
             ≤ max self.top (T.weight measure entry) }
-        ensures { (xs : List T) (at : ℕ) → IsHead T.rank (T.weight measure) measured self xs
+        ensures head { (xs : List T) (at : ℕ) → IsHead T.rank (T.weight measure) measured self xs
             → at < length xs → old ≡ slice_index_or xs at old
             → row.now ≡ insert (remove xs at) at entry
             → IsHead T.rank (T.weight measure) measured result row.now }
+        ensures current { result.measured ≡ self.measured }
     {
         let first = row.first();
         if self.measured != measured {
@@ -143,10 +147,11 @@ impl Head {
 
     /// The head of a row that the next one's entries were moved to. It is current where both were.
     pub fn joined<T: RowEntry>(self, next: Head, row: &Row<T>) -> Head
-        ensures { (measure : T.Measure) (measured : ℕ) (xs ys : List T)
+        ensures head { (measure : T.Measure) (measured : ℕ) (xs ys : List T)
             → IsHead T.rank (T.weight measure) measured self xs
             → IsHead T.rank (T.weight measure) measured next ys → row.now ≡ xs ++ ys
             → IsHead T.rank (T.weight measure) measured result row.now }
+        ensures current { result.measured ≡ min self.measured next.measured }
     {
         Head {
             first: row.first(),

@@ -16,4 +16,4 @@ invariant_of-self g c =
     let left : AreHeads rank weight measured c.remove-head.new.self.items c.remove-next.new.self.items = rw (c.remove-head.ensures.items, c.remove-next.ensures.items) (heads_remove rank weight measured heads rows (c.args.seat + 1) c.self.invariant next) in
     let low = head_at rank weight measured c.remove-head.new.self.items c.remove-next.new.self.items c.args.seat c.index-low.result.now c.index_mut-row.result.now left (omega arith) c.index-low.ensures c.index_mut-row.ensures.value in
     let high = head_at rank weight measured heads rows (c.args.seat + 1) c.remove-head.result c.remove-next.result c.self.invariant next c.remove-head.ensures.value c.remove-next.ensures.value in
-    heads_set rank weight measured c.remove-head.new.self.items c.remove-next.new.self.items c.args.seat c.joined.result c.join.new.self left (omega arith) (c.joined.ensures c.self.inside.measure measured c.index_mut-row.result.now c.remove-next.result low high c.join.ensures.items)
+    heads_set rank weight measured c.remove-head.new.self.items c.remove-next.new.self.items c.args.seat c.joined.result c.join.new.self left (omega arith) (c.joined.ensures.head c.self.inside.measure measured c.index_mut-row.result.now c.remove-next.result low high c.join.ensures.items)

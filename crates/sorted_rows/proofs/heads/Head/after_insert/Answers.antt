@@ -3,8 +3,8 @@ use Rattle.sorted_rows.specs.Weights.{greatest_weight}
 use Rattle.sorted_rows.proofs.WeightLemmas.{greatest_insert}
 use Rattle.sorted_rows.proofs.heads.Head.after_insert.Goals as goal
 
-pub returns : goal.returns
-returns g c = λ xs at is new.
+pub returns-clause-head : goal.returns-clause-head
+returns-clause-head g c = λ xs at is new.
     let weight = g.T.RowEntry.weight c.args.measure in
     let grown = greatest_insert weight xs at c.args.entry in
     record {

@@ -2,8 +2,8 @@ use Rattle.std.proofs.Common.{arith}
 use Rattle.sorted_rows.proofs.WeightLemmas.{top_left}
 use Rattle.sorted_rows.proofs.heads.Head.after_remove.Goals as goal
 
-pub returns-then-weight-self : goal.returns-then-weight-self
-returns-then-weight-self g c = λ xs at is lt stood new.
+pub returns-then-weight-self-clause-head : goal.returns-then-weight-self-clause-head
+returns-then-weight-self-clause-head g c = λ xs at is lt stood new.
     let weight = g.T.RowEntry.weight c.args.measure in
     record {
       first = c.first-first.ensures;

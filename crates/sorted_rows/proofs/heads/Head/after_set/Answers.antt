@@ -2,8 +2,8 @@ use Rattle.std.proofs.Common.{arith}
 use Rattle.sorted_rows.proofs.WeightLemmas.{top_put_high, top_put_same}
 use Rattle.sorted_rows.proofs.heads.Head.after_set.Goals as goal
 
-pub returns-then-weight-self : goal.returns-then-weight-self
-returns-then-weight-self g c = λ xs at is lt stood new.
+pub returns-then-weight-self-clause-head : goal.returns-then-weight-self-clause-head
+returns-then-weight-self-clause-head g c = λ xs at is lt stood new.
     let weight = g.T.RowEntry.weight c.args.measure in
     record {
       first = c.first-first.ensures;
@@ -11,8 +11,8 @@ returns-then-weight-self g c = λ xs at is lt stood new.
       top = λ _. rw new (top_put_high weight xs at c.args.entry c.args.self.top c.weight-weight.result (is.top (omega arith)) c.weight-weight.ensures (omega arith) lt);
     }
 
-pub returns-then-weight-self-2 : goal.returns-then-weight-self-2
-returns-then-weight-self-2 g c = λ xs at is lt stood new.
+pub returns-then-weight-self-2-clause-head : goal.returns-then-weight-self-2-clause-head
+returns-then-weight-self-2-clause-head g c = λ xs at is lt stood new.
     let weight = g.T.RowEntry.weight c.args.measure in
     record {
       first = c.first-first.ensures;

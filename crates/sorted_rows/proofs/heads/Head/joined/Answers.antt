@@ -3,8 +3,8 @@ use Rattle.sorted_rows.specs.Weights.{greatest_weight}
 use Rattle.sorted_rows.proofs.WeightLemmas.{greatest_append}
 use Rattle.sorted_rows.proofs.heads.Head.joined.Goals as goal
 
-pub returns : goal.returns
-returns g c = λ measure measured xs ys is are new.
+pub returns-clause-head : goal.returns-clause-head
+returns-clause-head g c = λ measure measured xs ys is are new.
     let weight = g.T.RowEntry.weight measure in
     let joined = greatest_append weight xs ys in
     record {
