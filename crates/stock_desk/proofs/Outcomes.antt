@@ -23,6 +23,7 @@ use Rattle.lease_machine.specs.Replies.{again_of, SettlesRefusal}
 use Rattle.stock_desk.specs.Supplies.{SupplyState, picture_with}
 use Rattle.stock_desk.specs.Telling.{IsGivenIn, CanName, reply_to_answer}
 use Rattle.stock_desk.proofs.BookMoves.{refused_is_picture}
+use Rattle.stock_desk.proofs.KnownAnswers.{IsKnown}
 use Rattle.stock_desk.proofs.NewAnswers.{not_repeated}
 
 -- it is settled by this refusal, where E, or nothing is, where A
@@ -47,6 +48,15 @@ module _ {D : Type 0} (tree : List TreeArena) (old new : BookState) (id : Reques
   answer_told (answer.Stale greatest) is = absurd (omega (arith, fresh.next, is.0.below, is.0.last))
   answer_told (answer.Gap greatest) is = absurd (omega (arith, fresh.next, is.0.above, is.0.last))
   answer_told answer.Again is = inr (is.0, is.1, refl)
+
+-- the number isn't new, and nothing changed; or it is
+pub known_or_new : {D : Type 0} (old new : BookState) (id : RequestId) (refusal : Refusal) (E : Type 0) (a : Answer D) → IsAnswer old new id (λ v. IsRefused old new id refusal v × E) ⊥ a → (IsKnown old id a × (new ≡ old)) ⊎ IsNew (account_in id.client old) id
+known_or_new old new id refusal E (answer.Kept v) is = inl is
+known_or_new old new id refusal E (answer.Old current) is = inl is
+known_or_new old new id refusal E (answer.Stale greatest) is = inl is
+known_or_new old new id refusal E (answer.Gap greatest) is = inl is
+known_or_new old new id refusal E (answer.Refused v) is = inr is.0.new
+known_or_new old new id refusal E answer.Again is = absurd is.0
 
 -- either leaves a picture
 pub outcome_is_picture : (s : SupplyState) (old new : BookState) (id : RequestId) (refusal : Refusal) (E A : Type 0) (r : Reply) → Outcome old new id refusal E A r → IsPicture (picture_with old s) → IsPicture (picture_with new s)

@@ -1,10 +1,8 @@
 //! The answer to a release.
 ghost use Rattle.std.specs.Prelude.{◌≡◌, ◌<◌, length, Some};
 ghost use Rattle.arena_tree.specs.Trees.{index_in};
-ghost use Rattle.lease_book.specs.Answers.{IsNew};
-ghost use Rattle.lease_book.specs.BookState.{account_in};
 ghost use Rattle.lease_proto.specs.declared.lines.Op.TheVariants as ops;
-ghost use Rattle.lease_machine.specs.Machine.{RequestStep, NewRelease};
+ghost use Rattle.lease_machine.specs.Machine.{RequestStep};
 ghost use Rattle.lease_machine.specs.Picture.{IsPicture, SameSetup};
 ghost use Rattle.stock_desk.specs.Supplies.{picture_with};
 
@@ -30,17 +28,17 @@ pub(crate) fn release(
     ensures step { RequestStep id (ops.Release line.now)
         (picture_with book.old supply.old) (picture_with book.new supply.new) result }
 {
-    match known(&supply.tree, book, id) {
-        Some(reply) => reply,
-        None => match supply.tree.find(&line.arena) {
-            Some(arena) => release_new(supply, book, id, line, arena),
+    match supply.tree.find(&line.arena) {
+        Some(arena) => release_in(supply, book, id, line, arena),
+        None => match known(&supply.tree, book, id) {
+            Some(reply) => reply,
             None => refuse(&supply.tree, book, id, Refusal::NoArena),
         },
     }
 }
 
-/// Answers a new release of a lease in the arena.
-fn release_new(
+/// Answers a release of a lease in the arena. Whether its number is new the book says with it.
+fn release_in(
     supply: &mut Supply,
     book: &mut Book<PlainDeed>,
     id: RequestId,
@@ -48,13 +46,12 @@ fn release_new(
     arena: u32,
 ) -> Reply
     requires picture { IsPicture (picture_with book.old supply.old) }
-    requires new { IsNew (account_in id.client book.old) id }
     requires first { index_in line.now.arena supply.old.tree ≡ Some arena }
     requires within { arena < length supply.old.tree }
     ensures picture { IsPicture (picture_with book.new supply.new) }
     ensures setup { SameSetup (picture_with book.old supply.old)
         (picture_with book.new supply.new) }
-    ensures step { NewRelease id line.now
+    ensures step { RequestStep id (ops.Release line.now)
         (picture_with book.old supply.old) (picture_with book.new supply.new) result }
 {
     match book.release(id, arena, line.base) {

@@ -1,16 +1,19 @@
-use Rattle.std.proofs.Common.{◌≡◌, refl, sym, subst, None}
+use Rattle.std.proofs.Common.{◌≡◌, refl, sym, subst, ap, inl, inr, None}
 use Rattle.std.specs.List.{find}
 use Rattle.deed_core.proofs.LawProofs.{slice_get_some}
 use Rattle.lease_proto.specs.declared.replies.Reply.{Reply}
 use Rattle.lease_terms.specs.declared.refusals.Refusal.TheVariants as why
 use Rattle.lease_book.specs.Account.{is_lease}
-use Rattle.lease_book.specs.BookState.{account_in}
-use Rattle.stock_desk.specs.Supplies.{picture_with}
+use Rattle.lease_book.specs.BookState.{BookState, account_in}
+use Rattle.lease_machine.specs.Picture.{IsPicture}
+use Rattle.lease_machine.specs.Replies.{IsKnownReply}
+use Rattle.stock_desk.specs.Supplies.{SupplyState, picture_with}
 use Rattle.stock_desk.specs.Telling.{reply_to_answer}
 use Rattle.stock_desk.proofs.BookMoves.{released_in_hand, released_book}
-use Rattle.stock_desk.proofs.Outcomes.{Outcome, answer_named, answer_told, outcome_is_picture, release_refused}
+use Rattle.stock_desk.proofs.KnownAnswers.{known_named, known_told}
+use Rattle.stock_desk.proofs.Outcomes.{Outcome, answer_named, answer_told, known_or_new, outcome_is_picture, release_refused}
 use Rattle.stock_desk.proofs.Sweeping.{back_is_picture, setup_from, back_from}
-use Rattle.stock_desk.proofs.releasing.release_new.Goals as goal
+use Rattle.stock_desk.proofs.releasing.release_in.Goals as goal
 
 pub put_back-requires : goal.put_back-requires
 put_back-requires c = record {
@@ -22,8 +25,13 @@ put_back-requires c = record {
 
 pub answered-requires : goal.answered-requires
 answered-requires c =
-    answer_named c.supply.inside.tree c.args.book.now c.release.new.self c.args.id why.NotYours (find (is_lease c.args.id.incarnation c.args.arena c.args.line.now.base) (account_in c.args.id.client c.args.book.now).leases ≡ None) ⊥
-    c.requires.new c.in-Err.answer c.in-Err.ensures.answer
+    let before = picture_with c.args.book.now c.args.supply.now in
+    let gone = find (is_lease c.args.id.incarnation c.args.arena c.args.line.now.base) (account_in c.args.id.client c.args.book.now).leases ≡ None in
+    let tree : before.tree ≡ c.supply.inside.tree = ap (λ (s : SupplyState). s.tree) (sym c.supply.view_is) in
+    elim (known_or_new c.args.book.now c.release.new.self c.args.id why.NotYours gone c.in-Err.answer c.in-Err.ensures.answer) [
+      | inl k ↦ known_named c.supply.inside.tree c.args.book.now c.args.id before c.requires.picture tree refl c.in-Err.answer k.0
+      | inr fresh ↦ answer_named c.supply.inside.tree c.args.book.now c.release.new.self c.args.id why.NotYours gone ⊥ fresh c.in-Err.answer c.in-Err.ensures.answer
+    ]
 
 pub returns-in-Ok-clause-picture : goal.returns-in-Ok-clause-picture
 returns-in-Ok-clause-picture c =
@@ -40,7 +48,8 @@ returns-in-Ok-clause-setup c =
 pub returns-in-Ok-clause-step : goal.returns-in-Ok-clause-step
 returns-in-Ok-clause-step c =
     let held = released_in_hand (picture_with c.args.book.now c.args.supply.now) c.release.new.self c.args.id c.args.arena c.args.line.now.base c.in-Ok.field-0-0 c.in-Ok.segment c.in-Ok.ensures.released c.requires.picture in
-    let here = slice_get_some c.args.supply.now.tree c.args.arena c.requires.within in (
+    let here = slice_get_some c.args.supply.now.tree c.args.arena c.requires.within in
+    inr (c.in-Ok.ensures.released.new, (
       refl,
       record {
         index = c.args.arena;
@@ -51,17 +60,30 @@ returns-in-Ok-clause-step c =
         released = c.in-Ok.ensures.released;
         back = back_from c.in-Ok.segment c.args.supply.now c.put_back.new.self c.release.new.self c.args.book.now (c.put_back.ensures c.release.new.self held);
       },
-    )
+    ))
 
 pub returns-in-Err-clause-picture : goal.returns-in-Err-clause-picture
 returns-in-Err-clause-picture c =
     let gone = find (is_lease c.args.id.incarnation c.args.arena c.args.line.now.base) (account_in c.args.id.client c.args.book.now).leases ≡ None in
-    let told = answer_told c.supply.inside.tree c.args.book.now c.release.new.self c.args.id why.NotYours gone ⊥ c.requires.new c.in-Err.answer c.in-Err.ensures.answer in
-    outcome_is_picture c.args.supply.now c.args.book.now c.release.new.self c.args.id why.NotYours gone ⊥ (reply_to_answer c.supply.inside.tree c.args.id c.in-Err.answer) told c.requires.picture
+    elim (known_or_new c.args.book.now c.release.new.self c.args.id why.NotYours gone c.in-Err.answer c.in-Err.ensures.answer) [
+      | inl k ↦ subst (λ (b : BookState). IsPicture (picture_with b c.args.supply.now)) (sym k.1) c.requires.picture
+      | inr fresh ↦
+          let told = answer_told c.supply.inside.tree c.args.book.now c.release.new.self c.args.id why.NotYours gone ⊥ fresh c.in-Err.answer c.in-Err.ensures.answer in
+          outcome_is_picture c.args.supply.now c.args.book.now c.release.new.self c.args.id why.NotYours gone ⊥ (reply_to_answer c.supply.inside.tree c.args.id c.in-Err.answer) told c.requires.picture
+    ]
 
 pub returns-in-Err-clause-step : goal.returns-in-Err-clause-step
 returns-in-Err-clause-step c =
+    let before = picture_with c.args.book.now c.args.supply.now in
     let gone = find (is_lease c.args.id.incarnation c.args.arena c.args.line.now.base) (account_in c.args.id.client c.args.book.now).leases ≡ None in
-    let told = answer_told c.supply.inside.tree c.args.book.now c.release.new.self c.args.id why.NotYours gone ⊥ c.requires.new c.in-Err.answer c.in-Err.ensures.answer in
-    release_refused c.args.supply.now c.args.book.now c.release.new.self c.args.id c.args.line.now c.args.arena c.answered.result c.requires.first
-    (subst (λ (r : Reply). Outcome c.args.book.now c.release.new.self c.args.id why.NotYours gone ⊥ r) (sym c.answered.ensures) told)
+    let tree : before.tree ≡ c.supply.inside.tree = ap (λ (s : SupplyState). s.tree) (sym c.supply.view_is) in
+    elim (known_or_new c.args.book.now c.release.new.self c.args.id why.NotYours gone c.in-Err.answer c.in-Err.ensures.answer) [
+      | inl k ↦ inl (
+          subst (IsKnownReply before c.args.id) (sym c.answered.ensures) (known_told c.supply.inside.tree c.args.book.now c.args.id c.in-Err.answer k.0 before tree refl),
+          ap (λ (b : BookState). picture_with b c.args.supply.now) k.1,
+        )
+      | inr fresh ↦
+          let told = answer_told c.supply.inside.tree c.args.book.now c.release.new.self c.args.id why.NotYours gone ⊥ fresh c.in-Err.answer c.in-Err.ensures.answer in
+          inr (fresh, release_refused c.args.supply.now c.args.book.now c.release.new.self c.args.id c.args.line.now c.args.arena c.answered.result c.requires.first
+          (subst (λ (r : Reply). Outcome c.args.book.now c.release.new.self c.args.id why.NotYours gone ⊥ r) (sym c.answered.ensures) told))
+    ]
