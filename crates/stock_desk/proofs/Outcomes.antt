@@ -1,4 +1,4 @@
--- What a book answers to a new request that isn't granted, and what is told of it.
+-- What a book answers to a request that isn't granted, and what is told of it.
 use Rattle.std.proofs.Common.{◌≡◌, ◌⊎◌, ℕ, refl, sym, subst, ap, inl, inr, List, Some, None, arith}
 use Rattle.std.specs.List.{find}
 use Rattle.arena_tree.specs.declared.trees.TreeArena.{TreeArena}
@@ -49,6 +49,13 @@ module _ {D : Type 0} (tree : List TreeArena) (old new : BookState) (id : Reques
   answer_told (answer.Gap greatest) is = absurd (omega (arith, fresh.next, is.0.above, is.0.last))
   answer_told answer.Again is = inr (is.0, is.1, refl)
 
+-- either leaves a picture
+pub outcome_is_picture : (s : SupplyState) (old new : BookState) (id : RequestId) (refusal : Refusal) (E A : Type 0) (r : Reply) → Outcome old new id refusal E A r → IsPicture (picture_with old s) → IsPicture (picture_with new s)
+outcome_is_picture s old new id refusal E A r outcome is = elim outcome [
+  | inl o ↦ refused_is_picture (picture_with old s) new id refusal o.0 o.1 is
+  | inr o ↦ subst (λ (b : BookState). IsPicture (picture_with b s)) (sym o.1) is
+]
+
 -- the number isn't new, and nothing changed; or it is
 pub known_or_new : {D : Type 0} (old new : BookState) (id : RequestId) (refusal : Refusal) (E : Type 0) (a : Answer D) → IsAnswer old new id (λ v. IsRefused old new id refusal v × E) ⊥ a → (IsKnown old id a × (new ≡ old)) ⊎ IsNew (account_in id.client old) id
 known_or_new old new id refusal E (answer.Kept v) is = inl is
@@ -57,13 +64,6 @@ known_or_new old new id refusal E (answer.Stale greatest) is = inl is
 known_or_new old new id refusal E (answer.Gap greatest) is = inl is
 known_or_new old new id refusal E (answer.Refused v) is = inr is.0.new
 known_or_new old new id refusal E answer.Again is = absurd is.0
-
--- either leaves a picture
-pub outcome_is_picture : (s : SupplyState) (old new : BookState) (id : RequestId) (refusal : Refusal) (E A : Type 0) (r : Reply) → Outcome old new id refusal E A r → IsPicture (picture_with old s) → IsPicture (picture_with new s)
-outcome_is_picture s old new id refusal E A r outcome is = elim outcome [
-  | inl o ↦ refused_is_picture (picture_with old s) new id refusal o.0 o.1 is
-  | inr o ↦ subst (λ (b : BookState). IsPicture (picture_with b s)) (sym o.1) is
-]
 
 -- a new release that is refused, as no such lease is there
 pub release_refused : (s : SupplyState) (old new : BookState) (id : RequestId) (l : ReleaseLine) (index : ℕ) (r : Reply) → index_in l.arena s.tree ≡ Some index

@@ -37,7 +37,8 @@ pub(crate) fn release(
     }
 }
 
-/// Answers a release of a lease in the arena. Whether its number is new the book says with it.
+/// Answers a release of a lease in the arena. The book tells in the same call whether its number is
+/// new.
 fn release_in(
     supply: &mut Supply,
     book: &mut Book<PlainDeed>,
