@@ -49,18 +49,21 @@ pub returns-in-Ok-clause-step : goal.returns-in-Ok-clause-step
 returns-in-Ok-clause-step c =
     let held = released_in_hand (picture_with c.args.book.now c.args.supply.now) c.release.new.self c.args.id c.args.arena c.args.line.now.base c.in-Ok.field-0-0 c.in-Ok.segment c.in-Ok.ensures.released c.requires.picture in
     let here = slice_get_some c.args.supply.now.tree c.args.arena c.requires.within in
-    inr (c.in-Ok.ensures.released.new, (
-      refl,
-      record {
-        index = c.args.arena;
-        arena = here.0;
-        finds = record { first = c.requires.first; here = here.1 };
-        segment = c.in-Ok.segment;
-        receipt = c.in-Ok.field-0-0;
-        released = c.in-Ok.ensures.released;
-        back = back_from c.in-Ok.segment c.args.supply.now c.put_back.new.self c.release.new.self c.args.book.now (c.put_back.ensures c.release.new.self held);
-      },
-    ))
+    inr (
+      c.in-Ok.ensures.released.new,
+      (
+        refl,
+        record {
+          index = c.args.arena;
+          arena = here.0;
+          finds = record { first = c.requires.first; here = here.1 };
+          segment = c.in-Ok.segment;
+          receipt = c.in-Ok.field-0-0;
+          released = c.in-Ok.ensures.released;
+          back = back_from c.in-Ok.segment c.args.supply.now c.put_back.new.self c.release.new.self c.args.book.now (c.put_back.ensures c.release.new.self held);
+        },
+      ),
+    )
 
 pub returns-in-Err-clause-picture : goal.returns-in-Err-clause-picture
 returns-in-Err-clause-picture c =
@@ -79,11 +82,14 @@ returns-in-Err-clause-step c =
     let tree : before.tree ≡ c.supply.inside.tree = ap (λ (s : SupplyState). s.tree) (sym c.supply.view_is) in
     elim (known_or_new c.args.book.now c.release.new.self c.args.id why.NotYours gone c.in-Err.answer c.in-Err.ensures.answer) [
       | inl k ↦ inl (
-          subst (IsKnownReply before c.args.id) (sym c.answered.ensures) (known_told c.supply.inside.tree c.args.book.now c.args.id c.in-Err.answer k.0 before tree refl),
-          ap (λ (b : BookState). picture_with b c.args.supply.now) k.1,
-        )
+        subst (IsKnownReply before c.args.id) (sym c.answered.ensures) (known_told c.supply.inside.tree c.args.book.now c.args.id c.in-Err.answer k.0 before tree refl),
+        ap (λ (b : BookState). picture_with b c.args.supply.now) k.1,
+      )
       | inr fresh ↦
           let told = answer_told c.supply.inside.tree c.args.book.now c.release.new.self c.args.id why.NotYours gone ⊥ fresh c.in-Err.answer c.in-Err.ensures.answer in
-          inr (fresh, release_refused c.args.supply.now c.args.book.now c.release.new.self c.args.id c.args.line.now c.args.arena c.answered.result c.requires.first
-          (subst (λ (r : Reply). Outcome c.args.book.now c.release.new.self c.args.id why.NotYours gone ⊥ r) (sym c.answered.ensures) told))
+          inr (
+            fresh,
+            release_refused c.args.supply.now c.args.book.now c.release.new.self c.args.id c.args.line.now c.args.arena c.answered.result c.requires.first
+                (subst (λ (r : Reply). Outcome c.args.book.now c.release.new.self c.args.id why.NotYours gone ⊥ r) (sym c.answered.ensures) told),
+          )
     ]
