@@ -1,13 +1,16 @@
 -- Searches by weight over rows.
-use Rattle.std.proofs.Common.{◌≡◌, ℕ, suc, ◌+◌, ◌<◌, List, [], ◌++◌, length, take, drop, get_or, sym, ap, subst, refl, ◌∙◌, arith, rules, Bool, Option, None, Some}
+use Rattle.std.proofs.Common.{◌≡◌, ℕ, zero, suc, ◌-◌, ◌≤◌, ◌+◌, ◌<◌, List, [], ◌++◌, length, take, drop, get_or, sym, ap, subst, refl, ◌∙◌, arith, rules, Bool, Option, None, Some}
 use Rattle.std.specs.List.{find}
 use Rattle.std.specs.Option.{option_or}
-use Rattle.std.proofs.lemmas.List.{drop-append-le, take-append-drop}
+use Rattle.std.proofs.lemmas.List.{drop-append-le, get_or_default, take-append-drop}
 use Rattle.std.proofs.lemmas.List.Folds.{find-append}
 use Rattle.std.proofs.Math.Seq.{drop-cons, drop-append-add}
 use Rattle.sorted_rows.specs.Order.{place_below, IsRankAt}
 use Rattle.sorted_rows.specs.Layout.{entries_in, IsLaid, IsSeat}
+use Rattle.sorted_rows.specs.Tops.{Describes, IsTop}
 use Rattle.sorted_rows.specs.Weights.{weighs, first_heavy_from}
+use Rattle.sorted_rows.specs.declared.tops.TheConstants.{UNTOLD}
+use Rattle.sorted_rows.proofs.HeadLemmas.{light_row}
 use Rattle.sorted_rows.proofs.PlaceLemmas.{below_is, below_stands}
 use Rattle.sorted_rows.proofs.RowLemmas.{entries_at, any_of, place_in_seat, rises_at}
 
@@ -39,6 +42,28 @@ module _ {X : Type 0} (p : X → Bool) where
   row_lacks rows k r found lt at is so =
       let next : suc k ≡ k + 1 = omega arith in
       so ∙ ap (find p) (rows_from rows k r lt at) ∙ (found_behind r (entries_in (drop (suc k) rows)) is ∙ ap (λ n. find p (entries_in (drop n rows))) next)
+
+-- past so many rows that their tops tell to be too light, and up to one
+pub past_light : {X : Type 0} (weight : X → ℕ) (tops : List ℕ) (rows : List (List X)) (from n least : ℕ) (found : Option X) → Describes (IsTop weight) tops rows → from + n ≤ length rows → ((k d : ℕ) → from ≤ k → k < from + n → get_or tops k d < least) → least ≤ UNTOLD
+    → found ≡ find (weighs weight least) (entries_in (drop from rows)) → found ≡ find (weighs weight least) (entries_in (drop (from + n) rows))
+past_light weight tops rows from zero least found are within light most so =
+    let e : from ≡ from + zero = omega arith in
+    so ∙ ap (λ k. find (weighs weight least) (entries_in (drop k rows))) e
+past_light weight tops rows from (suc n) least found are within light most so =
+    let at = from + n in
+    let e : at + 1 ≡ from + suc n = omega arith in
+    let lt : at < length rows = omega arith in
+    let row = get_or rows at [] in
+    let here = get_or_default rows at [] row lt in
+    let before = past_light weight tops rows from n least found are (omega arith) (λ k d le less. light k d le (omega arith)) most so in
+    let none = light_row weight tops rows at least 0 row are lt here (light at 0 (omega arith) (omega arith)) most in
+    row_lacks (weighs weight least) rows at row found lt here (sym none) before ∙ ap (λ k. find (weighs weight least) (entries_in (drop k rows))) e
+
+pub up_to_heavy : {X : Type 0} (weight : X → ℕ) (tops : List ℕ) (rows : List (List X)) (from to least : ℕ) (found : Option X) → Describes (IsTop weight) tops rows → from ≤ to → to ≤ length rows → ((k d : ℕ) → from ≤ k → k < to → get_or tops k d < least) → least ≤ UNTOLD
+    → found ≡ find (weighs weight least) (entries_in (drop from rows)) → found ≡ find (weighs weight least) (entries_in (drop to rows))
+up_to_heavy weight tops rows from to least found are le within light most so =
+    let e : from + (to - from) ≡ to = omega arith in
+    past_light weight tops rows from (to - from) least found are (omega arith) (λ k d ge less. light k d ge (omega arith)) most so ∙ ap (λ k. find (weighs weight least) (entries_in (drop k rows))) e
 
 -- where a walk over rows finds it
 pub ruleset found_among = (row_has, row_lacks)

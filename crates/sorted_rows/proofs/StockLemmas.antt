@@ -2,7 +2,7 @@
 use Rattle.std.proofs.Common.{◌≤◌, ◌+◌, ◌-◌, ◌*◌, ℕ, List, Option, length, vec_len, arith}
 use Rattle.std.specs.Global.{Vec}
 use Rattle.sorted_rows.specs.declared.seats.Spot.{Spot}
-use Rattle.sorted_rows.specs.Heads.{HeadedState}
+use Rattle.sorted_rows.specs.Tops.{HeadedState}
 use Rattle.sorted_rows.specs.Stocked.{IsStocked}
 
 module _ {X : Type 0} (rank : X → ℕ) where

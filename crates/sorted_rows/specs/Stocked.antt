@@ -3,7 +3,7 @@ use Rattle.std.specs.Prelude.{◌≡◌, ◌≤◌, ◌+◌, ◌-◌, ◌*◌, �
 use Rattle.std.specs.Prelude.{vec_len, vec_capacity}
 use Rattle.std.specs.Global.{Vec}
 use Rattle.sorted_rows.specs.declared.seats.Spot.{Spot}
-use Rattle.sorted_rows.specs.Heads.{HeadedState}
+use Rattle.sorted_rows.specs.Tops.{HeadedState}
 use Rattle.sorted_rows.specs.Layout.{entries_in, left_in, AreShort, IsLaid, IsSpot}
 
 module _ {X : Type 0} (rank : X → ℕ) where

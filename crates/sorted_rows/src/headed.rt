@@ -2,46 +2,47 @@
 ghost use Rattle.std.specs.Prelude.{◌≡◌, ◌+◌, ◌<◌, ◌≤◌, suc, [], ◌∷◌, ◌++◌, length, take, drop};
 ghost use Rattle.std.specs.Prelude.{set, insert, remove, slice_index_or, IsTrue, OnOk, None, ◌↔◌};
 ghost use Rattle.std.specs.List.{find};
-ghost use Rattle.sorted_rows.specs.Heads.{AreHeads};
 ghost use Rattle.sorted_rows.specs.Layout.{entries_in};
+ghost use Rattle.sorted_rows.specs.Tops.{Describes, IsTop};
 ghost use Rattle.sorted_rows.specs.Weights.{weighs};
 
 use crate::entries::RowEntry;
-use crate::heads::{Head, next_measure};
 use crate::row::{Row, put_in};
+use crate::tops::{after_insert, after_remove, after_set, joined, lowered, next_heavy, untell};
 use std::alloc::{AllocError, Global};
 use std::marker::Model;
 
-/// How many searches in a row by other measures a list keeps its own for. Heads that are wiped for
+/// How many searches in a row by other measures a list keeps its own for. Tops that are wiped for
 /// each search in turn would tell nothing.
 const PATIENCE: u8 = 8;
 
-/// Rows, with a head for each. All that changes either goes through here. A contract sees the rows,
-/// and how many may stand here.
+/// Rows, with the key of the first entry of each and its top. All that changes one of these goes
+/// through here. A contract sees the rows, and how many may stand here.
 #[derive(Drop)]
 pub struct HeadedRows<T: RowEntry> {
-    heads: Vec<Head>,
+    firsts: Vec<u128>,
+    tops: Vec<u64>,
     rows: Vec<Row<T>>,
-    /// The measure that weights are by, and its number: a head that has it too is current.
+    /// The measure that tops are by.
     measure: T::Measure,
-    measured: u64,
     /// How many searches by other measures came since the last by this one.
     others: u8,
 }
 
 impl<T: RowEntry> Model for HeadedRows<T> {
     ghost use Rattle.std.specs.Prelude.{min, vec_capacity};
-    ghost use Rattle.sorted_rows.specs.Heads.{AreHeads, HeadedState};
+    ghost use Rattle.sorted_rows.specs.Order.{FirstIs};
+    ghost use Rattle.sorted_rows.specs.Tops.{Describes, HeadedState, IsTop};
 
     ghost Value = { HeadedState T };
 
     ghost view = { λ a. record {
       items = a.rows.items;
-      capacity = min (vec_capacity a.heads) (vec_capacity a.rows);
+      capacity = min (min (vec_capacity a.firsts) (vec_capacity a.tops)) (vec_capacity a.rows);
     } };
 
-    ghost invariant = { λ a. AreHeads T.rank (T.weight a.measure) a.measured a.heads.items
-        a.rows.items };
+    ghost invariant = { λ a. Describes (FirstIs T.rank) a.firsts.items a.rows.items
+        × Describes (IsTop (T.weight a.measure)) a.tops.items a.rows.items };
 }
 
 impl<T: RowEntry> HeadedRows<T> {
@@ -49,10 +50,10 @@ impl<T: RowEntry> HeadedRows<T> {
         ensures { result.items ≡ [] }
     {
         HeadedRows {
-            heads: Vec::new(alloc),
+            firsts: Vec::new(alloc),
+            tops: Vec::new(alloc),
             rows: Vec::new(alloc),
             measure: T::first_measure(),
-            measured: 1,
             others: 0,
         }
     }
@@ -63,9 +64,8 @@ impl<T: RowEntry> HeadedRows<T> {
         ensures ok { OnOk result (length self.new.items + more ≤ self.new.capacity) }
         ensures capacity { self.old.capacity ≤ self.new.capacity }
     {
-        if self.heads.reserve(more).is_err() {
-            return Err(AllocError);
-        }
+        self.firsts.reserve(more)?;
+        self.tops.reserve(more)?;
         self.rows.reserve(more)
     }
 
@@ -89,7 +89,7 @@ impl<T: RowEntry> HeadedRows<T> {
         ensures { (d : T) → result
             ≡ T.rank (slice_index_or (slice_index_or self.now.items seat []) 0 d) }
     {
-        self.heads[seat].first
+        self.firsts[seat]
     }
 
     /// A row.
@@ -111,8 +111,9 @@ impl<T: RowEntry> HeadedRows<T> {
     {
         let row = &mut self.rows[seat];
         row.insert(at, entry);
-        let head = self.heads[seat];
-        self.heads[seat] = head.after_insert(row, entry, self.measure, self.measured);
+        self.firsts[seat] = row.first();
+        let top = self.tops[seat];
+        self.tops[seat] = after_insert(top, entry, self.measure);
     }
 
     /// Takes an entry out of a row, which may be empty then.
@@ -125,8 +126,9 @@ impl<T: RowEntry> HeadedRows<T> {
     {
         let row = &mut self.rows[seat];
         let entry = row.remove(at);
-        let head = self.heads[seat];
-        self.heads[seat] = head.after_remove(row, entry, self.measure, self.measured);
+        self.firsts[seat] = row.first();
+        let top = self.tops[seat];
+        self.tops[seat] = after_remove(top, row, entry, self.measure);
     }
 
     /// Puts an entry in the place of another.
@@ -140,8 +142,9 @@ impl<T: RowEntry> HeadedRows<T> {
         let row = &mut self.rows[seat];
         let old = row.get(at);
         row.set(at, entry);
-        let head = self.heads[seat];
-        self.heads[seat] = head.after_set(row, old, entry, self.measure, self.measured);
+        self.firsts[seat] = row.first();
+        let top = self.tops[seat];
+        self.tops[seat] = after_set(top, row, old, entry, self.measure);
     }
 
     /// Puts an empty row behind the others.
@@ -151,8 +154,8 @@ impl<T: RowEntry> HeadedRows<T> {
         ensures items { self.new.items ≡ self.old.items ++ [] ∷ [] }
         ensures capacity { self.new.capacity ≡ self.old.capacity }
     {
-        let head = Head::empty::<T>(self.measured);
-        self.heads.push_reserved(head);
+        self.firsts.push_reserved(row.first());
+        self.tops.push_reserved(0);
         self.rows.push_reserved(row);
     }
 
@@ -170,10 +173,11 @@ impl<T: RowEntry> HeadedRows<T> {
         let mut high = empty;
         let low = &mut self.rows[seat];
         low.split(&mut high);
-        let head = self.heads[seat];
-        let behind = head.lowered(&high, self.measure, self.measured);
-        self.heads[seat] = head.lowered(low, self.measure, self.measured);
-        put_in(&mut self.heads, seat + 1, behind);
+        self.firsts[seat] = low.first();
+        let top = self.tops[seat];
+        self.tops[seat] = lowered(top, low, self.measure);
+        put_in(&mut self.firsts, seat + 1, high.first());
+        put_in(&mut self.tops, seat + 1, lowered(top, &high, self.measure));
         put_in(&mut self.rows, seat + 1, high);
     }
 
@@ -188,11 +192,13 @@ impl<T: RowEntry> HeadedRows<T> {
         ensures empty { result ≡ [] }
     {
         let mut next = self.rows.remove(seat + 1);
-        let head = self.heads.remove(seat + 1);
+        let _ = self.firsts.remove(seat + 1);
+        let high = self.tops.remove(seat + 1);
         let row = &mut self.rows[seat];
         row.join(&mut next);
-        let low = self.heads[seat];
-        self.heads[seat] = low.joined(head, row);
+        self.firsts[seat] = row.first();
+        let low = self.tops[seat];
+        self.tops[seat] = joined(low, high);
         next
     }
 
@@ -203,7 +209,8 @@ impl<T: RowEntry> HeadedRows<T> {
         ensures row { result ≡ slice_index_or self.old.items seat [] }
         ensures capacity { self.new.capacity ≡ self.old.capacity }
     {
-        let _ = self.heads.remove(seat);
+        let _ = self.firsts.remove(seat);
+        let _ = self.tops.remove(seat);
         self.rows.remove(seat)
     }
 
@@ -214,12 +221,11 @@ impl<T: RowEntry> HeadedRows<T> {
         ensures { IsTrue result → find (weighs (T.weight measure) least)
             (slice_index_or self.now.items seat []) ≡ None }
     {
-        let head = self.heads[seat];
-        head.is_light(self.measured, least) && T::is_same(self.measure, measure)
+        self.tops[seat] < least && T::is_same(self.measure, measure)
     }
 
-    /// The first entry behind a row that weighs as much as `least` or more. The heads keep their
-    /// measure until so many searches by others came that it seems not to be asked for any more.
+    /// The first entry behind a row that weighs as much as `least` or more. Tops keep their measure
+    /// until so many searches by others came that it seems not to be asked for any more.
     pub fn search(&mut self, measure: T::Measure, seat: usize, least: u64) -> Option<T>
         requires { seat < length self.old.items }
         ensures value { result ≡ find (weighs (T.weight measure) least)
@@ -235,17 +241,10 @@ impl<T: RowEntry> HeadedRows<T> {
                 return heavy_among(&self.rows, measure, seat + 1, least);
             }
             self.measure = measure;
-            self.measured = next_measure(&mut self.heads, self.measured);
+            untell(&mut self.tops);
         }
         self.others = 0;
-        heavy_from(
-            &mut self.heads,
-            &self.rows,
-            measure,
-            self.measured,
-            seat + 1,
-            least,
-        )
+        heavy_from(&mut self.tops, &self.rows, measure, seat + 1, least)
     }
 }
 
@@ -270,34 +269,27 @@ fn heavy_among<T: RowEntry>(
 }
 
 /// The first entry, from a row on, that weighs so much. A row that is known to be too light costs
-/// one look at its head. One that is searched in vain keeps its greatest weight there.
+/// one look at its top. One that is searched in vain keeps its greatest weight there.
 fn heavy_from<T: RowEntry>(
-    heads: &mut [Head],
+    tops: &mut [u64],
     rows: &[Row<T>],
     measure: T::Measure,
-    measured: u64,
     from: usize,
     least: u64,
 ) -> Option<T>
-    requires { AreHeads T.rank (T.weight measure) measured heads.old rows.now }
+    requires tops { Describes (IsTop (T.weight measure)) tops.old rows.now }
+    requires from { from ≤ length rows.now }
     ensures value { result ≡ find (weighs (T.weight measure) least)
         (entries_in (drop from rows.now)) }
-    ensures heads { AreHeads T.rank (T.weight measure) measured heads.new rows.now }
+    ensures tops { Describes (IsTop (T.weight measure)) tops.new rows.now }
 {
-    let mut seat = from;
-    while seat < heads.len() {
-        let head = heads[seat];
-        if !head.is_light(measured, least) {
-            match rows[seat].search(measure, least) {
-                Ok(entry) => return Some(entry),
-                Err(top) => heads[seat] = Head {
-                    top,
-                    measured,
-                    ..head
-                },
-            }
+    let mut seat = next_heavy(tops, from, least);
+    while seat < tops.len() {
+        match rows[seat].search(measure, least) {
+            Ok(entry) => return Some(entry),
+            Err(top) => tops[seat] = top,
         }
-        seat += 1;
+        seat = next_heavy(tops, seat + 1, least);
     }
     None
 }

@@ -165,10 +165,10 @@ impl<T: RowEntry> Rows<T> {
     }
 
     /// The first entry, from the first at or above the key on, that weighs as much as `least` or
-    /// more by this measure. Where it is the list's, the head of a row behind the key's own that is
-    /// searched in vain keeps its greatest weight: from then on the row is passed by with one look
-    /// there wherever that is less than `least`. When another becomes the list's, the head of this
-    /// crate says. The list stays as it is, but a struck entry is taken out of its row.
+    /// more by this measure. Where it is the list's, a row behind the key's own that is searched in
+    /// vain is told its greatest weight: from then on it is passed by with one look there wherever
+    /// that is less than `least`. When another becomes the list's, the head of this crate says. The
+    /// list stays as it is, but a struck entry is taken out of its row.
     pub fn least_weighing(&mut self, measure: T::Measure, key: u128, least: u64) -> Option<T>
         ensures value { result ≡ first_heavy_from T.rank (T.weight measure) key least
             self.old.items }

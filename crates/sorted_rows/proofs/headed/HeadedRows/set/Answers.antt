@@ -1,15 +1,32 @@
 use Rattle.std.proofs.Common.{[], ◌<◌, ◌∙◌, ap, arith, get_or, length}
 use Rattle.std.proofs.lemmas.List.{get_or_default}
-use Rattle.sorted_rows.proofs.HeadLemmas.{head_at}
+use Rattle.sorted_rows.specs.Order.{FirstIs}
+use Rattle.sorted_rows.specs.Tops.{IsTop}
+use Rattle.sorted_rows.proofs.HeadLemmas.{head_at, heads_set, top_told}
 use Rattle.sorted_rows.proofs.WeightLemmas.{most_put}
 use Rattle.sorted_rows.proofs.headed.HeadedRows.set.Goals as goal
 
-pub after_set-requires-clause-most : goal.after_set-requires-clause-most
-after_set-requires-clause-most g c = λ now.
+pub after_set-requires : goal.after_set-requires
+after_set-requires g c =
     let weight = g.T.RowEntry.weight c.self.inside.measure in
     let rows = c.self.inside.rows.items in
     let row = c.index_mut-row.result.now in
+    let top = c.index-top.result.now in
     let within : c.args.seat < length rows = omega (arith, c.requires.within, ap (λ v. length v.items) c.self.view_is) in
     let size = ap length (c.index_mut-row.ensures.value ∙ (get_or_default rows c.args.seat row [] within ∙ ap (λ v. get_or v.items c.args.seat []) c.self.view_is)) in
-    let is = head_at g.T.RowEntry.rank weight c.self.inside.measured c.self.inside.heads.items rows c.args.seat c.index-head.result.now row c.self.invariant within c.index-head.ensures c.index_mut-row.ensures.value in
-    rw c.set.ensures (most_put weight row c.args.at c.args.entry c.index-head.result.now.top (is.top now) (omega (arith, size, c.requires.at)))
+    let at : c.args.at < length row = omega (arith, size, c.requires.at) in
+    let is : IsTop weight top row = head_at (IsTop weight) c.self.inside.tops.items rows c.args.seat top row c.self.invariant.1 within c.index-top.ensures c.index_mut-row.ensures.value in
+    record { most = λ told. rw c.set.ensures (most_put weight row c.args.at c.args.entry top (is told) at) }
+
+pub invariant_of-self : goal.invariant_of-self
+invariant_of-self g c =
+    let weight = g.T.RowEntry.weight c.self.inside.measure in
+    let rows = c.self.inside.rows.items in
+    let row = c.index_mut-row.result.now in
+    let top = c.index-top.result.now in
+    let within : c.args.seat < length rows = omega (arith, c.requires.within, ap (λ v. length v.items) c.self.view_is) in
+    let size = ap length (c.index_mut-row.ensures.value ∙ (get_or_default rows c.args.seat row [] within ∙ ap (λ v. get_or v.items c.args.seat []) c.self.view_is)) in
+    let at : c.args.at < length row = omega (arith, size, c.requires.at) in
+    let is : IsTop weight top row = head_at (IsTop weight) c.self.inside.tops.items rows c.args.seat top row c.self.invariant.1 within c.index-top.ensures c.index_mut-row.ensures.value in
+    let new : IsTop weight c.after_set.result c.set.new.self = top_told weight top c.after_set.result row c.set.new.self is c.after_set.ensures.untold (λ told was. c.after_set.ensures.told row c.args.at told was at (c.get-old.ensures c.get-old.result) c.set.ensures) in
+    (heads_set (FirstIs g.T.RowEntry.rank) c.self.inside.firsts.items rows c.args.seat c.first.result c.set.new.self c.self.invariant.0 within c.first.ensures, heads_set (IsTop weight) c.self.inside.tops.items rows c.args.seat c.after_set.result c.set.new.self c.self.invariant.1 within new)

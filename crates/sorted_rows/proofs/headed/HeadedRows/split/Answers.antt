@@ -1,23 +1,40 @@
 use Rattle.std.proofs.Common.{◌+◌, ◌<◌, refl, ap, arith, length}
-use Rattle.sorted_rows.proofs.HeadLemmas.{head_at, heads_split}
+use Rattle.sorted_rows.specs.Order.{FirstIs}
+use Rattle.sorted_rows.specs.Tops.{IsTop}
+use Rattle.sorted_rows.proofs.HeadLemmas.{head_at, heads_split, top_told}
 use Rattle.sorted_rows.proofs.WeightLemmas.{less_taken, less_dropped}
 use Rattle.sorted_rows.proofs.headed.HeadedRows.split.Goals as goal
 
+pub lowered-requires : goal.lowered-requires
+lowered-requires g c =
+    let weight = g.T.RowEntry.weight c.self.inside.measure in
+    let rows = c.self.inside.rows.items in
+    let row = c.index_mut-low.result.now in
+    let top = c.index-top.result.now in
+    let within : c.args.seat < length rows = omega (arith, c.requires.within, ap (λ v. length v.items) c.self.view_is) in
+    let is : IsTop weight top row = head_at (IsTop weight) c.self.inside.tops.items rows c.args.seat top row c.self.invariant.1 within c.index-top.ensures c.index_mut-low.ensures.value in
+    record { most = λ told. rw c.split.ensures.low (less_taken weight row 32 top (is told)) }
+
+pub lowered-requires-2 : goal.lowered-requires-2
+lowered-requires-2 g c =
+    let weight = g.T.RowEntry.weight c.self.inside.measure in
+    let rows = c.self.inside.rows.items in
+    let row = c.index_mut-low.result.now in
+    let top = c.index-top.result.now in
+    let within : c.args.seat < length rows = omega (arith, c.requires.within, ap (λ v. length v.items) c.self.view_is) in
+    let is : IsTop weight top row = head_at (IsTop weight) c.self.inside.tops.items rows c.args.seat top row c.self.invariant.1 within c.index-top.ensures c.index_mut-low.ensures.value in
+    record { most = λ told. rw c.split.ensures.high (less_dropped weight row 32 top (is told)) }
+
 pub invariant_of-self : goal.invariant_of-self
 invariant_of-self g c =
-    let within : c.args.seat < length c.self.inside.rows.items = omega (arith, c.requires.within, ap (λ v. length v.items) c.self.view_is) in
-    rw (c.put_in.ensures.items, c.put_in-2.ensures.items) (heads_split g.T.RowEntry.rank (g.T.RowEntry.weight c.self.inside.measure) c.self.inside.measured c.self.inside.heads.items c.self.inside.rows.items c.args.seat (c.args.seat + 1) c.lowered.result c.lowered-behind.result c.split.new.self c.split.new.high c.self.invariant refl within c.lowered.ensures.head c.lowered-behind.ensures.head)
-
-pub lowered-behind-requires-clause-most : goal.lowered-behind-requires-clause-most
-lowered-behind-requires-clause-most g c = λ now.
     let weight = g.T.RowEntry.weight c.self.inside.measure in
-    let within : c.args.seat < length c.self.inside.rows.items = omega (arith, c.requires.within, ap (λ v. length v.items) c.self.view_is) in
-    let is = head_at g.T.RowEntry.rank weight c.self.inside.measured c.self.inside.heads.items c.self.inside.rows.items c.args.seat c.index-head.result.now c.index_mut-low.result.now c.self.invariant within c.index-head.ensures c.index_mut-low.ensures.value in
-    rw c.split.ensures.high (less_dropped weight c.index_mut-low.result.now 32 c.index-head.result.now.top (is.top now))
-
-pub lowered-requires-clause-most : goal.lowered-requires-clause-most
-lowered-requires-clause-most g c = λ now.
-    let weight = g.T.RowEntry.weight c.self.inside.measure in
-    let within : c.args.seat < length c.self.inside.rows.items = omega (arith, c.requires.within, ap (λ v. length v.items) c.self.view_is) in
-    let is = head_at g.T.RowEntry.rank weight c.self.inside.measured c.self.inside.heads.items c.self.inside.rows.items c.args.seat c.index-head.result.now c.index_mut-low.result.now c.self.invariant within c.index-head.ensures c.index_mut-low.ensures.value in
-    rw c.split.ensures.low (less_taken weight c.index_mut-low.result.now 32 c.index-head.result.now.top (is.top now))
+    let rows = c.self.inside.rows.items in
+    let row = c.index_mut-low.result.now in
+    let top = c.index-top.result.now in
+    let within : c.args.seat < length rows = omega (arith, c.requires.within, ap (λ v. length v.items) c.self.view_is) in
+    let is : IsTop weight top row = head_at (IsTop weight) c.self.inside.tops.items rows c.args.seat top row c.self.invariant.1 within c.index-top.ensures c.index_mut-low.ensures.value in
+    let firsts = c.self.inside.firsts.items in
+    let tops = c.self.inside.tops.items in
+    let low : IsTop weight c.lowered.result c.split.new.self = top_told weight top c.lowered.result row c.split.new.self is c.lowered.ensures.untold (λ told was. c.lowered.ensures.told told) in
+    let high : IsTop weight c.lowered-2.result c.split.new.high = top_told weight top c.lowered-2.result row c.split.new.high is c.lowered-2.ensures.untold (λ told was. c.lowered-2.ensures.told told) in
+    rw (c.put_in.ensures.items, c.put_in-2.ensures.items, c.put_in-3.ensures.items) (heads_split (FirstIs g.T.RowEntry.rank) firsts rows c.args.seat (c.args.seat + 1) c.first.result c.first-2.result c.split.new.self c.split.new.high c.self.invariant.0 refl within c.first.ensures c.first-2.ensures, heads_split (IsTop weight) tops rows c.args.seat (c.args.seat + 1) c.lowered.result c.lowered-2.result c.split.new.self c.split.new.high c.self.invariant.1 refl within low high)
