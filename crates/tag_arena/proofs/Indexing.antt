@@ -3,7 +3,7 @@ use Rattle.std.proofs.Common.{◌≡◌, ◌≢◌, ℕ, ◌+◌, ◌*◌, ◌^�
 use Rattle.std.proofs.lemmas.List.{get_or-map, length-map, map_push}
 use Rattle.std.proofs.lemmas.List.Elements.{All-contains}
 use Rattle.std.proofs.lemmas.Option.{slice_get_cases}
-use Rattle.deed_core.specs.Extent.{IsRange}
+use Rattle.deed_core.specs.Extent.{Extent, IsRange}
 use Rattle.deed_core.specs.Holding.{Holding}
 use Rattle.tag_arena.specs.declared.policies.Policy.{Policy}
 use Rattle.tag_arena.specs.Neighbors.{Without}
@@ -26,6 +26,13 @@ use Rattle.tag_arena.proofs.Searching.{is_first, none_from}
 -- the range of a tag is one of the free ranges
 pub range_is_free : (tags : List (Option FreeTag)) (k : ℕ) (t : FreeTag) → tag_at tags k ≡ Some t → Contains (ranges_by_age tags) t.range
 range_is_free tags k t here = Contains-map range_of (tags_by_age tags) t (in_tags_by_age tags k t here)
+
+-- the range of a tag, by an entry of it
+pub rising_range : (e : IndexEntry) (t : FreeTag) → e ≡ entry_of Rising e.slot t → t.range.range ≡ record { base = e.major; len = e.minor }
+rising_range e t is = ap (λ (x : IndexEntry). let range : Extent = record { base = x.major; len = x.minor } in range) (sym is)
+
+pub sizes_range : (e : IndexEntry) (t : FreeTag) → e ≡ entry_of Sizes e.slot t → t.range.range ≡ record { base = e.minor; len = e.major }
+sizes_range e t is = ap (λ (x : IndexEntry). let range : Extent = record { base = x.minor; len = x.major } in range) (sym is)
 
 -- each free range is that of a tag
 pub tag_of_range : (tags : List (Option FreeTag)) (P : Holding → Type 0) → Any P (ranges_by_age tags) → (k : ℕ) × (t : FreeTag) × (tag_at tags k ≡ Some t) × P t.range

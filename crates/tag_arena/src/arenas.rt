@@ -385,6 +385,15 @@ impl<D: Deed> Arena<D> {
         Ok(Segment::new(self.id, Route::Direct, deed.into_deed()))
     }
 
+    /// Goes to where a segment with this base lies. It is for speed alone: asked for before the
+    /// segment is at hand, a free of it waits less for memory.
+    pub fn go_to(&mut self, base: u64)
+        ensures unchanged { self.new ≡ self.old }
+    {
+        self.tags.go_to(base);
+        self.free.go_to(base);
+    }
+
     /// Frees a segment, and merges its range with its free neighbors inside its span. An imported
     /// span that becomes wholly free is taken out and handed back, to be freed by its source. It
     /// takes no memory. A segment that isn't this arena's comes back.

@@ -44,7 +44,7 @@ fn earliest_behind<D: Deed>(
 {
     let mut from = first;
     while let Some(entry) = rising.first_weighing(Measure::Minor, from, 0, units) {
-        let range = slots.tag(entry.slot).range();
+        let range = slots.range_at(entry.slot, entry.major, entry.minor);
         if let Some(base) = probes.least_in(request, quantum, range, start) {
             return Some(Fit { range, base });
         }

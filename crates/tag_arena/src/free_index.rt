@@ -140,12 +140,12 @@ impl<D: Deed> FreeIndex<D> {
         }
     }
 
-    /// Goes to where a range lies by base. It is for speed alone: the calls that follow there need
-    /// no search in the order of bases.
-    fn go_to(&mut self, range: HeldRange)
+    /// Goes to where a range with this base lies. It is for speed alone: the calls that follow there
+    /// need no search in the order of bases.
+    pub fn go_to(&mut self, base: u64)
         ensures unchanged { self.new ≡ self.old }
     {
-        self.rising.go_to(range.base(), range.len());
+        self.rising.go_to(base, 0);
     }
 
     /// A range becomes free: it is the newest. It takes no memory.
@@ -380,9 +380,10 @@ impl<D: Deed> FreeIndex<D> {
         ensures merges { Merges span deed self.old.ranges result self.new.ranges }
         ensures rest { self.new ≡ record self.old { ranges = self.new.ranges } }
     {
-        self.go_to(held_range_of(&deed));
         let range = deed.range();
-        let left = self.take_left(span.base(), range.base());
+        let base = range.base();
+        self.go_to(base);
+        let left = self.take_left(span.base(), base);
         let right = self.take_right(range.end(), span.end());
         let low = join_left(left, deed);
         join_right(low, right)
@@ -469,7 +470,7 @@ impl<D: Deed> FreeIndex<D> {
         ensures len { length self.new.ranges ≤ length self.old.ranges + 1 }
         ensures ticks { self.old.ticks ≤ self.new.ticks + 2 }
     {
-        self.go_to(range);
+        self.go_to(range.base());
         // For their clauses: each of these ranges has units.
         let _ = range.end();
         let _ = self.len();

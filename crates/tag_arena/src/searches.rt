@@ -75,7 +75,7 @@ fn best_by_length<D: Deed>(
     let mut major = units;
     let mut minor = 0;
     while let Some(entry) = sizes.first_from(major, minor) {
-        let range = slots.tag(entry.slot).range();
+        let range = slots.range_at(entry.slot, entry.minor, entry.major);
         if let Some(base) = probes.least_in(request, quantum, range, 0) {
             return Some(Fit { range, base });
         }
@@ -110,7 +110,7 @@ fn best_by_reach<D: Deed>(
     let mut major = units;
     let mut minor = 0;
     while let Some(entry) = sizes.first_weighing(Measure::Reach(grid), major, minor, units) {
-        let range = slots.tag(entry.slot).range();
+        let range = slots.range_at(entry.slot, entry.minor, entry.major);
         if let Some(base) = probes.least_in(request, quantum, range, 0) {
             return Some(Fit { range, base });
         }
@@ -131,7 +131,7 @@ pub fn range_with<D: Deed>(slots: &Slots<D>, rising: &OrderedIndex, unit: u64) -
     if entry.major + entry.minor <= unit {
         return None;
     }
-    Some(slots.tag(entry.slot).range())
+    Some(slots.range_at(entry.slot, entry.major, entry.minor))
 }
 
 /// The number of the least power-of-two list whose every member has room for `units`.

@@ -8,7 +8,7 @@ ghost use Rattle.tag_arena.specs.Slotted.{taken_count, slot_units};
 
 use crate::cuts::{Cut, cut_out};
 use crate::held_ranges::{HeldRange, held_range_of};
-use deed_core::{Deed, Stored};
+use deed_core::{Deed, Range, Stored};
 use std::alloc::{AllocError, Global};
 use std::marker::Model;
 
@@ -229,6 +229,23 @@ impl<D: Deed> Slots<D> {
             unreachable!()
         };
         deed.tag()
+    }
+
+    /// The range in a slot, whose base and length the caller knows. They aren't read from the slot:
+    /// what needs them alone goes on before the slot's memory is at hand.
+    pub fn range_at(&self, slot: usize, base: u64, len: u64) -> HeldRange
+        requires here { (t : FreeTag) × (tag_at self.now.tags slot ≡ Some t)
+            × (t.range.range ≡ record { base = base; len = len }) }
+        requires range { IsRange (record { base = base; len = len }) }
+        ensures { (t : FreeTag) → tag_at self.now.tags slot ≡ Some t → result ≡ t.range }
+    {
+        let Some(timed) = &self.slots[slot] else {
+            unreachable!()
+        };
+        let Some(range) = Range::new(base, len) else {
+            unreachable!()
+        };
+        HeldRange::new(timed.deed.root(), range)
     }
 
     /// How many slots there are, vacant ones among them.

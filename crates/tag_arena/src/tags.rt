@@ -7,15 +7,17 @@ use std::alloc::{AllocError, Global};
 use std::collections::HashMap;
 use std::marker::Model;
 
-/// Each allocated range at its base, and how many they are.
+/// Each allocated range at its base, how many they are, and the base last gone to with what stands
+/// there.
 #[derive(Drop)]
 pub struct Tags {
     ranges: HashMap<u64, HeldRange>,
     count: usize,
+    near: Option<(u64, HeldRange)>,
 }
 
 impl Model for Tags {
-    ghost use Rattle.std.specs.Prelude.{◌≡◌};
+    ghost use Rattle.std.specs.Prelude.{◌≡◌, IfSome, Some};
     ghost use Rattle.std.specs.Ordering.{nat_cmp};
     ghost use Rattle.std.specs.Coded.{codes, coded_ℕ};
     ghost use Rattle.std.specs.FinMap as finmap;
@@ -27,8 +29,9 @@ impl Model for Tags {
 
     ghost view = { λ a. finmap.from_entries a.ranges.entries };
 
-    ghost invariant = { λ a.
-        a.count ≡ finmap.len (finmap.from_entries {R = nat_cmp} a.ranges.entries) };
+    ghost invariant = { λ a. let tags = finmap.from_entries {R = nat_cmp} a.ranges.entries in
+        (a.count ≡ finmap.len tags)
+        × IfSome a.near (λ near. finmap.get tags near.0 ≡ Some near.1) };
 }
 
 impl Tags {
@@ -38,6 +41,7 @@ impl Tags {
         Tags {
             ranges: HashMap::new(alloc),
             count: 0,
+            near: None,
         }
     }
 
@@ -47,9 +51,25 @@ impl Tags {
         self.count
     }
 
+    /// Goes to a base. It is for speed alone: a `get` of the same base that follows needs no look
+    /// in the map.
+    pub fn go_to(&mut self, base: u64)
+        ensures unchanged { self.new ≡ self.old }
+    {
+        self.near = match self.ranges.get(&base) {
+            Some(range) => Some((base, *range)),
+            None => None,
+        };
+    }
+
     pub fn get(&self, base: u64) -> Option<HeldRange>
         ensures { result ≡ finmap.get self.now base }
     {
+        if let Some((at, range)) = self.near {
+            if at == base {
+                return Some(range);
+            }
+        }
         self.ranges.get(&base).copied()
     }
 
@@ -70,6 +90,7 @@ impl Tags {
         requires { finmap.get self.old range.range.base ≡ Some range }
         ensures { self.new ≡ finmap.remove self.old range.range.base }
     {
+        self.near = None;
         self.ranges.remove(&range.base());
         self.count -= 1;
     }

@@ -3,20 +3,19 @@ use Rattle.deed_core.specs.Holding.{Holding}
 use Rattle.deed_core.specs.Request.{rounding_of}
 use Rattle.sorted_rows.specs.Order.{Rises}
 use Rattle.sorted_rows.specs.Weights.{first_heavy_from}
+use Rattle.deed_core.specs.Extent.{IsRange}
 use Rattle.tag_arena.specs.Place.{ServesIn}
 use Rattle.tag_arena.specs.FreeTags.{ranges_by_age}
-use Rattle.tag_arena.specs.Orders.{rank_of, weight_of, entry_of}
-use Rattle.tag_arena.specs.declared.orders.Order.TheVariants.{Rising}
+use Rattle.tag_arena.specs.Orders.{rank_of, weight_of}
 use Rattle.tag_arena.specs.declared.reaches.Measure.TheVariants.{Minor}
-use Rattle.tag_arena.proofs.Listing.{Some-injective}
-use Rattle.tag_arena.proofs.Indexing.{range_is_free}
+use Rattle.tag_arena.proofs.Indexing.{range_is_free, rising_range}
 use Rattle.tag_arena.proofs.Lasting.{all_ranges}
 use Rattle.tag_arena.proofs.Weighing.{is_heavy, heavy_grows}
 use Rattle.tag_arena.proofs.Roving.{none_with, earliest_here, earliest_none, light_between, light_behind}
 use Rattle.tag_arena.proofs.earliest.earliest_behind.Goals as goal
 
-pub tag-requires : goal.tag-requires
-tag-requires g c =
+pub range_at-range-requires-clause-here : goal.range_at-range-requires-clause-here
+range_at-range-requires-clause-here g c =
     let q = c.args.request.now in
     let items = c.args.rising.now.items in
     let tags = c.args.slots.now.tags in
@@ -29,7 +28,23 @@ tag-requires g c =
     let met = subst (λ l. first_heavy_from rank_of (weight_of Minor) (from * 2 ^ 64 + 0) c.args.units l ≡ Some e) same (sym c.first_weighing.ensures.first ∙ c.in-Some.is) in
     let first = is_heavy rank_of (weight_of Minor) (from * 2 ^ 64 + 0) c.args.units items rises e met in
     let w = m.from e (first.place, first.within, first.here) in
-    (w.0, w.1)
+    (w.0, w.1, rising_range e w.0 w.2)
+
+pub range_at-range-requires-clause-range : goal.range_at-range-requires-clause-range
+range_at-range-requires-clause-range g c =
+    let q = c.args.request.now in
+    let items = c.args.rising.now.items in
+    let tags = c.args.slots.now.tags in
+    let m = c.requires.mirrors in
+    let are = c.requires.tags.1 in
+    let same = ap (λ s. s.items) c.loop-entry.invariant.kept in
+    let rises = subst (Rises rank_of) same c.first_weighing.ensures.rises in
+    let from : ℕ = c.loop-entry.from in
+    let e = c.in-Some.entry in
+    let met = subst (λ l. first_heavy_from rank_of (weight_of Minor) (from * 2 ^ 64 + 0) c.args.units l ≡ Some e) same (sym c.first_weighing.ensures.first ∙ c.in-Some.is) in
+    let first = is_heavy rank_of (weight_of Minor) (from * 2 ^ 64 + 0) c.args.units items rises e met in
+    let w = m.from e (first.place, first.within, first.here) in
+    subst IsRange (rising_range e w.0 w.2) (c.requires.tags.1 e.slot w.0 w.1).range
 
 pub returns-in-Some-least_in-clause-least : goal.returns-in-Some-least_in-clause-least
 returns-in-Some-least_in-clause-least g c =
@@ -45,10 +60,10 @@ returns-in-Some-least_in-clause-least g c =
     let met = subst (λ l. first_heavy_from rank_of (weight_of Minor) (from * 2 ^ 64 + 0) c.args.units l ≡ Some e) same (sym c.first_weighing.ensures.first ∙ c.in-Some.is) in
     let first = is_heavy rank_of (weight_of Minor) (from * 2 ^ 64 + 0) c.args.units items rises e met in
     let w = m.from e (first.place, first.within, first.here) in
-    let t = c.tag.result in
-    let at = sym c.tag.ensures in
-    let is = w.2 ∙ ap (entry_of Rising e.slot) (Some-injective (sym w.1 ∙ at)) in
-    let range = c.range-range.ensures.value in
+    let t = w.0 in
+    let at = w.1 in
+    let is = w.2 in
+    let range = c.range_at-range.ensures w.0 w.1 in
     let free = ranges_by_age tags in
     let among = range_is_free tags e.slot t at in
     let all = all_ranges c.requires.tags.0 tags are in
@@ -62,12 +77,23 @@ returns-in-Some-least_in-clause-least g c =
 
 pub returns-in-Some-least_in-clause-placed : goal.returns-in-Some-least_in-clause-placed
 returns-in-Some-least_in-clause-placed g c =
+    let q = c.args.request.now in
+    let items = c.args.rising.now.items in
     let tags = c.args.slots.now.tags in
-    let range = c.range-range.ensures.value in
-    let found = c.in-Some-least_in.ensures in
+    let m = c.requires.mirrors in
+    let are = c.requires.tags.1 in
+    let same = ap (λ s. s.items) c.loop-entry.invariant.kept in
+    let rises = subst (Rises rank_of) same c.first_weighing.ensures.rises in
+    let from : ℕ = c.loop-entry.from in
+    let e = c.in-Some.entry in
+    let met = subst (λ l. first_heavy_from rank_of (weight_of Minor) (from * 2 ^ 64 + 0) c.args.units l ≡ Some e) same (sym c.first_weighing.ensures.first ∙ c.in-Some.is) in
+    let first = is_heavy rank_of (weight_of Minor) (from * 2 ^ 64 + 0) c.args.units items rises e met in
+    let w = m.from e (first.place, first.within, first.here) in
+    let range = c.range_at-range.ensures w.0 w.1 in
+    let least_in = c.in-Some-least_in.ensures in
     record {
-      among = subst (Contains (ranges_by_age tags)) (sym range) (range_is_free tags c.in-Some.entry.slot c.tag.result (sym c.tag.ensures));
-      serves = found.0.0;
+      among = subst (Contains (ranges_by_age tags)) (sym range) (range_is_free tags e.slot w.0 w.1);
+      serves = least_in.0.0;
     }
 
 pub loop-entry-smaller : goal.loop-entry-smaller
@@ -84,10 +110,10 @@ loop-entry-smaller g c =
     let met = subst (λ l. first_heavy_from rank_of (weight_of Minor) (from * 2 ^ 64 + 0) c.args.units l ≡ Some e) same (sym c.first_weighing.ensures.first ∙ c.in-Some.is) in
     let first = is_heavy rank_of (weight_of Minor) (from * 2 ^ 64 + 0) c.args.units items rises e met in
     let w = m.from e (first.place, first.within, first.here) in
-    let t = c.tag.result in
-    let at = sym c.tag.ensures in
-    let is = w.2 ∙ ap (entry_of Rising e.slot) (Some-injective (sym w.1 ∙ at)) in
-    let range = c.range-range.ensures.value in
+    let t = w.0 in
+    let at = w.1 in
+    let is = w.2 in
+    let range = c.range_at-range.ensures w.0 w.1 in
     let free = ranges_by_age tags in
     let among = range_is_free tags e.slot t at in
     let all = all_ranges c.requires.tags.0 tags are in
@@ -113,10 +139,10 @@ loop-entry-preserved g c =
     let met = subst (λ l. first_heavy_from rank_of (weight_of Minor) (from * 2 ^ 64 + 0) c.args.units l ≡ Some e) same (sym c.first_weighing.ensures.first ∙ c.in-Some.is) in
     let first = is_heavy rank_of (weight_of Minor) (from * 2 ^ 64 + 0) c.args.units items rises e met in
     let w = m.from e (first.place, first.within, first.here) in
-    let t = c.tag.result in
-    let at = sym c.tag.ensures in
-    let is = w.2 ∙ ap (entry_of Rising e.slot) (Some-injective (sym w.1 ∙ at)) in
-    let range = c.range-range.ensures.value in
+    let t = w.0 in
+    let at = w.1 in
+    let is = w.2 in
+    let range = c.range_at-range.ensures w.0 w.1 in
     let free = ranges_by_age tags in
     let among = range_is_free tags e.slot t at in
     let all = all_ranges c.requires.tags.0 tags are in

@@ -1,11 +1,10 @@
 use Rattle.std.proofs.Common.{Contains, ◌≡◌, ℕ, ◌+◌, ◌*◌, ◌^◌, ◌<◌, ◌≤◌, Some, sym, ap, ◌∙◌, subst, arith}
 use Rattle.sorted_rows.specs.Order.{place_below}
+use Rattle.deed_core.specs.Extent.{IsRange}
 use Rattle.tag_arena.specs.Place.{ServesIn}
 use Rattle.tag_arena.specs.FreeTags.{FreeTag, tag_at, ranges_by_age}
-use Rattle.tag_arena.specs.Orders.{rank_of, entry_of}
-use Rattle.tag_arena.specs.declared.orders.Order.TheVariants.{Sizes}
-use Rattle.tag_arena.proofs.Listing.{Some-injective}
-use Rattle.tag_arena.proofs.Indexing.{range_is_free}
+use Rattle.tag_arena.specs.Orders.{rank_of}
+use Rattle.tag_arena.proofs.Indexing.{range_is_free, sizes_range}
 use Rattle.tag_arena.proofs.Searching.{is_first, place_grows}
 use Rattle.tag_arena.proofs.Fitting.{served_first, served_more, is_best, none_serves}
 use Rattle.tag_arena.proofs.searches.best_by_length.Goals as goal
@@ -13,8 +12,8 @@ use Rattle.tag_arena.proofs.searches.best_by_length.Goals as goal
 pub loop-entry-init : goal.loop-entry-init
 loop-entry-init g c = served_first c.args.quantum c.args.request.now c.args.slots.now.tags c.args.units c.requires.units
 
-pub tag-requires : goal.tag-requires
-tag-requires g c =
+pub range_at-range-requires-clause-here : goal.range_at-range-requires-clause-here
+range_at-range-requires-clause-here g c =
     let q = c.args.request.now in
     let items = c.args.sizes.now.items in
     let tags = c.args.slots.now.tags in
@@ -24,7 +23,20 @@ tag-requires g c =
     let e = c.in-Some.entry in
     let first = is_first rank_of key items rises e (sym c.first_from.ensures.first ∙ c.in-Some.is) in
     let w = m.from e (place_below rank_of key items, first.within, first.here) in
-    (w.0, w.1)
+    (w.0, w.1, sizes_range e w.0 w.2)
+
+pub range_at-range-requires-clause-range : goal.range_at-range-requires-clause-range
+range_at-range-requires-clause-range g c =
+    let q = c.args.request.now in
+    let items = c.args.sizes.now.items in
+    let tags = c.args.slots.now.tags in
+    let m = c.requires.mirrors in
+    let rises = c.first_from.ensures.rises in
+    let key : ℕ = c.loop-entry.major * 2 ^ 64 + c.loop-entry.minor in
+    let e = c.in-Some.entry in
+    let first = is_first rank_of key items rises e (sym c.first_from.ensures.first ∙ c.in-Some.is) in
+    let w = m.from e (place_below rank_of key items, first.within, first.here) in
+    subst IsRange (sizes_range e w.0 w.2) (c.requires.tags.1 e.slot w.0 w.1).range
 
 pub returns-in-Some-least_in-clause-choice : goal.returns-in-Some-least_in-clause-choice
 returns-in-Some-least_in-clause-choice g c =
@@ -37,11 +49,10 @@ returns-in-Some-least_in-clause-choice g c =
     let e = c.in-Some.entry in
     let first = is_first rank_of key items rises e (sym c.first_from.ensures.first ∙ c.in-Some.is) in
     let w = m.from e (place_below rank_of key items, first.within, first.here) in
-    let t = c.tag.result in
-    let at = sym c.tag.ensures in
-    let same = Some-injective (sym w.1 ∙ at) in
-    let is = w.2 ∙ ap (entry_of Sizes e.slot) same in
-    let range = c.range-range.ensures.value in
+    let t = w.0 in
+    let at = w.1 in
+    let is = w.2 in
+    let range = c.range_at-range.ensures w.0 w.1 in
     let found = c.in-Some-least_in.ensures in
     let serves = subst (λ h. ServesIn c.args.quantum q h c.in-Some-least_in.base) range found.0.0 in
     let least : (b : ℕ) → ServesIn c.args.quantum q t.range b → c.in-Some-least_in.base ≤ b = λ b s. found.1 b (subst (λ h. ServesIn c.args.quantum q h b) (sym range) s, omega arith) in
@@ -59,11 +70,10 @@ returns-in-Some-least_in-clause-placed g c =
     let e = c.in-Some.entry in
     let first = is_first rank_of key items rises e (sym c.first_from.ensures.first ∙ c.in-Some.is) in
     let w = m.from e (place_below rank_of key items, first.within, first.here) in
-    let t = c.tag.result in
-    let at = sym c.tag.ensures in
-    let same = Some-injective (sym w.1 ∙ at) in
-    let is = w.2 ∙ ap (entry_of Sizes e.slot) same in
-    let range = c.range-range.ensures.value in
+    let t = w.0 in
+    let at = w.1 in
+    let is = w.2 in
+    let range = c.range_at-range.ensures w.0 w.1 in
     let found = c.in-Some-least_in.ensures in
     record {
       among = subst (Contains (ranges_by_age tags)) (sym range) (range_is_free tags e.slot t at);
@@ -81,11 +91,10 @@ loop-entry-smaller g c =
     let e = c.in-Some.entry in
     let first = is_first rank_of key items rises e (sym c.first_from.ensures.first ∙ c.in-Some.is) in
     let w = m.from e (place_below rank_of key items, first.within, first.here) in
-    let t = c.tag.result in
-    let at = sym c.tag.ensures in
-    let same = Some-injective (sym w.1 ∙ at) in
-    let is = w.2 ∙ ap (entry_of Sizes e.slot) same in
-    let range = c.range-range.ensures.value in
+    let t = w.0 in
+    let at = w.1 in
+    let is = w.2 in
+    let range = c.range_at-range.ensures w.0 w.1 in
     let long = c.len-major.ensures.value ∙ ap (λ h. h.range.len) range in
     let base = c.base-minor.ensures.value ∙ ap (λ h. h.range.base) range in
     let rank = ap rank_of is in
@@ -104,11 +113,10 @@ loop-entry-preserved g c =
     let e = c.in-Some.entry in
     let first = is_first rank_of key items rises e (sym c.first_from.ensures.first ∙ c.in-Some.is) in
     let w = m.from e (place_below rank_of key items, first.within, first.here) in
-    let t = c.tag.result in
-    let at = sym c.tag.ensures in
-    let same = Some-injective (sym w.1 ∙ at) in
-    let is = w.2 ∙ ap (entry_of Sizes e.slot) same in
-    let range = c.range-range.ensures.value in
+    let t = w.0 in
+    let at = w.1 in
+    let is = w.2 in
+    let range = c.range_at-range.ensures w.0 w.1 in
     let long = c.len-major.ensures.value ∙ ap (λ h. h.range.len) range in
     let base = c.base-minor.ensures.value ∙ ap (λ h. h.range.base) range in
     let rank = ap rank_of is in

@@ -1,14 +1,13 @@
 use Rattle.std.proofs.Common.{Contains, ◌≡◌, ℕ, ◌+◌, ◌*◌, ◌^◌, ◌<◌, ◌≤◌, Some, None, refl, sym, ap, ◌∙◌, subst, arith}
 use Rattle.sorted_rows.specs.Order.{Rises}
 use Rattle.sorted_rows.specs.Weights.{first_heavy_from}
+use Rattle.deed_core.specs.Extent.{IsRange}
 use Rattle.tag_arena.specs.Place.{ServesIn}
 use Rattle.tag_arena.specs.FreeTags.{FreeTag, tag_at, ranges_by_age}
-use Rattle.tag_arena.specs.Orders.{rank_of, weight_of, entry_of}
-use Rattle.tag_arena.specs.declared.orders.Order.TheVariants.{Sizes}
+use Rattle.tag_arena.specs.Orders.{rank_of, weight_of}
 use Rattle.tag_arena.specs.declared.reaches.Measure.TheVariants.{Reach}
 use Rattle.tag_arena.proofs.Granting.{rounded_some}
-use Rattle.tag_arena.proofs.Listing.{Some-injective}
-use Rattle.tag_arena.proofs.Indexing.{range_is_free}
+use Rattle.tag_arena.proofs.Indexing.{range_is_free, sizes_range}
 use Rattle.tag_arena.proofs.Weighing.{is_heavy, heavy_grows}
 use Rattle.tag_arena.proofs.Fitting.{served_first, served_more, is_best}
 use Rattle.tag_arena.proofs.Reached.{IsGridOf, served_before, first_there, none_reached}
@@ -20,8 +19,8 @@ loop-entry-init d c = record {
   served = served_first c.args.quantum c.args.request.now c.args.slots.now.tags c.args.units c.requires.units;
 }
 
-pub tag-requires : goal.tag-requires
-tag-requires d c =
+pub range_at-range-requires-clause-here : goal.range_at-range-requires-clause-here
+range_at-range-requires-clause-here d c =
     let q = c.args.request.now in
     let g = c.of-grid.result in
     let items = c.args.sizes.now.items in
@@ -35,7 +34,24 @@ tag-requires d c =
     let found = subst (λ l. first_heavy_from rank_of (weight_of (Reach g)) key c.args.units l ≡ Some e) same (sym c.first_weighing.ensures.first ∙ c.in-Some.is) in
     let heavy = is_heavy rank_of (weight_of (Reach g)) key c.args.units items rises e found in
     let w = m.from e (heavy.place, heavy.within, heavy.here) in
-    (w.0, w.1)
+    (w.0, w.1, sizes_range e w.0 w.2)
+
+pub range_at-range-requires-clause-range : goal.range_at-range-requires-clause-range
+range_at-range-requires-clause-range d c =
+    let q = c.args.request.now in
+    let g = c.of-grid.result in
+    let items = c.args.sizes.now.items in
+    let tags = c.args.slots.now.tags in
+    let m = c.requires.mirrors in
+    let are = c.requires.tags.1 in
+    let same = ap (λ s. s.items) c.loop-entry.invariant.kept in
+    let rises = subst (Rises rank_of) same c.first_weighing.ensures.rises in
+    let key : ℕ = c.loop-entry.major * 2 ^ 64 + c.loop-entry.minor in
+    let e = c.in-Some.entry in
+    let found = subst (λ l. first_heavy_from rank_of (weight_of (Reach g)) key c.args.units l ≡ Some e) same (sym c.first_weighing.ensures.first ∙ c.in-Some.is) in
+    let heavy = is_heavy rank_of (weight_of (Reach g)) key c.args.units items rises e found in
+    let w = m.from e (heavy.place, heavy.within, heavy.here) in
+    subst IsRange (sizes_range e w.0 w.2) (c.requires.tags.1 e.slot w.0 w.1).range
 
 pub returns-in-Some-least_in-clause-choice : goal.returns-in-Some-least_in-clause-choice
 returns-in-Some-least_in-clause-choice d c =
@@ -52,10 +68,10 @@ returns-in-Some-least_in-clause-choice d c =
     let found = subst (λ l. first_heavy_from rank_of (weight_of (Reach g)) key c.args.units l ≡ Some e) same (sym c.first_weighing.ensures.first ∙ c.in-Some.is) in
     let heavy = is_heavy rank_of (weight_of (Reach g)) key c.args.units items rises e found in
     let w = m.from e (heavy.place, heavy.within, heavy.here) in
-    let t = c.tag.result in
-    let at = sym c.tag.ensures in
-    let is = w.2 ∙ ap (entry_of Sizes e.slot) (Some-injective (sym w.1 ∙ at)) in
-    let range = c.range-range.ensures.value in
+    let t = w.0 in
+    let at = w.1 in
+    let is = w.2 in
+    let range = c.range_at-range.ensures w.0 w.1 in
     let grid : IsGridOf c.args.quantum q g = record {
       on_grid = c.of-grid.ensures.on_grid;
       phase = c.of-grid.ensures.phase;
@@ -73,10 +89,22 @@ returns-in-Some-least_in-clause-choice d c =
 
 pub returns-in-Some-least_in-clause-placed : goal.returns-in-Some-least_in-clause-placed
 returns-in-Some-least_in-clause-placed d c =
+    let q = c.args.request.now in
+    let g = c.of-grid.result in
+    let items = c.args.sizes.now.items in
     let tags = c.args.slots.now.tags in
-    let range = c.range-range.ensures.value in
+    let m = c.requires.mirrors in
+    let are = c.requires.tags.1 in
+    let same = ap (λ s. s.items) c.loop-entry.invariant.kept in
+    let rises = subst (Rises rank_of) same c.first_weighing.ensures.rises in
+    let key : ℕ = c.loop-entry.major * 2 ^ 64 + c.loop-entry.minor in
+    let e = c.in-Some.entry in
+    let found = subst (λ l. first_heavy_from rank_of (weight_of (Reach g)) key c.args.units l ≡ Some e) same (sym c.first_weighing.ensures.first ∙ c.in-Some.is) in
+    let heavy = is_heavy rank_of (weight_of (Reach g)) key c.args.units items rises e found in
+    let w = m.from e (heavy.place, heavy.within, heavy.here) in
+    let range = c.range_at-range.ensures w.0 w.1 in
     record {
-      among = subst (Contains (ranges_by_age tags)) (sym range) (range_is_free tags c.in-Some.entry.slot c.tag.result (sym c.tag.ensures));
+      among = subst (Contains (ranges_by_age tags)) (sym range) (range_is_free tags e.slot w.0 w.1);
       serves = c.in-Some-least_in.ensures.0.0;
     }
 
@@ -95,10 +123,10 @@ loop-entry-smaller d c =
     let found = subst (λ l. first_heavy_from rank_of (weight_of (Reach g)) key c.args.units l ≡ Some e) same (sym c.first_weighing.ensures.first ∙ c.in-Some.is) in
     let heavy = is_heavy rank_of (weight_of (Reach g)) key c.args.units items rises e found in
     let w = m.from e (heavy.place, heavy.within, heavy.here) in
-    let t = c.tag.result in
-    let at = sym c.tag.ensures in
-    let is = w.2 ∙ ap (entry_of Sizes e.slot) (Some-injective (sym w.1 ∙ at)) in
-    let range = c.range-range.ensures.value in
+    let t = w.0 in
+    let at = w.1 in
+    let is = w.2 in
+    let range = c.range_at-range.ensures w.0 w.1 in
     let long = c.len-major.ensures.value ∙ ap (λ h. h.range.len) range in
     let base = c.base-minor.ensures.value ∙ ap (λ h. h.range.base) range in
     let rank = ap rank_of is in
@@ -121,10 +149,10 @@ loop-entry-preserved d c =
     let found = subst (λ l. first_heavy_from rank_of (weight_of (Reach g)) key c.args.units l ≡ Some e) same (sym c.first_weighing.ensures.first ∙ c.in-Some.is) in
     let heavy = is_heavy rank_of (weight_of (Reach g)) key c.args.units items rises e found in
     let w = m.from e (heavy.place, heavy.within, heavy.here) in
-    let t = c.tag.result in
-    let at = sym c.tag.ensures in
-    let is = w.2 ∙ ap (entry_of Sizes e.slot) (Some-injective (sym w.1 ∙ at)) in
-    let range = c.range-range.ensures.value in
+    let t = w.0 in
+    let at = w.1 in
+    let is = w.2 in
+    let range = c.range_at-range.ensures w.0 w.1 in
     let grid : IsGridOf c.args.quantum q g = record {
       on_grid = c.of-grid.ensures.on_grid;
       phase = c.of-grid.ensures.phase;

@@ -1,8 +1,9 @@
-use Rattle.std.proofs.Common.{sym, ap, ◌∙◌, subst, Some, arith}
+use Rattle.std.proofs.Common.{sym, ◌∙◌, subst, Some, arith}
+use Rattle.deed_core.specs.Extent.{IsRange}
 use Rattle.tag_arena.specs.Fits.{IsWith}
 use Rattle.tag_arena.specs.FreeTags.{ranges_by_age}
 use Rattle.tag_arena.proofs.Ending.{ends_by, has_none, has_unit, last_tag, sum_fits}
-use Rattle.tag_arena.proofs.Listing.{Some-injective}
+use Rattle.tag_arena.proofs.Indexing.{rising_range}
 use Rattle.tag_arena.proofs.searches.range_with.Goals as goal
 
 pub returns-in_err-entry : goal.returns-in_err-entry
@@ -19,16 +20,20 @@ pub returns-then-entry-unit : goal.returns-then-entry-unit
 returns-then-entry-unit g c =
     ends_by c.args.unit c.requires.tags.0 c.args.rising.now.items c.args.slots.now.tags c.requires.mirrors c.last_to.ensures.rises c.requires.tags.1 c.in_ok-entry.entry (sym c.last_to.ensures.last ∙ c.in_ok-entry.was) c.requires.apart c.if-entry-unit.true
 
-pub tag-requires : goal.tag-requires
-tag-requires g c =
+pub range_at-requires-clause-here : goal.range_at-requires-clause-here
+range_at-requires-clause-here g c =
     let w = last_tag c.args.unit c.requires.tags.0 c.args.rising.now.items c.args.slots.now.tags c.requires.mirrors c.last_to.ensures.rises c.requires.tags.1 c.in_ok-entry.entry (sym c.last_to.ensures.last ∙ c.in_ok-entry.was) in
-    (w.0, w.1)
+    (w.0, w.1, rising_range c.in_ok-entry.entry w.0 w.2)
+
+pub range_at-requires-clause-range : goal.range_at-requires-clause-range
+range_at-requires-clause-range g c =
+    let w = last_tag c.args.unit c.requires.tags.0 c.args.rising.now.items c.args.slots.now.tags c.requires.mirrors c.last_to.ensures.rises c.requires.tags.1 c.in_ok-entry.entry (sym c.last_to.ensures.last ∙ c.in_ok-entry.was) in
+    subst IsRange (rising_range c.in_ok-entry.entry w.0 w.2) (c.requires.tags.1 c.in_ok-entry.entry.slot w.0 w.1).range
 
 pub returns : goal.returns
 returns g c =
     let tags = c.args.slots.now.tags in
     let found = sym c.last_to.ensures.last ∙ c.in_ok-entry.was in
     let w = last_tag c.args.unit c.requires.tags.0 c.args.rising.now.items tags c.requires.mirrors c.last_to.ensures.rises c.requires.tags.1 c.in_ok-entry.entry found in
-    let same = Some-injective (sym w.1 ∙ sym c.tag.ensures) in
-    subst (λ h. IsWith c.args.unit (ranges_by_age tags) (Some h)) (ap (λ t. t.range) same ∙ sym c.range.ensures.value)
+    subst (λ h. IsWith c.args.unit (ranges_by_age tags) (Some h)) (sym (c.range_at.ensures w.0 w.1))
     (has_unit c.args.unit c.requires.tags.0 c.args.rising.now.items tags c.requires.mirrors c.last_to.ensures.rises c.requires.tags.1 c.in_ok-entry.entry found c.if-entry-unit.false)

@@ -7,12 +7,12 @@ use Rattle.tag_arena.proofs.free_index.FreeIndex.merge.Goals as goal
 
 pub join_left-low-requires : goal.join_left-low-requires
 join_left-low-requires g c =
-    let taken = subst (λ v. TakesLeft c.base.result c.base-2.result v.ranges c.take_left-left.result c.take_left-left.new.self.ranges) c.go_to.ensures.unchanged c.take_left-left.ensures.taken in
-    left_goes_on c.args.span c.args.deed _ _ _ _ _ c.base.ensures.value (c.base-2.ensures.value ∙ ap (λ (e : Extent). e.base) c.range-range.ensures.value)
+    let taken = subst (λ v. TakesLeft c.base.result c.base-base.result v.ranges c.take_left-left.result c.take_left-left.new.self.ranges) c.go_to.ensures.unchanged c.take_left-left.ensures.taken in
+    left_goes_on c.args.span c.args.deed _ _ _ _ _ c.base.ensures.value (c.base-base.ensures.value ∙ ap (λ (e : Extent). e.base) c.range-range.ensures.value)
     c.requires.inside c.requires.some c.requires.beside taken
 
 pub join_right-requires : goal.join_right-requires
 join_right-requires g c =
-    let taken = subst (λ v. TakesLeft c.base.result c.base-2.result v.ranges c.take_left-left.result c.take_left-left.new.self.ranges) c.go_to.ensures.unchanged c.take_left-left.ensures.taken in
-    joins_right c.args.span c.args.deed c.join_left-low.result _ _ _ _ _ _ _ _ _ c.base.ensures.value (c.base-2.ensures.value ∙ ap (λ (e : Extent). e.base) c.range-range.ensures.value)
+    let taken = subst (λ v. TakesLeft c.base.result c.base-base.result v.ranges c.take_left-left.result c.take_left-left.new.self.ranges) c.go_to.ensures.unchanged c.take_left-left.ensures.taken in
+    joins_right c.args.span c.args.deed c.join_left-low.result _ _ _ _ _ _ _ _ _ c.base.ensures.value (c.base-base.ensures.value ∙ ap (λ (e : Extent). e.base) c.range-range.ensures.value)
     (c.end.ensures.value ∙ ap end_of c.range-range.ensures.value) c.end-2.ensures.value c.requires.inside c.requires.some c.requires.beside taken c.take_right-right.ensures.taken c.join_left-low.ensures.root c.join_left-low.ensures.end

@@ -1,8 +1,8 @@
-use Rattle.std.proofs.Common.{◌≡◌, ap, ◌∙◌, arith, None}
+use Rattle.std.proofs.Common.{◌≡◌, sym, ap, ◌∙◌, subst, IfSome, arith, None, Some}
 use Rattle.std.specs.Ordering.{nat_cmp}
 use Rattle.std.specs.FinMap as finmap
 use Rattle.tag_arena.proofs.Lookups.{one_put}
-use Rattle.tag_arena.proofs.Allocations.{len_more}
+use Rattle.tag_arena.proofs.Allocations.{len_more, near_stays}
 use Rattle.tag_arena.proofs.tags.Tags.insert.Goals as goal
 
 pub returns-clause-ok : goal.returns-clause-ok
@@ -15,5 +15,8 @@ pub invariant_of-self-2 : goal.invariant_of-self-2
 invariant_of-self-2 c =
     let is = one_put c.self.inside.ranges.entries c.insert.new.self.entries c.base.result c.args.range c.in_ok-insert.ensures.updates.0 in
     let absent : finmap.get (finmap.from_entries {R = nat_cmp} c.self.inside.ranges.entries) c.base.result ≡ None = rw (c.base.ensures.value, c.self.view_is) c.requires.absent in
-    let more = ap finmap.len is ∙ len_more (finmap.from_entries {R = nat_cmp} c.self.inside.ranges.entries) c.base.result c.args.range absent in
-    omega (arith, more, c.self.invariant)
+    let more = ap finmap.len is ∙ len_more (finmap.from_entries {R = nat_cmp} c.self.inside.ranges.entries) c.base.result c.args.range absent in (
+      omega (arith, more, c.self.invariant.0),
+      subst (λ m. IfSome c.self.inside.near (λ near. finmap.get m near.0 ≡ Some near.1)) (sym is)
+          (near_stays (finmap.from_entries {R = nat_cmp} c.self.inside.ranges.entries) c.base.result c.args.range absent c.self.inside.near c.self.invariant.1),
+    )

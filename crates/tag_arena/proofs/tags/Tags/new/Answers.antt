@@ -8,4 +8,4 @@ use Rattle.tag_arena.proofs.tags.Tags.new.Goals as goal
 pub invariant_of-result : goal.invariant_of-result
 invariant_of-result c =
     let is : finmap.from_entries {X = Holding} {R = nat_cmp} c.new.result.entries ≡ finmap.empty = rw c.new.ensures.empty refl in
-    sym (ap finmap.len is ∙ len-empty nat_cmp Holding)
+    (sym (ap finmap.len is ∙ len-empty nat_cmp Holding), tt)
