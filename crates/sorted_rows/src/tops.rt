@@ -7,8 +7,8 @@ ghost use Rattle.sorted_rows.specs.Weights.{greatest_weight};
 use crate::entries::RowEntry;
 use crate::row::{Row, greater};
 
-/// The top of a row of which nothing is told. No weight is above it, so that a search looks into
-/// such a row.
+/// The top of a row of which nothing is told. No weight is above it: so a search looks into such a
+/// row, and the greater of it and another is this again.
 pub const UNTOLD: u64 = u64::MAX;
 
 /// The top of a row that has lost entries, of the one before. That is no less than the greatest
@@ -29,9 +29,6 @@ pub fn after_insert<T: RowEntry>(top: u64, entry: T, measure: T::Measure) -> u64
     ensures told { top ≢ UNTOLD → result ≡ max (T.weight measure entry) top }
     ensures untold { top ≡ UNTOLD → result ≡ UNTOLD }
 {
-    if top == UNTOLD {
-        return UNTOLD;
-    }
     greater(entry.weight(measure), top)
 }
 
@@ -61,9 +58,6 @@ pub fn after_set<T: RowEntry>(top: u64, row: &Row<T>, old: T, entry: T, measure:
         → result ≡ greatest_weight (T.weight measure) row.now }
     ensures untold { top ≡ UNTOLD → result ≡ UNTOLD }
 {
-    if top == UNTOLD {
-        return UNTOLD;
-    }
     let weight = entry.weight(measure);
     if weight >= top {
         return weight;
@@ -80,9 +74,6 @@ pub fn joined(low: u64, high: u64) -> u64
     ensures untold_low { low ≡ UNTOLD → result ≡ UNTOLD }
     ensures untold_high { high ≡ UNTOLD → result ≡ UNTOLD }
 {
-    if low == UNTOLD || high == UNTOLD {
-        return UNTOLD;
-    }
     greater(low, high)
 }
 
