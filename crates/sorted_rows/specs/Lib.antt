@@ -1,5 +1,5 @@
 pub mod Layout
 pub mod Order
 pub mod Stocked
-pub mod Weights
 pub mod Tops
+pub mod Weights

@@ -13,7 +13,7 @@
 //! ```
 //!
 //! These weights are by one measure, which is the list's. A list begins with a measure, by which
-//! all tops tell, and a change keeps them told. A search by another looks at no top and weighs all
+//! all tops tell, and a change keeps them told. A search by another heeds no top and weighs all
 //! that it comes by, until 9 that went on behind the key's row came with none by the list's between
 //! them. Then its measure becomes the list's and no top tells anything, until its row is searched
 //! in vain behind the key's. A search passes a row that is told to be too light with one look, and
@@ -31,10 +31,10 @@
 //! is where a free range gives way to its rest, or to a longer one that it has become part of. A
 //! row that comes to 64 is halved; neighbors with 32 or fewer together are put together. So a
 //! change moves at most 158 entries, where it takes the struck one out of its row and halves
-//! another. Where a row comes or goes, the vectors of heads and of rows move what stands behind it:
-//! with n entries n / 16 times 48 bytes at most, and it may be twice. No call is recursive. Once
-//! `Rows::reserve` has made room, `insert` and `remove` take no memory and can't fail: a spare row
-//! is there for each split.
+//! another. Where a row comes or goes, the vectors of first keys, of tops and of rows move what
+//! stands behind it: with n entries n / 16 times 48 bytes at most, and it may be twice. No call is
+//! recursive. Once `Rows::reserve` has made room, `insert` and `remove` take no memory and can't
+//! fail: a spare row is there for each split.
 //!
 //! Begin with `Rows`; what an entry is, the trait `RowEntry` says. The form is our own choice.
 #![tactic(auto)]

@@ -8,7 +8,8 @@ use crate::entries::RowEntry;
 use crate::row::{Row, greater};
 
 /// The top of a row of which nothing is told. No weight is above it: so a search looks into such a
-/// row, and the greater of it and another is this again.
+/// row, and the greater of it and another is this again. A row with an entry of this weight counts
+/// as untold.
 pub const UNTOLD: u64 = u64::MAX;
 
 /// The top of a row that has lost entries, of the one before. That is no less than the greatest
@@ -41,6 +42,9 @@ pub fn after_remove<T: RowEntry>(top: u64, row: &Row<T>, entry: T, measure: T::M
         → result ≡ greatest_weight (T.weight measure) row.now }
     ensures untold { top ≡ UNTOLD → result ≡ UNTOLD }
 {
+    if top == UNTOLD {
+        return UNTOLD;
+    }
     if entry.weight(measure) != top {
         return top;
     }
