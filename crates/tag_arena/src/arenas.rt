@@ -385,8 +385,8 @@ impl<D: Deed> Arena<D> {
         Ok(Segment::new(self.id, Route::Direct, deed.into_deed()))
     }
 
-    /// Goes to where a segment with this base lies. It is for speed alone: called before the segment
-    /// is at hand, it lets a free of it wait less for memory.
+    /// Goes to where a segment with this base lies. It is for speed alone: called before the
+    /// segment is at hand, it lets a free of it wait less for memory.
     pub fn go_to(&mut self, base: u64)
         ensures unchanged { self.new ≡ self.old }
     {
