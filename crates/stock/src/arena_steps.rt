@@ -24,6 +24,14 @@ impl<D: Deed> Stock<D> {
         space.arena.xalloc(request)
     }
 
+    /// Goes to where a segment of the arena at the index lies by its base. It is for speed alone.
+    pub fn go_to(&mut self, arena: usize, base: u64)
+        requires within { arena < length self.old }
+        ensures unchanged { self.new ≡ self.old }
+    {
+        self.spaces[arena].arena.go_to(base);
+    }
+
     /// Frees a segment in the arena that it names. An imported span that became whole comes out, to
     /// be freed in its source. It takes no memory, and refuses no Direct segment that is out.
     pub fn free(&mut self, segment: Segment<D>) -> Result<Option<Segment<D>>, Segment<D>>

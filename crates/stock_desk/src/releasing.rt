@@ -55,6 +55,8 @@ fn release_in(
     ensures step { RequestStep id (ops.Release line.now)
         (picture_with book.old supply.old) (picture_with book.new supply.new) result }
 {
+    // For speed alone: the arena looks for the segment's memory while the book is asked.
+    supply.stock.go_to(arena as usize, line.base.get());
     match book.release(id, arena, line.base) {
         Ok((_, segment)) => {
             supply.put_back(segment);
