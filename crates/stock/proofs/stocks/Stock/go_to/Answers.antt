@@ -10,6 +10,6 @@ invariant_of-self g c =
     let with_arena : ArenaState → SpaceState = λ a. record { arena = a; source = c.behind-self.inside.source; caches = c.behind-self.inside.caches.items } in
     let same : with_arena c.go_to.new.self ≡ c.index_mut.result.now = ap with_arena c.go_to.ensures.unchanged ∙ c.behind-self.view_is in
     let items = c.self.inside.spaces.items in
-    let written : set items c.args.index (with_arena c.go_to.new.self) ≡ items =
-    ap (set items c.args.index) (same ∙ c.index_mut.ensures.value) ∙ set-get_or items c.args.index c.index_mut.result.now in
+    let written : set items c.args.arena (with_arena c.go_to.new.self) ≡ items =
+    ap (set items c.args.arena) (same ∙ c.index_mut.ensures.value) ∙ set-get_or items c.args.arena c.index_mut.result.now in
     subst IsStock (sym written) c.self.invariant
