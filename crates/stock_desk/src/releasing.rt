@@ -56,7 +56,7 @@ fn release_in(
         (picture_with book.old supply.old) (picture_with book.new supply.new) result }
 {
     // For speed alone: the arena looks for the segment's memory while the book is asked.
-    supply.stock.go_to(arena as usize, line.base.get());
+    supply.go_to(arena, line.base.get());
     match book.release(id, arena, line.base) {
         Ok((_, segment)) => {
             supply.put_back(segment);
