@@ -24,7 +24,7 @@ impl<D: Deed> Stock<D> {
         space.arena.xalloc(request)
     }
 
-    /// Goes to where a segment of the arena at the index lies by its base. It is for speed alone.
+    /// Goes to the allocated range of an arena at a base. It is for speed alone.
     pub fn go_to(&mut self, arena: usize, base: u64)
         requires within { arena < length self.old }
         ensures unchanged { self.new ≡ self.old }

@@ -54,7 +54,7 @@ impl Supply {
         }
     }
 
-    /// Goes to where a segment of the arena lies by its base. It is for speed alone.
+    /// Goes to the allocated range of an arena at a base. It is for speed alone.
     pub(crate) fn go_to(&mut self, arena: u32, base: u64)
         requires within { arena < length self.old.spaces }
         ensures unchanged { self.new ≡ self.old }

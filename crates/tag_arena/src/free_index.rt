@@ -142,7 +142,7 @@ impl<D: Deed> FreeIndex<D> {
 
     /// Goes to where a range with this base lies. It is for speed alone: the calls that follow
     /// there need no search in the order of bases.
-    pub fn go_to(&mut self, base: u64)
+    fn go_to(&mut self, base: u64)
         ensures unchanged { self.new ≡ self.old }
     {
         self.rising.go_to(base, 0);
