@@ -385,9 +385,9 @@ impl<D: Deed> Arena<D> {
         Ok(Segment::new(self.id, Route::Direct, deed.into_deed()))
     }
 
-    /// Goes to the allocated range at a base. It is for speed alone: called before the segment is at
-    /// hand, it lets a free of it wait less for memory. The order of bases is left alone: a search
-    /// there is guessed wrong so often that nothing else could be waited for meanwhile.
+    /// Goes to the allocated range at a base. It is for speed alone: called before the segment is
+    /// at hand, it lets a free of it wait less for memory. The order of bases is left alone: a
+    /// search there is guessed wrong so often that nothing else could be waited for meanwhile.
     pub fn go_to(&mut self, base: u64)
         ensures unchanged { self.new ≡ self.old }
     {
