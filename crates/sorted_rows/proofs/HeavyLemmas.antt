@@ -44,7 +44,7 @@ module _ {X : Type 0} (p : X → Bool) where
       so ∙ ap (find p) (rows_from rows k r lt at) ∙ (found_behind r (entries_in (drop (suc k) rows)) is ∙ ap (λ n. find p (entries_in (drop n rows))) next)
 
 -- past so many rows that their tops tell to be too light, and up to one
-pub past_light : {X : Type 0} (weight : X → ℕ) (tops : List ℕ) (rows : List (List X)) (from n least : ℕ) (found : Option X) → Describes (IsTop weight) tops rows → from + n ≤ length rows → ((k d : ℕ) → from ≤ k → k < from + n → get_or tops k d < least) → least ≤ UNTOLD
+past_light : {X : Type 0} (weight : X → ℕ) (tops : List ℕ) (rows : List (List X)) (from n least : ℕ) (found : Option X) → Describes (IsTop weight) tops rows → from + n ≤ length rows → ((k d : ℕ) → from ≤ k → k < from + n → get_or tops k d < least) → least ≤ UNTOLD
     → found ≡ find (weighs weight least) (entries_in (drop from rows)) → found ≡ find (weighs weight least) (entries_in (drop (from + n) rows))
 past_light weight tops rows from zero least found are within light most so =
     let e : from ≡ from + zero = omega arith in

@@ -1,5 +1,5 @@
 -- The greatest weight of a list, and searches by weight.
-use Rattle.std.proofs.Common.{◌≡◌, ℕ, ◌+◌, ◌-◌, ◌<◌, ◌≤◌, ◌≢◌, List, [], ◌∷◌, ◌++◌, length, get_or, take, drop, suc, max, refl, ap, sym, ◌∙◌, arith, rules, insert, remove, None, Some, Option, Bool, true, false}
+use Rattle.std.proofs.Common.{◌≡◌, ℕ, ◌+◌, ◌-◌, ◌<◌, ◌≤◌, ◌≢◌, List, [], ◌∷◌, ◌++◌, length, get_or, take, drop, suc, max, refl, ap, sym, ◌∙◌, arith, rules, insert, remove, None, Option, Bool, false}
 use Rattle.std.proofs.lemmas.List.{take-append-drop, drop_all}
 use Rattle.std.proofs.Math.Seq.{drop-cons}
 use Rattle.std.specs.List.{find}
@@ -70,9 +70,6 @@ module _ {X : Type 0} (weight : X → ℕ) where
       omega (arith, none, greatest_none, so)
 
   -- a search that has come to `k`
-  pub find_here : (p : X → Bool) (xs : List X) (k : ℕ) (d : X) → k < length xs → p (get_or xs k d) ≡ true → find p (drop k xs) ≡ Some (get_or xs k d)
-  find_here p xs k d lt is = rw (drop-cons xs k d lt, is) refl
-
   pub find_next : (p : X → Bool) (xs : List X) (k : ℕ) (d : X) → k < length xs → p (get_or xs k d) ≡ false → find p (drop k xs) ≡ find p (drop (suc k) xs)
   find_next p xs k d lt is = rw (drop-cons xs k d lt, is) refl
 

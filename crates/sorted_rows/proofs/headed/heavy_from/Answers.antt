@@ -1,5 +1,4 @@
 use Rattle.std.proofs.Common.{◌+◌, ◌<◌, ◌≤◌, length, set, refl, sym, ◌∙◌, arith}
-use Rattle.std.proofs.lemmas.List.{length-set}
 use Rattle.sorted_rows.specs.Tops.{Describes, IsTop}
 use Rattle.sorted_rows.specs.Weights.{weighs}
 use Rattle.sorted_rows.specs.declared.tops.TheConstants.{UNTOLD}
