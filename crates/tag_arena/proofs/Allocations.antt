@@ -1,6 +1,6 @@
 -- What is allocated, weighed, once a range is put in or taken out.
 use Rattle.std.proofs.Common.{◌≡◌, ℕ, ◌+◌, ◌-◌, ◌≤◌, cond, is_some, inl, inr, sym, ap, ◌∙◌, List, [], ◌∷◌, map, Option, Some, None, arith}
-use Rattle.std.specs.Prelude.{IfSome, sum_by}
+use Rattle.std.specs.Prelude.{sum_by}
 use Rattle.std.proofs.lemmas.List.Sums.{sum_by-cons}
 use Rattle.std.proofs.lemmas.Bool.{cases_eq}
 use Rattle.std.specs.Ordering.{nat_cmp, is_eq}
@@ -33,11 +33,6 @@ module _ (f : Holding → ℕ) (k : ℕ) (v : Holding) where
 pub gains_insert : (m : FinMap nat_cmp Holding) (k : ℕ) (v : Holding) → get m k ≡ None → Gains (ranges_of m) (ranges_of (insert m k v)) v
 gains_insert m k v none f =
     ap (λ es. sum_by f (held es)) (entries-insert nat_cmp_total m k v) ∙ sum-put f k v (entries m) (sym (get-entries m k) ∙ none)
-
--- what stands at a base stays there where a range is put in at another, where none stood
-pub near_stays : (m : FinMap nat_cmp Holding) (k : ℕ) (v : Holding) → get m k ≡ None → (near : Option (ℕ × Holding)) → IfSome near (λ n. get m n.0 ≡ Some n.1) → IfSome near (λ n. get (insert m k v) n.0 ≡ Some n.1)
-near_stays m k v none None here = tt
-near_stays m k v none (Some n) here = get_other m k v n.0 (λ same. absurd (let some : get m k ≡ Some n.1 = ap (get m) (sym same) ∙ here in cc)) ∙ here
 
 -- a range that is taken out and put back
 pub insert-remove : (m : FinMap nat_cmp Holding) (k : ℕ) (v : Holding) → get m k ≡ Some v → insert (remove m k) k v ≡ m

@@ -14,13 +14,13 @@ use Rattle.tag_arena.specs.declared.orders.Order.TheVariants.{Rising, Sizes}
 use Rattle.tag_arena.specs.FreeTags.{FreeTag, range_of, tag_at, SlotBecomes, tags_by_age, ranges_by_age, IsTag, IsTimed, AreTags}
 use Rattle.tag_arena.specs.Orders.{rank_of, entry_of, OrderedIndexState, Mirrors, KeepsUp, HasRoomForOne, IsAbsent}
 use Rattle.tag_arena.specs.Slotted.{SlotsState, taken_count}
-use Rattle.tag_arena.specs.FreeRanges.{MeetsLists, MeetsOrder, IsIndexed, keeps_sizes}
+use Rattle.tag_arena.specs.FreeRanges.{MeetsLists, MeetsOrder, IsIndexed, keeps_bases, keeps_sizes}
 use Rattle.tag_arena.specs.Linked.{ListsState, IsLinked, lists_room}
 use Rattle.tag_arena.specs.declared.entries.IndexEntry.{IndexEntry}
 use Rattle.tag_arena.proofs.Listing.{None≢Some, Some-injective, map-remove}
 use Rattle.tag_arena.proofs.Members.{All-from_members}
 use Rattle.tag_arena.proofs.Aging.{in_tags_by_age, from_tags_by_age, length-tags_by_age, put_cases, timed_put, aged_put, take_cases, timed_take, aged_take}
-use Rattle.tag_arena.proofs.Mirroring.{place_for, absent_for, own}
+use Rattle.tag_arena.proofs.Mirroring.{place_for, absent_for}
 use Rattle.tag_arena.proofs.Searching.{is_first, none_from}
 
 -- the range of a tag is one of the free ranges
@@ -64,25 +64,25 @@ differs tags t absent j u here = All-contains (λ r. r.range.base ≢ t.range.ra
 
 module _ (policy : Policy) (s s2 : SlotsState) (r z : OrderedIndexState) (l : ListsState) (r2 z2 : OrderedIndexState) (l2 : ListsState) (clock room k : ℕ) (t : FreeTag) (x : IsIndexed policy s r z l clock room) where
   pub indexed_put : tag_at s.tags k ≡ None → SlotBecomes s.tags s2.tags k (Some t) → s2.room ≡ s.room → IsTag (clock + 1) t → t.since ≡ clock + 1
-      → MeetsOrder r.kept Rising s2 room r2 → MeetsOrder (keeps_sizes policy) Sizes s2 room z2 → MeetsLists policy s2 l2 → IsIndexed policy s2 r2 z2 l2 (clock + 1) room
+      → MeetsOrder (keeps_bases policy) Rising s2 room r2 → MeetsOrder (keeps_sizes policy) Sizes s2 room z2 → MeetsLists policy s2 l2 → IsIndexed policy s2 r2 z2 l2 (clock + 1) room
   indexed_put vacant becomes same is now hr hz hl =
       let later = newer clock k s.tags s2.tags t x.tags now in
       record {
         timed = timed_put s.tags s2.tags k t x.timed vacant becomes later;
         tags = λ j u here. ⊎_elim (λ a. subst (IsTag (clock + 1)) a.1 is) (λ a. tags_later clock s.tags x.tags j u a.1) (put_cases s.tags s2.tags k t becomes j u here);
         slots_room = omega (arith, x.slots_room, same);
-        rising = own hr;
+        rising = hr;
         sizes = hz;
         lists_meet = hl;
       }
 
   pub indexed_take : tag_at s.tags k ≡ Some t → SlotBecomes s.tags s2.tags k None → s2.room ≡ s.room
-      → MeetsOrder r.kept Rising s2 room r2 → MeetsOrder (keeps_sizes policy) Sizes s2 room z2 → MeetsLists policy s2 l2 → IsIndexed policy s2 r2 z2 l2 clock room
+      → MeetsOrder (keeps_bases policy) Rising s2 room r2 → MeetsOrder (keeps_sizes policy) Sizes s2 room z2 → MeetsLists policy s2 l2 → IsIndexed policy s2 r2 z2 l2 clock room
   indexed_take here becomes same hr hz hl = record {
     timed = timed_take s.tags s2.tags k t x.timed here becomes;
     tags = λ j u stays. x.tags j u (take_cases s.tags s2.tags k t becomes j u stays).1;
     slots_room = omega (arith, x.slots_room, same);
-    rising = own hr;
+    rising = hr;
     sizes = hz;
     lists_meet = hl;
   }
@@ -106,11 +106,17 @@ module _ (old new : List (Option FreeTag)) (k : ℕ) (t : FreeTag) (timed : IsTi
       let a = aged_take old new k t timed here becomes in
       (a.0, omega (arith, a.1, length-map (tags_by_age old) range_of), (λ d. get_or-map range_of (tags_by_age old) a.0 t d a.1 ∙ ap range_of (a.2 t)), ap (map range_of) a.3 ∙ map-remove range_of (tags_by_age old) a.0)
 
--- the order by base has the tags
-pub rising_mirrors : (policy : Policy) (s : SlotsState) (r z : OrderedIndexState) (l : ListsState) (clock room : ℕ) → IsIndexed policy s r z l clock room → r.kept ≡ true → Mirrors Rising r.items s.tags
-rising_mirrors policy s r z l clock room x kept =
-    let up = subst (λ b. KeepsUp b r.order r.items r.room s.tags room) kept x.rising.keeps_up in
-    subst (λ o. Mirrors o r.items s.tags) x.rising.order_is up.0
+-- the orders that the policy asks for have the tags
+module _ (policy : Policy) (s : SlotsState) (r z : OrderedIndexState) (l : ListsState) (clock room : ℕ) (x : IsIndexed policy s r z l clock room) where
+  pub bases_kept : keeps_bases policy ≡ true → Mirrors Rising r.items s.tags
+  bases_kept kept =
+      let up = subst (λ b. KeepsUp b r.order r.items r.room s.tags room) (x.rising.kept_is ∙ kept) x.rising.keeps_up in
+      subst (λ o. Mirrors o r.items s.tags) x.rising.order_is up.0
+
+  pub sizes_kept : keeps_sizes policy ≡ true → Mirrors Sizes z.items s.tags
+  sizes_kept kept =
+      let up = subst (λ b. KeepsUp b z.order z.items z.room s.tags room) (x.sizes.kept_is ∙ kept) x.sizes.keeps_up in
+      subst (λ o. Mirrors o z.items s.tags) x.sizes.order_is up.0
 
 -- where ranges stand in the order by base
 module _ (clock : ℕ) (items : List IndexEntry) (tags : List (Option FreeTag)) (m : Mirrors Rising items tags) (are : AreTags clock tags) where

@@ -15,7 +15,6 @@ pub mod Allocations
 pub mod Counting
 pub mod SpanLists
 pub mod Lookups
-pub mod Striking
 pub mod Sounding
 pub mod Using
 pub mod Reporting
@@ -34,6 +33,7 @@ pub mod Indexing
 pub mod Linking
 pub mod Starting
 pub mod Searching
+pub mod Lying
 pub mod Fitting
 pub mod Reached
 pub mod Lasting
@@ -44,7 +44,6 @@ pub mod Neighboring
 pub mod Ending
 pub mod Cutting
 pub mod Bordering
-pub mod Entering
 pub mod Rejoining
 pub mod Units
 pub mod Backing
@@ -53,3 +52,6 @@ pub mod Coming
 pub mod Spanning
 pub mod SpanFinding
 pub mod LawProofs
+pub mod Knowing
+pub mod Knowledge
+pub mod Certifying

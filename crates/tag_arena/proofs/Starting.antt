@@ -8,10 +8,9 @@ use Rattle.tag_arena.specs.declared.orders.Order.TheVariants.{Rising, Sizes}
 use Rattle.tag_arena.specs.FreeTags.{FreeTag, tags_by_age, ranges_by_age, IsTimed, AreTags}
 use Rattle.tag_arena.specs.Orders.{OrderedIndexState, Mirrors, KeepsUp}
 use Rattle.tag_arena.specs.Slotted.{SlotsState}
-use Rattle.tag_arena.specs.FreeRanges.{MeetsLists, MeetsOrder, IsIndexed, keeps_sizes}
+use Rattle.tag_arena.specs.FreeRanges.{MeetsLists, MeetsOrder, IsIndexed, keeps_bases, keeps_sizes}
 use Rattle.tag_arena.specs.Linked.{ListsState, IsLinked, lists_room}
 use Rattle.tag_arena.proofs.Listing.{None≢Some}
-use Rattle.tag_arena.proofs.Mirroring.{own}
 
 pub ranges_none : ranges_by_age [] ≡ []
 unfolding tags_by_age
@@ -74,12 +73,12 @@ module _ (policy : Policy) (s s2 : SlotsState) (l l2 : ListsState) (x : MeetsLis
   }
 
 module _ (policy : Policy) (s s2 : SlotsState) (r z : OrderedIndexState) (l : ListsState) (r2 z2 : OrderedIndexState) (l2 : ListsState) (clock room wanted : ℕ) (x : IsIndexed policy s r z l clock room) where
-  pub indexed_same : s2.tags ≡ s.tags → wanted ≤ s2.room → MeetsOrder r.kept Rising s2 wanted r2 → MeetsOrder (keeps_sizes policy) Sizes s2 wanted z2 → MeetsLists policy s2 l2 → IsIndexed policy s2 r2 z2 l2 clock wanted
+  pub indexed_same : s2.tags ≡ s.tags → wanted ≤ s2.room → MeetsOrder (keeps_bases policy) Rising s2 wanted r2 → MeetsOrder (keeps_sizes policy) Sizes s2 wanted z2 → MeetsLists policy s2 l2 → IsIndexed policy s2 r2 z2 l2 clock wanted
   indexed_same same le hr hz hl = record {
     timed = subst IsTimed (sym same) x.timed;
     tags = subst (AreTags clock) (sym same) x.tags;
     slots_room = le;
-    rising = own hr;
+    rising = hr;
     sizes = hz;
     lists_meet = hl;
   }

@@ -6,7 +6,6 @@ use Rattle.tag_arena.specs.declared.policies.Policy.TheVariants.{Best, Next, Ins
 use Rattle.tag_arena.specs.declared.orders.Order.{Order}
 use Rattle.tag_arena.specs.declared.orders.Order.TheVariants.{Rising, Sizes}
 use Rattle.tag_arena.specs.FreeTags.{IsTimed, AreTags}
-use Rattle.tag_arena.specs.Boundaries.{BoundariesState, AreBoundaries}
 use Rattle.tag_arena.specs.Linked.{ListsState, IsLinked, lists_room}
 use Rattle.tag_arena.specs.Orders.{OrderedIndexState, KeepsUp}
 use Rattle.tag_arena.specs.Slotted.{SlotsState}
@@ -19,11 +18,17 @@ pub record FreeIndexState : Type 0 where
   pub room : ℕ
   pub ticks : ℕ
 
--- the policies that ask for the order of sizes; for them boundaries may stand in for that of bases
+-- the policies that ask for the order of sizes
 abbrev pub keeps_sizes : Policy → Bool
 keeps_sizes Best = true
 keeps_sizes Instant = true
 keeps_sizes Next = false
+
+-- `next` alone asks for that of bases
+abbrev pub keeps_bases : Policy → Bool
+keeps_bases Best = false
+keeps_bases Instant = false
+keeps_bases Next = true
 
 -- `instant` alone asks for the power-of-two lists
 abbrev pub keeps_lists : Policy → Bool
@@ -44,20 +49,13 @@ pub record MeetsLists (policy : Policy) (s : SlotsState) (l : ListsState) : Type
   pub linked : l.kept ≡ true → IsLinked l s.tags
   pub room : l.kept ≡ true → s.room ≤ lists_room l
 
--- a range's neighbors are told by the boundaries of the tags, or else by the order of bases
-pub record MeetsBoundaries (policy : Policy) (s : SlotsState) (by_base : Bool)
-    (b : BoundariesState) : Type 0 where
-  pub allowed : b.kept ≡ true → keeps_sizes policy ≡ true
-  pub are : b.kept ≡ true → AreBoundaries b s.tags
-  pub order : b.kept ≡ false → by_base ≡ true
-
 -- each index has the tags of the slots, and so have the lists
 pub record IsIndexed (policy : Policy) (s : SlotsState) (up size : OrderedIndexState)
     (lists : ListsState) (clock room : ℕ) : Type 0 where
   pub timed : IsTimed s.tags
   pub tags : AreTags clock s.tags
   pub slots_room : room ≤ s.room
-  pub rising : MeetsOrder up.kept Rising s room up
+  pub rising : MeetsOrder (keeps_bases policy) Rising s room up
   pub sizes : MeetsOrder (keeps_sizes policy) Sizes s room size
   pub lists_meet : MeetsLists policy s lists
 

@@ -18,3 +18,4 @@ pub mod Cuts
 pub mod Returns
 pub mod Spanned
 pub mod Found
+pub mod Cells

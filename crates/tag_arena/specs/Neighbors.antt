@@ -1,19 +1,16 @@
 -- Taking a free neighbor of a range out of the list of free ranges.
 use Rattle.std.specs.Prelude.{◌≡◌, ◌≢◌, ℕ, ◌<◌, ◌⊎◌, List, All, HoldsAt, Option, Some, None, length}
 use Rattle.std.specs.Prelude.{remove}
-use Rattle.deed_core.specs.Extent.{end_of}
+use Rattle.deed_core.specs.Extent.{Extent, end_of}
 use Rattle.std.specs.Option.{option_map_or}
 use Rattle.deed_core.specs.Holding.{Holding, Apart}
 use Rattle.tag_arena.specs.Layout.{IsPartOf}
+use Rattle.tag_arena.specs.declared.cells.Beside.{Beside}
+use Rattle.tag_arena.specs.declared.cells.Side.TheVariants.{Allocated}
 
 -- new is old without the range r
 abbrev pub Without : List Holding → Holding → List Holding → Type 0
 Without old r new = (k : ℕ) × (k < length old) × HoldsAt (λ x. x ≡ r) old k × (new ≡ remove old k)
-
--- the free range that begins at base is taken, where there is one
-abbrev pub TakesAt : ℕ → List Holding → Option Holding → List Holding → Type 0
-TakesAt base old None new = (new ≡ old) × All (λ r. r.range.base ≢ base) old
-TakesAt base old (Some r) new = (r.range.base ≡ base) × Without old r new
 
 -- the free range that ends at base is taken, unless the span begins there
 abbrev pub TakesLeft : ℕ → ℕ → List Holding → Option Holding → List Holding → Type 0
@@ -43,3 +40,8 @@ pub record Merges (span piece : Holding) (old : List Holding) (merged : Holding)
   pub root : merged.root ≡ piece.root
   pub base : merged.range.base ≡ option_map_or (λ r. r.range.base) left piece.range.base
   pub end : end_of merged.range ≡ option_map_or (λ r. end_of r.range) right (end_of piece.range)
+
+-- what is known to be allocated beside the range is so: no free range ends or begins there
+pub record IsKnownBeside (b : Beside) (e : Extent) (free : List Holding) : Type 0 where
+  pub left : b.left ≡ Allocated → All (λ r. end_of r.range ≢ e.base) free
+  pub right : b.right ≡ Allocated → All (λ r. r.range.base ≢ end_of e) free

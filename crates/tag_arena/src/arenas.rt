@@ -1,13 +1,11 @@
 //! The arena, on the index of its free ranges.
-ghost use Rattle.std.specs.Prelude.{◌≡◌, ◌+◌, ◌-◌, ◌%◌, ◌^◌, ◌≤◌, ◌↔◌, ◌<◌, [], ℕ, length};
+ghost use Rattle.std.specs.Prelude.{◌≡◌, ◌+◌, ◌%◌, ◌≤◌, ◌↔◌, ◌<◌, [], ℕ};
 ghost use Rattle.std.specs.Prelude.{IsTrue, IsOk, IfOk, IfErr, IfSome, OnOk, OnErr, Some};
-ghost use Rattle.std.specs.Prelude.{AllPairs, option_to_list, sum_by};
+ghost use Rattle.std.specs.Prelude.{option_to_list, sum_by};
 ghost use Rattle.std.specs.Bool.{OnTrue, OnFalse};
 ghost use Rattle.std.specs.Int.{IsPowerOfTwo};
 ghost use Rattle.std.specs.Option.{option_map};
-ghost use Rattle.std.specs.FinMap as finmap;
 ghost use Rattle.deed_core.specs.Extent.{IsRange};
-ghost use Rattle.deed_core.specs.Holding.{Apart};
 ghost use Rattle.deed_core.specs.Covering.{covers, covers_tag, covering_held, units_held};
 ghost use Rattle.deed_core.specs.Tag.{Tag};
 ghost use Rattle.deed_core.specs.Request.{IsGood};
@@ -22,16 +20,18 @@ ghost use Rattle.tag_arena.specs.Found.{IsCuttable};
 ghost use Rattle.tag_arena.specs.Outcomes.{KeepsSetup, AddSpanOf, CarveOf, IsImportFor, ImportOf};
 ghost use Rattle.tag_arena.specs.Outcomes.{ImportCovers, FreeOf, RemoveOf};
 
+use crate::cell_notes::{origin_in, tell, tell_rests};
 use crate::cuts::cut_first;
 use crate::faults::{ArenaFault, SpanFault};
 use crate::free_index::FreeIndex;
 use crate::held_ranges::{HeldRange, held_range_of};
-use crate::policies::Policy;
+use crate::policies::{Policy, has_sizes};
 use crate::probes::Probes;
+use crate::reserves::reserve_free;
 use crate::searches::Fit;
 use crate::span_searches::{is_span, overlaps, span_at};
 use crate::spans::{Import, Spans};
-use crate::tags::Tags;
+use crate::tags::{Origin, Tags};
 use crate::whole_spans::lowest_whole;
 use deed_core::{Deed, Range, Request, Route, Segment, Stored};
 use std::alloc::{AllocError, Global};
@@ -116,7 +116,7 @@ impl<D: Deed> Arena<D> {
             owned: Spans::new(alloc),
             imported: Spans::new(alloc),
             free: FreeIndex::new(alloc, policy),
-            tags: Tags::new(alloc),
+            tags: Tags::new(alloc, has_sizes(policy)),
             rover: 0,
             probes: Probes::new(),
         }
@@ -246,6 +246,8 @@ impl<D: Deed> Arena<D> {
         let stored = Stored::new(deed);
         self.owned.put(Import::new(self.id, held_range_of(&stored)));
         self.free.insert(stored);
+        let cell = self.tags.open();
+        tell(&mut self.free, &mut self.tags, cell);
         Ok(())
     }
 
@@ -301,11 +303,17 @@ impl<D: Deed> Arena<D> {
         // Room for both rests, of which one takes the place of the range, and for the piece.
         reserve_free(self.alloc, &mut self.free, &self.tags, 2)?;
         let piece = HeldRange::new(found.range.root(), piece_of(found.range, found.base, len));
-        self.tags.insert(piece)?;
+        let origin = origin_in(found, len, self.free.chosen_cell());
+        let rest = self.tags.insert(piece, origin)?;
         let Ok(deed) = self.free.carve(found.range, found.base, len) else {
+            let cell = self.tags.cell(piece.base());
             self.tags.remove(piece);
+            let whole = self.tags.join(cell, origin.low, origin.high);
+            self.free.set_cell(found.slot, whole);
+            self.tags.set_free(whole, found.slot);
             return Err(AllocError);
         };
+        tell_rests(&mut self.free, &mut self.tags, origin, rest);
         self.rover = found.base + len;
         Ok(Segment::new(self.id, Route::Direct, deed.into_deed()))
     }
@@ -368,7 +376,12 @@ impl<D: Deed> Arena<D> {
         };
         let whole = HeldRange::new(span.root(), span.range());
         let first = HeldRange::new(span.root(), piece_of(whole, whole.base(), len));
-        let Ok(()) = self.tags.insert(first) else {
+        let origin = Origin {
+            cell: self.tags.open(),
+            low: false,
+            high: first.end() < whole.end(),
+        };
+        let Ok(cell) = self.tags.insert(first, origin) else {
             return Err(span);
         };
         let source = span.arena();
@@ -380,6 +393,7 @@ impl<D: Deed> Arena<D> {
             }
         };
         self.free.insert_rest(rest);
+        tell_rests(&mut self.free, &mut self.tags, origin, cell);
         self.imported.put(Import::new(source, whole));
         self.rover = first.end();
         Ok(Segment::new(self.id, Route::Direct, deed.into_deed()))
@@ -425,11 +439,18 @@ impl<D: Deed> Arena<D> {
         }
         let span = span_at(&self.owned, &self.imported, tagged.base()).unwrap();
         let lent = is_span(&self.imported, span);
+        let cell = self.tags.cell(tagged.base());
+        let beside = self.tags.beside(cell, tagged.base(), tagged.end());
         self.tags.remove(tagged);
         let deed = Stored::new(segment.into_deed());
-        let Some(whole) = self.free.give_back(span, lent, deed) else {
+        let back = self.free.give_back(span, lent, deed, beside);
+        let trace = self.free.trace();
+        let cell = self.tags.join(cell, trace.left, trace.right);
+        let Some(whole) = back else {
+            tell(&mut self.free, &mut self.tags, cell);
             return Ok(None);
         };
+        self.tags.vacate(cell);
         let import = self.imported.take(span);
         Ok(Some(Segment::new(import.source(), Route::Direct, whole.into_deed())))
     }
@@ -452,35 +473,10 @@ impl<D: Deed> Arena<D> {
             return None;
         };
         let _ = self.owned.take(whole);
-        Some(self.free.take(whole.base()).into_deed())
+        let deed = self.free.take(whole, 0);
+        self.tags.vacate(self.free.trace().cell);
+        Some(deed.into_deed())
     }
-}
-
-/// Makes room for `more` free ranges, and for each allocated range to become free again.
-fn reserve_free<D: Deed>(
-    alloc: Global,
-    free: &mut FreeIndex<D>,
-    tags: &Tags,
-    more: usize,
-) -> Result<(), AllocError>
-    requires apart { AllPairs Apart free.old.ranges }
-    ensures room { OnOk result
-        (length free.new.ranges + finmap.len tags.now + more ≤ free.new.room) }
-    ensures ticks { OnOk result (finmap.len tags.now + more < free.new.ticks) }
-    ensures bound { OnOk result (finmap.len tags.now + more < 2 ^ 64) }
-    ensures rest { free.new ≡ record free.old { room = free.new.room; ticks = free.new.ticks } }
-    ensures grows { (free.old.room ≤ free.new.room) × (free.old.ticks ≤ free.new.ticks) }
-{
-    let Some(back) = tags.len().checked_add(more) else {
-        return Err(AllocError);
-    };
-    let Some(room) = free.len().checked_add(back) else {
-        return Err(AllocError);
-    };
-    let Some(ticks) = back.checked_add(1) else {
-        return Err(AllocError);
-    };
-    free.reserve(alloc, room, ticks)
 }
 
 /// The `len` units from `base` on, which lie in the range.

@@ -46,7 +46,11 @@ fn earliest_behind<D: Deed>(
     while let Some(entry) = rising.first_weighing(Measure::Minor, from, 0, units) {
         let range = slots.range_at(entry.slot, entry.major, entry.minor);
         if let Some(base) = probes.least_in(request, quantum, range, start) {
-            return Some(Fit { range, base });
+            return Some(Fit {
+                range,
+                base,
+                slot: 0,
+            });
         }
         from = range.base() + 1;
     }
@@ -79,7 +83,11 @@ fn earliest_fit<D: Deed>(
     rising.go_to(start, u64::MAX);
     if let Some(range) = range_with(slots, rising, start) {
         if let Some(base) = probes.least_in(request, quantum, range, start) {
-            return Some(Fit { range, base });
+            return Some(Fit {
+                range,
+                base,
+                slot: 0,
+            });
         }
     }
     earliest_behind(

@@ -1,4 +1,4 @@
-//! The free ranges of an arena, in orders, by boundaries and on lists, as its policy asks.
+//! The free ranges of an arena, in orders and on lists, as its policy asks.
 ghost use Rattle.std.specs.Prelude.{◌≡◌, ◌≢◌, ◌+◌, ◌<◌, ◌≤◌, ◌++◌, ◌∷◌, [], All, Any, OnOk, OnErr};
 ghost use Rattle.std.specs.Prelude.{◌-◌, ◌%◌, ◌^◌, length, max, true, AllPairs, Contains, IfOk};
 ghost use Rattle.std.specs.Prelude.{IfSome, MatchBool, option_to_list};
@@ -7,29 +7,27 @@ ghost use Rattle.deed_core.specs.Covering.{units_held};
 ghost use Rattle.deed_core.specs.Extent.{Covers, IsRange, end_of};
 ghost use Rattle.deed_core.specs.Holding.{Apart};
 ghost use Rattle.deed_core.specs.Request.{IsGood};
-ghost use Rattle.tag_arena.specs.Boundaries.{EndsAt};
+ghost use Rattle.tag_arena.specs.Boundaries.{BeginsAt, EndsAt};
 ghost use Rattle.tag_arena.specs.Calls.{part};
 ghost use Rattle.tag_arena.specs.Choice.{IsBestChoice, IsChoice, IsInstantChoice, IsNextChoice};
 ghost use Rattle.tag_arena.specs.declared.policies.Policy.TheVariants.{Instant, Next};
-ghost use Rattle.tag_arena.specs.Layout.{IsPartOf};
-ghost use Rattle.tag_arena.specs.Neighbors.{IsBeside, Merges, TakesAt, TakesLeft, TakesRight};
 ghost use Rattle.tag_arena.specs.Neighbors.{Without};
 ghost use Rattle.tag_arena.specs.Cuts.{CarvesOut, IsCut};
 ghost use Rattle.tag_arena.specs.Fits.{base_of, IsFit, ServedByList};
 ghost use Rattle.tag_arena.specs.FreeRanges.{keeps_sizes};
-ghost use Rattle.tag_arena.specs.Returns.{ComesBack};
 
-use crate::boundaries::{Boundaries, FEW_RANGES, Lasting, boundaries_of, slot_at};
+use crate::cells::Side;
 use crate::cuts::Cut;
 use crate::earliest::next_fit;
 use crate::held_ranges::{HeldRange, held_range_of};
-use crate::merges::{join_left, join_right};
 use crate::newest_lists::NewestLists;
 use crate::orders::{Order, OrderedIndex};
-use crate::policies::{Policy, has_lists, has_sizes};
+use crate::policies::{Policy, has_bases, has_lists, has_sizes};
 use crate::probes::Probes;
-use crate::searches::{Fit, best_fit, newest, range_with};
+use crate::searches::{Fit, best_fit, newest, range_from, range_with};
+use crate::slot_searches::slot_of;
 use crate::slots::{Slots, TimedDeed};
+use crate::traces::Trace;
 use deed_core::{Deed, Request, Stored};
 use std::alloc::{AllocError, Global};
 use std::marker::Model;
@@ -42,15 +40,15 @@ pub struct FreeIndex<D: Deed> {
     rising: OrderedIndex,
     sizes: OrderedIndex,
     lists: NewestLists,
-    boundaries: Boundaries,
     clock: u64,
     room: usize,
+    trace: Trace,
 }
 
 impl<D: Deed> Model for FreeIndex<D> {
-    ghost use Rattle.std.specs.Prelude.{◌-◌, ◌^◌, min};
+    ghost use Rattle.std.specs.Prelude.{◌-◌, ◌^◌};
     ghost use Rattle.tag_arena.specs.FreeTags.{ranges_by_age};
-    ghost use Rattle.tag_arena.specs.FreeRanges.{FreeIndexState, IsIndexed, MeetsBoundaries};
+    ghost use Rattle.tag_arena.specs.FreeRanges.{FreeIndexState, IsIndexed};
 
     ghost Value = { FreeIndexState };
 
@@ -58,12 +56,11 @@ impl<D: Deed> Model for FreeIndex<D> {
       policy = f.policy;
       ranges = ranges_by_age f.slots.tags;
       room = f.room;
-      ticks = min (2 ^ 64 - 1 - f.clock) f.boundaries.more;
+      ticks = 2 ^ 64 - 1 - f.clock;
     } };
 
     ghost invariant = { λ f.
-        IsIndexed f.policy f.slots f.rising f.sizes f.lists f.clock f.room
-        × MeetsBoundaries f.policy f.slots f.rising.kept f.boundaries };
+        IsIndexed f.policy f.slots f.rising f.sizes f.lists f.clock f.room };
 }
 
 impl<D: Deed> FreeIndex<D> {
@@ -72,17 +69,17 @@ impl<D: Deed> FreeIndex<D> {
         ensures policy { result.policy ≡ policy }
         ensures ranges { result.ranges ≡ [] }
         ensures room { result.room ≡ 0 }
-        ensures ticks { result.ticks ≡ 0 }
+        ensures ticks { result.ticks ≡ 2 ^ 64 - 1 }
     {
         FreeIndex {
             policy,
             slots: Slots::new(alloc),
-            rising: OrderedIndex::new(alloc, Order::Rising, true),
+            rising: OrderedIndex::new(alloc, Order::Rising, has_bases(policy)),
             sizes: OrderedIndex::new(alloc, Order::Sizes, has_sizes(policy)),
             lists: NewestLists::new(alloc, has_lists(policy)),
-            boundaries: Boundaries::new(alloc, false),
             clock: 0,
             room: 0,
+            trace: Trace::new(),
         }
     }
 
@@ -101,8 +98,6 @@ impl<D: Deed> FreeIndex<D> {
         if u64::MAX - self.clock < ticks as u64 {
             return Err(AllocError);
         }
-        self.boundaries.reserve(ticks)?;
-        self.turn(alloc);
         self.widen(alloc, room)
     }
 
@@ -123,26 +118,9 @@ impl<D: Deed> FreeIndex<D> {
         Ok(())
     }
 
-    /// Turns from the order of bases to the boundaries, where the policy allows it and there are
-    /// more than a few ranges. It is for speed alone, and need do nothing: where there is no memory
-    /// for them, the order stays.
-    fn turn(&mut self, alloc: Global)
-        requires apart { AllPairs Apart self.old.ranges }
-        ensures unchanged { self.new ≡ self.old }
-    {
-        let is_few = self.slots.taken() <= FEW_RANGES;
-        if is_few || self.boundaries.is_kept() || !has_sizes(self.policy) {
-            return;
-        }
-        if let Ok(boundaries) = boundaries_of(alloc, &self.slots, self.boundaries.more()) {
-            self.boundaries = boundaries;
-            self.rising = OrderedIndex::new(alloc, Order::Rising, false);
-        }
-    }
-
     /// Goes to where a range with this base lies. It is for speed alone: the calls that follow
     /// there need no search in the order of bases.
-    fn go_to(&mut self, base: u64)
+    pub fn go_to(&mut self, base: u64)
         ensures unchanged { self.new ≡ self.old }
     {
         self.rising.go_to(base, 0);
@@ -166,37 +144,32 @@ impl<D: Deed> FreeIndex<D> {
         self.rising.enter(slot, tag);
         self.sizes.enter(slot, tag);
         self.lists.enter(slot, tag);
-        self.boundaries.enter(slot, tag);
+        self.trace.older = self.trace.newest;
+        self.trace.newest = slot;
     }
 
-    /// Takes out the free range that begins at `base`, if there is one.
-    fn take_at(&mut self, base: u64, lasting: Lasting) -> Option<Stored<D>>
-        ensures taken { TakesAt base self.old.ranges result self.new.ranges }
+    /// A free range is free no more. Its slot may be the one that is likely.
+    pub fn take(&mut self, range: HeldRange, likely: usize) -> Stored<D>
+        requires present { Contains self.old.ranges range }
+        ensures value { result ≡ range }
+        ensures ranges { Without self.old.ranges range self.new.ranges }
         ensures rest { self.new ≡ record self.old { ranges = self.new.ranges } }
     {
-        let slot = slot_at(&self.rising, &self.boundaries, base)?;
+        let found = slot_of(
+            self.policy,
+            &self.slots,
+            &self.rising,
+            &self.sizes,
+            range,
+            likely,
+        );
+        let Some(slot) = found else { unreachable!() };
         let tag = self.slots.tag(slot);
+        self.trace.cell = self.slots.cell(slot);
         self.rising.strike(slot, tag);
         self.sizes.strike(slot, tag);
         self.lists.strike(slot, tag);
-        self.boundaries.strike(tag, lasting);
-        Some(self.slots.take(slot).into_deed())
-    }
-
-    /// The free range that begins at `base` is free no more. It is mostly merged with what stands
-    /// behind it, so that another will begin there: for speed alone.
-    pub fn take(&mut self, base: u64) -> Stored<D>
-        requires present { Any (λ r. r.range.base ≡ base) self.old.ranges }
-        ensures ranges { Without self.old.ranges result self.new.ranges }
-        ensures base { result.range.base ≡ base }
-        ensures policy { self.new.policy ≡ self.old.policy }
-        ensures room { self.new.room ≡ self.old.room }
-        ensures ticks { self.new.ticks ≡ self.old.ticks }
-    {
-        match self.take_at(base, Lasting::BASE) {
-            Some(deed) => deed,
-            None => unreachable!(),
-        }
+        self.slots.take(slot).into_deed()
     }
 
     /// How many free ranges there are. It takes constant time, so its clauses are the way to know
@@ -217,33 +190,60 @@ impl<D: Deed> FreeIndex<D> {
 
     /// Whether it is a free range.
     pub fn has(&self, range: HeldRange) -> bool
-        requires { AllPairs Apart self.now.ranges }
         ensures { MatchBool result (Contains self.now.ranges range)
             (¬ Contains self.now.ranges range) }
     {
-        let Some(slot) = slot_at(&self.rising, &self.boundaries, range.base()) else {
-            return false;
-        };
-        if self.slots.tag(slot).range() != range {
-            return false;
-        }
-        true
+        let found = slot_of(
+            self.policy,
+            &self.slots,
+            &self.rising,
+            &self.sizes,
+            range,
+            0,
+        );
+        found.is_some()
     }
 
-    /// The base of the free range that ends at `end`, if there is one. Where the boundaries aren't
-    /// kept, it is the one with the unit below `end`, since none has the unit `end`.
-    fn base_before(&self, end: u64) -> Option<u64>
+    /// The free range that ends at `end`, if there is one. What stands there may be known; else
+    /// under `next` it is the one with the unit below `end`, since none has the unit `end`.
+    pub fn ending_at(&self, end: u64, side: Side) -> Option<HeldRange>
         requires some { 0 < end }
         requires apart { AllPairs Apart self.now.ranges }
+        requires known { side ≡ Side.Allocated → All (λ r. end_of r.range ≢ end) self.now.ranges }
         requires clear { All (λ r. ¬ Covers r.range end) self.now.ranges }
         ensures { EndsAt end self.now.ranges result }
     {
-        if self.boundaries.is_kept() {
-            let slot = self.boundaries.ending_at(end)?;
-            return Some(self.slots.tag(slot).range().base());
+        if has_bases(self.policy) {
+            return range_with(&self.slots, &self.rising, end - 1);
         }
-        let left = range_with(&self.slots, &self.rising, end - 1)?;
-        Some(left.base())
+        if side == Side::Allocated {
+            return None;
+        }
+        if let Side::Free(slot) = side {
+            if let Some(range) = self.slots.ending_in(slot, end) {
+                return Some(range);
+            }
+        }
+        self.slots.ending_at(end)
+    }
+
+    /// The free range that begins at `base`, if there is one. What stands there may be known.
+    pub fn beginning_at(&self, base: u64, side: Side) -> Option<HeldRange>
+        requires known { side ≡ Side.Allocated → All (λ r. r.range.base ≢ base) self.now.ranges }
+        ensures { BeginsAt base self.now.ranges result }
+    {
+        if has_bases(self.policy) {
+            return range_from(&self.slots, &self.rising, base);
+        }
+        if side == Side::Allocated {
+            return None;
+        }
+        if let Side::Free(slot) = side {
+            if let Some(range) = self.slots.beginning_in(slot, base) {
+                return Some(range);
+            }
+        }
+        self.slots.beginning_at(base)
     }
 
     /// The best range that serves the request, and its least address that does. Under `next` there
@@ -281,13 +281,14 @@ impl<D: Deed> FreeIndex<D> {
         let Some(units) = request.units(quantum) else {
             return self.best(quantum, request, probes);
         };
-        let Some(range) = newest(&self.slots, &self.lists, quantum, units) else {
+        let Some(newest) = newest(&self.slots, &self.lists, quantum, units) else {
             return self.best(quantum, request, probes);
         };
         probes.look();
         Some(Fit {
-            range,
-            base: range.base(),
+            range: newest.range,
+            base: newest.range.base(),
+            slot: newest.slot,
         })
     }
 
@@ -334,81 +335,13 @@ impl<D: Deed> FreeIndex<D> {
         ensures one { self.old.policy ≡ Instant → ServedByList quantum request.now self.old.ranges
             → probes.old.count ≡ 0 → probes.new.count ≡ 1 }
     {
-        match self.policy {
+        let fit = match self.policy {
             Policy::Best => self.best(quantum, request, probes),
             Policy::Next => self.next(rover, quantum, request, probes),
             Policy::Instant => self.instant(quantum, request, probes),
-        }
-    }
-
-    /// Takes out the free range that ends at `base`, unless the span begins there.
-    fn take_left(&mut self, start: u64, base: u64) -> Option<Stored<D>>
-        requires start { start ≤ base }
-        requires apart { AllPairs Apart self.old.ranges }
-        requires clear { All (λ r. ¬ Covers r.range base) self.old.ranges }
-        ensures taken { TakesLeft start base self.old.ranges result self.new.ranges }
-        ensures rest { self.new ≡ record self.old { ranges = self.new.ranges } }
-    {
-        if base == start {
-            return None;
-        }
-        // For its clause: each free range has units.
-        let _ = self.len();
-        let left = self.base_before(base)?;
-        Some(self.take(left))
-    }
-
-    /// Takes out the free range that begins at `end`, unless the span ends there.
-    fn take_right(&mut self, end: u64, limit: u64) -> Option<Stored<D>>
-        requires { end ≤ limit }
-        ensures taken { TakesRight end limit self.old.ranges result self.new.ranges }
-        ensures rest { self.new ≡ record self.old { ranges = self.new.ranges } }
-    {
-        if end == limit {
-            return None;
-        }
-        self.take_at(end, Lasting::END)
-    }
-
-    /// The deed and its free neighbours inside the span, which are taken out. It takes no memory.
-    pub fn merge(&mut self, span: HeldRange, deed: Stored<D>) -> Stored<D>
-        requires inside { IsPartOf span deed }
-        requires some { 0 < deed.range.len }
-        requires beside { All (IsBeside span) self.old.ranges }
-        requires apart { AllPairs Apart self.old.ranges }
-        requires clear { All (Apart deed) self.old.ranges }
-        ensures merges { Merges span deed self.old.ranges result self.new.ranges }
-        ensures rest { self.new ≡ record self.old { ranges = self.new.ranges } }
-    {
-        let range = deed.range();
-        let base = range.base();
-        self.go_to(base);
-        let left = self.take_left(span.base(), base);
-        let right = self.take_right(range.end(), span.end());
-        let low = join_left(left, deed);
-        join_right(low, right)
-    }
-
-    /// A piece of a span comes back. With its free neighbours it is the newest range; where that is
-    /// the whole of a span that was lent, it is handed back. It takes no memory.
-    pub fn give_back(&mut self, span: HeldRange, lent: bool, deed: Stored<D>) -> Option<Stored<D>>
-        requires inside { IsPartOf span deed }
-        requires some { 0 < deed.range.len }
-        requires beside { All (IsBeside span) self.old.ranges }
-        requires apart { AllPairs Apart self.old.ranges }
-        requires clear { All (Apart deed) self.old.ranges }
-        requires room { length self.old.ranges < self.old.room }
-        requires ticks { 0 < self.old.ticks }
-        ensures returned { ComesBack lent span deed self.old.ranges self.new.ranges result }
-        ensures setup { (self.new.policy ≡ self.old.policy) × (self.new.room ≡ self.old.room) }
-        ensures ticks { self.old.ticks ≤ self.new.ticks + 1 }
-    {
-        let merged = self.merge(span, deed);
-        if lent && held_range_of(&merged) == span {
-            return Some(merged);
-        }
-        self.insert(merged);
-        None
+        }?;
+        self.trace.chosen = fit.slot;
+        Some(fit)
     }
 
     /// Cuts the units from `base` to `end` out of a free range, which is free no more.
@@ -423,16 +356,20 @@ impl<D: Deed> FreeIndex<D> {
         ensures unchanged { OnErr result (self.new.ranges ≡ self.old.ranges) }
         ensures rest { self.new ≡ record self.old { ranges = self.new.ranges } }
     {
-        let Some(slot) = slot_at(&self.rising, &self.boundaries, range.base()) else {
-            unreachable!()
-        };
+        let found = slot_of(
+            self.policy,
+            &self.slots,
+            &self.rising,
+            &self.sizes,
+            range,
+            self.trace.chosen,
+        );
+        let Some(slot) = found else { unreachable!() };
         let tag = self.slots.tag(slot);
         let cut = self.slots.cut(slot, tag, base, end)?;
         self.rising.strike(slot, tag);
         self.sizes.strike(slot, tag);
         self.lists.strike(slot, tag);
-        let lasting = Lasting::new(cut.low.is_some(), cut.high.is_some());
-        self.boundaries.strike(tag, lasting);
         Ok(cut)
     }
 
@@ -480,6 +417,31 @@ impl<D: Deed> FreeIndex<D> {
         Ok(piece)
     }
 
+    /// What the index did last. It is for speed alone.
+    pub fn trace(&self) -> Trace {
+        self.trace
+    }
+
+    /// Tells which sides the range that came back was merged on. It is for speed alone.
+    pub fn note_merge(&mut self, left: bool, right: bool)
+        ensures unchanged { self.new ≡ self.old }
+    {
+        self.trace.left = left;
+        self.trace.right = right;
+    }
+
+    /// The cell of the range that was chosen last, if it has one. It is for speed alone.
+    pub fn chosen_cell(&self) -> Option<usize> {
+        self.slots.cell(self.trace.chosen)
+    }
+
+    /// Tells the cell of the range in a slot. It is for speed alone.
+    pub fn set_cell(&mut self, slot: usize, cell: Option<usize>)
+        ensures unchanged { self.new ≡ self.old }
+    {
+        self.slots.set_cell(slot, cell);
+    }
+
     /// Ends the index where no range is free.
     pub fn destroy(self)
         requires { self.ranges ≡ [] }
@@ -490,9 +452,9 @@ impl<D: Deed> FreeIndex<D> {
             rising: _,
             sizes: _,
             lists: _,
-            boundaries: _,
             clock: _,
             room: _,
+            trace: _,
         } = self;
         slots.destroy();
     }

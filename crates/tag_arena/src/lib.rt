@@ -15,29 +15,27 @@
 //! oldest to the newest. In it
 //!
 //! * `slots` has each deed in a slot of its own, with the time at which it became free;
-//! * `rising` has the ranges by base, for the neighbors of a range, with their lengths as weights,
-//!   for `next`;
-//! * `boundaries` has the slots by where ranges begin and by where they end, in hashed maps, for
-//!   the neighbors of a range: under `best` and `instant` it takes the place of `rising` for good,
-//!   once there are more than 64 ranges;
+//! * `rising` has the ranges by base, with their lengths as weights, under `next`;
 //! * `sizes` has them by length and base, under `best` and `instant`;
 //! * `lists` has them by power-of-two list, linked from the newest to the oldest, under `instant`.
 //!
 //! Round it `Arena` has the allocated ranges by their bases in a hashed map, `Tags`, and the owned
 //! and the imported spans, each in the order of their ends, in `Spans`; a contract sees spans in
-//! order of coming.
+//! order of coming. Under `best` and `instant` each range, free or allocated, has a cell (`Cells`,
+//! in `Tags`), linked with those of the ranges beside it: so a release finds its free neighbors,
+//! which `next` finds in `rising`.
 //!
 //! What it costs: a call seeks in each index, by a search for a row of up to 64 ranges and one in
 //! the row. Each change of an index moves up to 158 entries, and a search by weight up to 63; by
-//! boundaries a neighbor is looked up. On the lists a range comes and goes without a search, and
+//! cells a neighbor is found without a search. On the lists a range comes and goes without one, and
 //! `instant` looks at 64 heads at most. `next`, and a request with an `align` or a `nocross` of its
 //! own, pass by the rows that have no room with one look at each; `Arena::probes` tells how many
 //! ranges the last grant tried. Other calls look at more: `Arena::report` at each slot that a free
 //! range ever had, `Arena::remove_owned` at each owned span below the one that it takes, and a
-//! carve, a new span or an import that turns to boundaries or makes a map larger, at each range. A
+//! carve, a new span or an import that makes a map larger, at each range. A
 //! request with a window of its own, from `min` to `max`, may try many ranges that don't serve it,
 //! and one on another grid than the last may weigh many anew. An index takes some 100 bytes for
-//! each range, free or allocated, boundaries some 60 to 250, and the lists 32 to 64, beside 1,024
+//! each range, free or allocated, cells some 60 to 120, and the lists 32 to 64, beside 1,024
 //! of each arena: a carve and a new span make room for what they add, and for each allocated range
 //! to become free, before they change anything. So `Arena::free` and `Arena::remove_owned` take no
 //! memory.
@@ -46,7 +44,8 @@
 #![tactic(auto)]
 
 mod arenas;
-mod boundaries;
+mod cell_notes;
+mod cells;
 mod cuts;
 mod earliest;
 mod entries;
@@ -61,13 +60,16 @@ mod places;
 mod policies;
 mod probes;
 mod reaches;
+mod reserves;
+mod returns;
 mod searches;
+mod slot_searches;
 mod slots;
 mod span_entries;
 mod span_searches;
 mod spans;
 mod tags;
-mod unit_slots;
+mod traces;
 mod whole_spans;
 
 pub use arenas::{Arena, ArenaReport};

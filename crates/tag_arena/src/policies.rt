@@ -1,6 +1,6 @@
-//! How an arena chooses, and by which orders, boundaries and lists.
+//! How an arena chooses, and by which orders and lists.
 ghost use Rattle.std.specs.Prelude.{◌≡◌};
-ghost use Rattle.tag_arena.specs.FreeRanges.{keeps_lists, keeps_sizes};
+ghost use Rattle.tag_arena.specs.FreeRanges.{keeps_bases, keeps_lists, keeps_sizes};
 
 /// How an arena chooses among its free ranges. That each arena has one, fixed when it is made, is
 /// our own choice.
@@ -14,8 +14,17 @@ pub enum Policy {
     Next,
 }
 
-/// Whether the policy asks for the order of sizes. For such a one boundaries may stand in for the
-/// order of bases.
+/// Whether the policy asks for the order of bases.
+pub(crate) fn has_bases(policy: Policy) -> bool
+    ensures { result ≡ keeps_bases policy }
+{
+    match policy {
+        Policy::Next => true,
+        Policy::Best | Policy::Instant => false,
+    }
+}
+
+/// Whether the policy asks for the order of sizes.
 pub(crate) fn has_sizes(policy: Policy) -> bool
     ensures { result ≡ keeps_sizes policy }
 {

@@ -1,8 +1,10 @@
 //! What a policy chooses among the free ranges.
 ghost use Rattle.std.specs.Prelude.{◌≡◌, ℕ, ◌<◌, ◌≤◌, ◌^◌, AllPairs, IfSome, MatchOption};
 ghost use Rattle.std.specs.Int.{IsPowerOfTwo};
+ghost use Rattle.std.specs.Option.{option_map};
 ghost use Rattle.deed_core.specs.Holding.{Apart};
 ghost use Rattle.deed_core.specs.Request.{IsGood, rounding_of};
+ghost use Rattle.tag_arena.specs.Boundaries.{BeginsAt};
 ghost use Rattle.tag_arena.specs.Choice.{IsBestChoice, IsInstant, NoListServes};
 ghost use Rattle.tag_arena.specs.FreeTags.{AreTags, IsTimed, ranges_by_age};
 ghost use Rattle.tag_arena.specs.Orders.{Mirrors};
@@ -23,6 +25,7 @@ use deed_core::{Deed, Request};
 pub struct Fit {
     pub range: HeldRange,
     pub base: u64,
+    pub slot: usize,
 }
 
 /// The best range that serves the request, and its least address that does.
@@ -77,7 +80,11 @@ fn best_by_length<D: Deed>(
     while let Some(entry) = sizes.first_from(major, minor) {
         let range = slots.range_at(entry.slot, entry.minor, entry.major);
         if let Some(base) = probes.least_in(request, quantum, range, 0) {
-            return Some(Fit { range, base });
+            return Some(Fit {
+                range,
+                base,
+                slot: entry.slot,
+            });
         }
         major = range.len();
         minor = range.base() + 1;
@@ -112,7 +119,11 @@ fn best_by_reach<D: Deed>(
     while let Some(entry) = sizes.first_weighing(Measure::Reach(grid), major, minor, units) {
         let range = slots.range_at(entry.slot, entry.minor, entry.major);
         if let Some(base) = probes.least_in(request, quantum, range, 0) {
-            return Some(Fit { range, base });
+            return Some(Fit {
+                range,
+                base,
+                slot: entry.slot,
+            });
         }
         major = range.len();
         minor = range.base() + 1;
@@ -134,6 +145,19 @@ pub fn range_with<D: Deed>(slots: &Slots<D>, rising: &OrderedIndex, unit: u64) -
     Some(slots.range_at(entry.slot, entry.major, entry.minor))
 }
 
+/// The free range that begins at a base.
+pub fn range_from<D: Deed>(slots: &Slots<D>, rising: &OrderedIndex, base: u64) -> Option<HeldRange>
+    requires tags { (clock : ℕ) × AreTags clock slots.now.tags }
+    requires mirrors { Mirrors Rising rising.now.items slots.now.tags }
+    ensures { BeginsAt base (ranges_by_age slots.now.tags) result }
+{
+    let entry = rising.first_from(base, 0)?;
+    if entry.major != base {
+        return None;
+    }
+    Some(slots.range_at(entry.slot, entry.major, entry.minor))
+}
+
 /// The number of the least power-of-two list whose every member has room for `units`.
 fn least_list(units: u64) -> u32
     requires { 0 < units }
@@ -146,23 +170,32 @@ fn least_list(units: u64) -> u32
     (units - 1).ilog2() + 1
 }
 
+/// A free range and its slot.
+#[derive(Clone, Copy, Debug)]
+pub struct Listed {
+    pub range: HeldRange,
+    pub slot: usize,
+}
+
 /// The newest range on the least power-of-two list whose every member has room for `units`.
 pub fn newest<D: Deed>(
     slots: &Slots<D>,
     lists: &NewestLists,
     quantum: u64,
     units: u64,
-) -> Option<HeldRange>
+) -> Option<Listed>
     requires quantum { IsPowerOfTwo quantum }
     requires units { quantum ≤ units }
     requires timed { IsTimed slots.now.tags }
     requires tags { (clock : ℕ) × AreTags clock slots.now.tags }
     requires linked { IsLinked lists.now slots.now.tags }
     ensures { let free = ranges_by_age slots.now.tags in
-        MatchOption result (NoListServes quantum units free) (IsInstant quantum units free) }
+        MatchOption (option_map (λ f. f.range) result)
+        (NoListServes quantum units free) (IsInstant quantum units free) }
 {
     let Some(slot) = lists.newest_from(least_list(units)) else {
         return None;
     };
-    Some(slots.tag(slot).range())
+    let range = slots.tag(slot).range();
+    Some(Listed { range, slot })
 }

@@ -1,7 +1,8 @@
 //! Deeds of free ranges in numbered slots.
 ghost use Rattle.std.specs.Prelude.{◌≡◌, ◌+◌, ◌<◌, ◌≤◌, [], None, Some, OnOk, OnErr, IsTrue, ◌↔◌};
-ghost use Rattle.std.specs.Prelude.{All, length, max, IfOk, sum_by};
+ghost use Rattle.std.specs.Prelude.{All, length, max, IfOk, IfSome, sum_by};
 ghost use Rattle.deed_core.specs.Extent.{IsRange, end_of};
+ghost use Rattle.tag_arena.specs.Boundaries.{StandsAt, begin_of, tag_end};
 ghost use Rattle.tag_arena.specs.Cuts.{IsCut};
 ghost use Rattle.tag_arena.specs.FreeTags.{FreeTag, tag_at, SlotBecomes};
 ghost use Rattle.tag_arena.specs.Slotted.{taken_count, slot_units};
@@ -13,11 +14,12 @@ use std::alloc::{AllocError, Global};
 use std::marker::Model;
 
 /// A deed with the time at which its range became free, and the number of the range's
-/// power-of-two list.
+/// power-of-two list. Its cell, if it has one, is for speed alone.
 pub struct TimedDeed<D: Deed> {
     deed: Stored<D>,
     since: u64,
     power: u32,
+    cell: Option<usize>,
 }
 
 impl<D: Deed> Model for TimedDeed<D> {
@@ -32,7 +34,12 @@ impl<D: Deed> TimedDeed<D> {
     pub fn new(deed: Stored<D>, since: u64, power: u32) -> TimedDeed<D>
         ensures { result ≡ record { range = deed; since = since; power = power } }
     {
-        TimedDeed { deed, since, power }
+        TimedDeed {
+            deed,
+            since,
+            power,
+            cell: None,
+        }
     }
 
     /// The deed itself.
@@ -43,6 +50,7 @@ impl<D: Deed> TimedDeed<D> {
             deed,
             since: _,
             power: _,
+            cell: _,
         } = self;
         deed
     }
@@ -263,6 +271,101 @@ impl<D: Deed> Slots<D> {
         match &self.slots[slot] {
             Some(deed) => Some(deed.tag()),
             None => None,
+        }
+    }
+
+    /// The range in a slot, if one lies there and ends at `end`.
+    pub fn ending_in(&self, slot: usize, end: u64) -> Option<HeldRange>
+        ensures { IfSome result (λ r. StandsAt tag_end end self.now.tags (Some r)) }
+    {
+        if slot >= self.slots.len() {
+            return None;
+        }
+        let range = self.peek(slot)?.range();
+        if range.end() != end {
+            return None;
+        }
+        Some(range)
+    }
+
+    /// The range that ends at `end`, by a look at each.
+    pub fn ending_at(&self, end: u64) -> Option<HeldRange>
+        ensures { StandsAt tag_end end self.now.tags result }
+    {
+        for slot in 0..self.slots.len() {
+            if let Some(tag) = self.peek(slot) {
+                let range = tag.range();
+                if range.end() == end {
+                    return Some(range);
+                }
+            }
+        }
+        None
+    }
+
+    /// The range in a slot, if one lies there and begins at `base`.
+    pub fn beginning_in(&self, slot: usize, base: u64) -> Option<HeldRange>
+        ensures { IfSome result (λ r. StandsAt begin_of base self.now.tags (Some r)) }
+    {
+        if slot >= self.slots.len() {
+            return None;
+        }
+        let range = self.peek(slot)?.range();
+        if range.base() != base {
+            return None;
+        }
+        Some(range)
+    }
+
+    /// The range that begins at `base`, by a look at each.
+    pub fn beginning_at(&self, base: u64) -> Option<HeldRange>
+        ensures { StandsAt begin_of base self.now.tags result }
+    {
+        for slot in 0..self.slots.len() {
+            if let Some(tag) = self.peek(slot) {
+                let range = tag.range();
+                if range.base() == base {
+                    return Some(range);
+                }
+            }
+        }
+        None
+    }
+
+    /// Whether a range lies in a slot.
+    pub fn is_in(&self, slot: usize, range: HeldRange) -> bool
+        ensures { IsTrue result → (t : FreeTag) × (tag_at self.now.tags slot ≡ Some t)
+            × (t.range ≡ range) }
+    {
+        if slot >= self.slots.len() {
+            return false;
+        }
+        match self.peek(slot) {
+            Some(tag) => tag.range() == range,
+            None => false,
+        }
+    }
+
+    /// The cell of the range in a slot, if there is one. It is for speed alone.
+    pub fn cell(&self, slot: usize) -> Option<usize> {
+        if slot >= self.slots.len() {
+            return None;
+        }
+        match &self.slots[slot] {
+            Some(timed) => timed.cell,
+            None => None,
+        }
+    }
+
+    /// Tells the cell of the range in a slot. It is for speed alone.
+    pub fn set_cell(&mut self, slot: usize, cell: Option<usize>)
+        ensures unchanged { self.new ≡ self.old }
+    {
+        if slot >= self.slots.len() {
+            return;
+        }
+        if let Some(timed) = &mut self.slots[slot] {
+            timed.cell = cell;
         }
     }
 

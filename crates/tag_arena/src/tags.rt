@@ -1,23 +1,60 @@
 //! The allocated ranges, by their bases.
-ghost use Rattle.std.specs.Prelude.{◌≡◌, ◌+◌, ◌^◌, ◌<◌, OnOk, OnErr, Some, None};
+ghost use Rattle.std.specs.Prelude.{◌≡◌, ◌+◌, ◌^◌, ◌<◌, OnOk, OnErr, ℕ, Some, None};
 ghost use Rattle.std.specs.FinMap as finmap;
+ghost use Rattle.deed_core.specs.Holding.{Holding};
+ghost use Rattle.deed_core.specs.Extent.{end_of};
 
+use crate::cells::{Beside, Cells, Side};
 use crate::held_ranges::HeldRange;
 use std::alloc::{AllocError, Global};
 use std::collections::HashMap;
 use std::marker::Model;
 
-/// Each allocated range at its base, how many they are, and the base last gone to with what stands
-/// there.
+/// An allocated range, and its cell, if it has one. A contract sees the range alone.
+#[derive(Debug, Drop)]
+pub struct CellRange {
+    range: HeldRange,
+    cell: Option<usize>,
+}
+
+impl Model for CellRange {
+    ghost use Rattle.deed_core.specs.Holding.{Holding};
+
+    ghost Value = { Holding };
+
+    ghost view = { λ c. c.range };
+}
+
+/// Where a range is allocated: the cell of the free range that it is carved from, if it has one,
+/// and which rests of it stay free.
+#[derive(Clone, Copy, Debug)]
+pub struct Origin {
+    pub cell: Option<usize>,
+    pub low: bool,
+    pub high: bool,
+}
+
+/// The base last gone to, with what stands there.
+#[derive(Clone, Copy, Debug)]
+pub struct Near {
+    base: u64,
+    range: HeldRange,
+    cell: Option<usize>,
+}
+
+/// Each allocated range at its base, how many they are, the base last gone to, and what is known
+/// of which ranges stand beside others.
 #[derive(Drop)]
 pub struct Tags {
-    ranges: HashMap<u64, HeldRange>,
+    ranges: HashMap<u64, CellRange>,
     count: usize,
-    near: Option<(u64, HeldRange)>,
+    near: Option<Near>,
+    cells: Cells,
 }
 
 impl Model for Tags {
     ghost use Rattle.std.specs.Prelude.{◌≡◌, IfSome, Some};
+    ghost use Rattle.tag_arena.specs.Cells.{AreAllocated};
     ghost use Rattle.std.specs.Ordering.{nat_cmp};
     ghost use Rattle.std.specs.Coded.{codes, coded_ℕ};
     ghost use Rattle.std.specs.FinMap as finmap;
@@ -31,17 +68,20 @@ impl Model for Tags {
 
     ghost invariant = { λ a. let tags = finmap.from_entries {R = nat_cmp} a.ranges.entries in
         (a.count ≡ finmap.len tags)
-        × IfSome a.near (λ near. finmap.get tags near.0 ≡ Some near.1) };
+        × IfSome a.near (λ near. finmap.get tags near.base ≡ Some near.range)
+        × AreAllocated tags a.cells };
 }
 
 impl Tags {
-    pub fn new(alloc: Global) -> Tags
+    /// No range, with cells or without.
+    pub fn new(alloc: Global, has_cells: bool) -> Tags
         ensures { result ≡ finmap.empty }
     {
         Tags {
             ranges: HashMap::new(alloc),
             count: 0,
             near: None,
+            cells: Cells::new(alloc, has_cells),
         }
     }
 
@@ -57,7 +97,11 @@ impl Tags {
         ensures unchanged { self.new ≡ self.old }
     {
         self.near = match self.ranges.get(&base) {
-            Some(range) => Some((base, *range)),
+            Some(found) => Some(Near {
+                base,
+                range: found.range,
+                cell: found.cell,
+            }),
             None => None,
         };
     }
@@ -65,24 +109,97 @@ impl Tags {
     pub fn get(&self, base: u64) -> Option<HeldRange>
         ensures { result ≡ finmap.get self.now base }
     {
-        if let Some((at, range)) = self.near {
-            if at == base {
-                return Some(range);
+        if let Some(near) = self.near {
+            if near.base == base {
+                return Some(near.range);
             }
         }
-        self.ranges.get(&base).copied()
+        match self.ranges.get(&base) {
+            Some(found) => Some(found.range),
+            None => None,
+        }
     }
 
-    /// Puts in a range at whose base none stands.
-    pub fn insert(&mut self, range: HeldRange) -> Result<(), AllocError>
+    /// The cell of the range at a base, if there is one. It is for speed alone.
+    pub fn cell(&self, base: u64) -> Option<usize> {
+        if let Some(near) = self.near {
+            if near.base == base {
+                return near.cell;
+            }
+        }
+        match self.ranges.get(&base) {
+            Some(found) => found.cell,
+            None => None,
+        }
+    }
+
+    /// What stands beside a range, which may be in this cell.
+    pub fn beside(&self, cell: Option<usize>, base: u64, end: u64) -> Beside
+        ensures left { result.left ≡ Side.Allocated → (b : ℕ) × (h : Holding)
+            × (finmap.get self.now b ≡ Some h) × (end_of h.range ≡ base) }
+        ensures right { result.right ≡ Side.Allocated → (h : Holding)
+            × (finmap.get self.now end ≡ Some h) }
+    {
+        match cell {
+            Some(at) => self.cells.beside(at, base, end),
+            None => Beside {
+                left: Side::Unknown,
+                right: Side::Unknown,
+            },
+        }
+    }
+
+    /// A cell for the free range of a new span.
+    pub fn open(&mut self) -> Option<usize>
+        ensures unchanged { self.new ≡ self.old }
+    {
+        self.cells.open()
+    }
+
+    /// Tells the slot of the free range in a cell. It is for speed alone.
+    pub fn set_free(&mut self, cell: Option<usize>, slot: usize)
+        ensures unchanged { self.new ≡ self.old }
+    {
+        if let Some(at) = cell {
+            self.cells.set_free(at, slot);
+        }
+    }
+
+    /// Joins what is free in a cell with what is free beside it, and answers its cell.
+    pub fn join(&mut self, cell: Option<usize>, left: bool, right: bool) -> Option<usize>
+        ensures unchanged { self.new ≡ self.old }
+    {
+        let at = cell?;
+        Some(self.cells.join(at, left, right))
+    }
+
+    /// What was free in a cell is gone.
+    pub fn vacate(&mut self, cell: Option<usize>)
+        ensures unchanged { self.new ≡ self.old }
+    {
+        if let Some(at) = cell {
+            self.cells.unlink(at);
+        }
+    }
+
+    /// Puts in a range at whose base none stands, and answers the cell of the rest behind it.
+    pub fn insert(&mut self, range: HeldRange, origin: Origin) -> Result<Option<usize>, AllocError>
         requires absent { finmap.get self.old range.range.base ≡ None }
         requires room { finmap.len self.old + 1 < 2 ^ 64 }
         ensures ok { OnOk result (self.new ≡ finmap.insert self.old range.range.base range) }
         ensures unchanged { OnErr result (self.new ≡ self.old) }
     {
-        self.ranges.insert(range.base(), range)?;
+        self.cells.reserve()?;
+        let cell = match origin.cell {
+            Some(_) if origin.low => Some(self.cells.next_new()),
+            other => other,
+        };
+        self.ranges.insert(range.base(), CellRange { range, cell })?;
         self.count += 1;
-        Ok(())
+        match origin.cell {
+            Some(at) => Ok(self.cells.carve(at, range.range(), origin.low, origin.high)),
+            None => Ok(None),
+        }
     }
 
     /// Takes out a range that stands.
@@ -91,7 +208,15 @@ impl Tags {
         ensures { self.new ≡ finmap.remove self.old range.range.base }
     {
         self.near = None;
-        self.ranges.remove(&range.base());
+        let base = range.base();
+        let cell = match self.ranges.remove(&base) {
+            Some(found) => found.cell,
+            None => None,
+        };
         self.count -= 1;
+        match cell {
+            Some(at) => self.cells.free(at, base),
+            None => self.cells.forget(),
+        }
     }
 }

@@ -27,4 +27,4 @@ returns g c =
     let first = subst (IsNewestFrom c.least_list.result tags) c.in-Some.is (c.newest_from.ensures tags c.requires.linked powers) in
     let newest = is_newest c.args.quantum c.args.units c.least_list.result c.requires.tags.0 tags c.requires.quantum c.requires.tags.1 c.least_list.ensures.least c.least_list.ensures.large c.requires.units c.requires.timed c.in-Some.slot first in
     let same = Some-injective (sym first.1 ∙ sym c.tag.ensures) in
-    subst (λ h. IsInstant c.args.quantum c.args.units (ranges_by_age tags) h) (ap (λ u. u.range) same ∙ sym c.range.ensures.value) newest
+    subst (λ h. IsInstant c.args.quantum c.args.units (ranges_by_age tags) h) (ap (λ u. u.range) same ∙ sym c.range-range.ensures.value) newest

@@ -8,6 +8,7 @@ use Rattle.tag_arena.specs.Calls.{IsClear}
 use Rattle.tag_arena.proofs.Adding.{pushed, same_range}
 use Rattle.tag_arena.proofs.Sounding.{the_state}
 use Rattle.tag_arena.proofs.Using.{added_sound}
+use Rattle.tag_arena.proofs.Certifying.{backed_told}
 use Rattle.tag_arena.proofs.Backing.{backed_insert}
 use Rattle.tag_arena.specs.Spanned.{holdings_of}
 use Rattle.tag_arena.proofs.Granted.{clear_inside, ends_alone, held_more}
@@ -29,10 +30,11 @@ invariant_of-self-2 g c =
     let h : Holding = c.new-stored.result in
     let range : c.range-range.result ≡ h.range = same_range _ h _ c.range-range.ensures.value c.new-stored.ensures in
     let owned : holdings_of c.put.new.self.items ≡ a.owned ++ h ∷ [] = held_more _ _ _ _ h c.put.ensures c.reserve.ensures.items (ap (λ (t : Tag). t.holding) c.new.ensures ∙ c.held_range_of.ensures.value) in
-    let free : c.insert.new.self.ranges ≡ a.free ++ h ∷ [] = pushed _ _ _ _ _ c.insert.ensures.ranges (ap (λ v. v.ranges) c.reserve_free.ensures.rest) refl in
+    let tags : c.tell.new.tags ≡ c.self.inside.tags = c.tell.ensures.tags ∙ c.open-cell.ensures.unchanged in
+    let free : c.tell.new.free.ranges ≡ a.free ++ h ∷ [] = ap (λ v. v.ranges) c.tell.ensures.free ∙ pushed _ _ _ _ _ c.insert.ensures.ranges (ap (λ v. v.ranges) c.reserve_free.ensures.rest) refl in
     let clear = subst (λ (s : ArenaState). IsClear s c.range-range.result × OnQuantum s.quantum c.range-range.result) (sym c.self.view_is) (c.if-has_overlap.ensures.clear, c.if-not-is_aligned.ensures.0 refl) in (
-      rw (owned, free) (added_sound a c.self.invariant.0 h c.held_range_of.ensures.range (subst (λ (e : Extent). OnQuantum c.self.inside.quantum e) range clear.1) (subst (λ (e : Extent). IsClear a e) range clear.0)),
-      backed_insert c.self.inside.policy c.self.inside.free c.reserve_free.new.free c.reserve_free.ensures.rest c.insert.new.self h _ c.in-Ok-reserve_free.ensures.room c.in-Ok-reserve_free.ensures.ticks c.insert.ensures.ranges c.insert.ensures.policy c.insert.ensures.room c.insert.ensures.ticks c.self.invariant.1,
+      rw (owned, free, tags) (added_sound a c.self.invariant.0 h c.held_range_of.ensures.range (subst (λ (e : Extent). OnQuantum c.self.inside.quantum e) range clear.1) (subst (λ (e : Extent). IsClear a e) range clear.0)),
+      backed_told c.self.inside.policy _ _ _ _ c.tell.ensures.free tags (backed_insert c.self.inside.policy c.self.inside.free c.reserve_free.new.free c.reserve_free.ensures.rest c.insert.new.self h _ c.in-Ok-reserve_free.ensures.room c.in-Ok-reserve_free.ensures.ticks c.insert.ensures.ranges c.insert.ensures.policy c.insert.ensures.room c.insert.ensures.ticks c.self.invariant.1),
     )
 
 pub returns-clause-sound : goal.returns-clause-sound
@@ -41,9 +43,10 @@ returns-clause-sound g c =
     let h : Holding = c.new-stored.result in
     let range : c.range-range.result ≡ h.range = same_range _ h _ c.range-range.ensures.value c.new-stored.ensures in
     let owned : holdings_of c.put.new.self.items ≡ a.owned ++ h ∷ [] = held_more _ _ _ _ h c.put.ensures c.reserve.ensures.items (ap (λ (t : Tag). t.holding) c.new.ensures ∙ c.held_range_of.ensures.value) in
-    let free : c.insert.new.self.ranges ≡ a.free ++ h ∷ [] = pushed _ _ _ _ _ c.insert.ensures.ranges (ap (λ v. v.ranges) c.reserve_free.ensures.rest) refl in
+    let tags : c.tell.new.tags ≡ c.self.inside.tags = c.tell.ensures.tags ∙ c.open-cell.ensures.unchanged in
+    let free : c.tell.new.free.ranges ≡ a.free ++ h ∷ [] = ap (λ v. v.ranges) c.tell.ensures.free ∙ pushed _ _ _ _ _ c.insert.ensures.ranges (ap (λ v. v.ranges) c.reserve_free.ensures.rest) refl in
     let clear = subst (λ (s : ArenaState). IsClear s c.range-range.result × OnQuantum s.quantum c.range-range.result) (sym c.self.view_is) (c.if-has_overlap.ensures.clear, c.if-not-is_aligned.ensures.0 refl) in
-    rw (owned, free) (added_sound a c.self.invariant.0 h c.held_range_of.ensures.range (subst (λ (e : Extent). OnQuantum c.self.inside.quantum e) range clear.1) (subst (λ (e : Extent). IsClear a e) range clear.0))
+    rw (owned, free, tags) (added_sound a c.self.invariant.0 h c.held_range_of.ensures.range (subst (λ (e : Extent). OnQuantum c.self.inside.quantum e) range clear.1) (subst (λ (e : Extent). IsClear a e) range clear.0))
 
 pub put-requires-clause-absent : goal.put-requires-clause-absent
 put-requires-clause-absent g c =

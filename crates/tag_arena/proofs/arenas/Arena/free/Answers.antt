@@ -11,12 +11,13 @@ use Rattle.deed_core.specs.Weights.{Loses}
 use Rattle.tag_arena.specs.Layout.{IsPartOf}
 use Rattle.tag_arena.specs.ArenaState.{ArenaState, spans_of, ranges_of, direct_tag}
 use Rattle.tag_arena.specs.Calls.{after_free, IsTagged}
-use Rattle.tag_arena.specs.Neighbors.{Merges}
+use Rattle.tag_arena.specs.Neighbors.{IsKnownBeside, Merges}
 use Rattle.tag_arena.proofs.Allocations.{len_less, loses_remove}
 use Rattle.tag_arena.proofs.Returning.{tagged_is, spans_said, is_some, same_tag, lies_in, has_span, positive, span_holds, free_beside, freed_is, freed_is_sound, freed_covers, merge_covers, frees, returned_is, returned_is_sound, frees_back}
 use Rattle.tag_arena.proofs.Carrying.{tags_lose, free_spans}
 use Rattle.tag_arena.proofs.Sounding.{the_state}
 use Rattle.tag_arena.specs.Spanned.{holdings_of}
+use Rattle.tag_arena.proofs.Certifying.{backed_told, known_beside}
 use Rattle.tag_arena.proofs.Backing.{backed_free}
 use Rattle.tag_arena.proofs.Granted.{disjoint_imported, disjoint_owned, free_clear, lent_there, none_lent, not_lent}
 use Rattle.tag_arena.proofs.Rejoining.{comes_fewer, merged_has}
@@ -31,8 +32,8 @@ unwrap-span-requires g c =
     let has = has_span a c.self.invariant.0.divided p at c.span_at.result spans in
     is_some c.span_at.result has.0 has.1
 
-pub give_back-requires-clause-inside : goal.give_back-requires-clause-inside
-give_back-requires-clause-inside g c =
+pub give_back-back-requires-clause-inside : goal.give_back-back-requires-clause-inside
+give_back-back-requires-clause-inside g c =
     let a = the_state c.self.invariant.0 in
     let p : Holding = c.new-tagged.result in
     let seg_is : c.new-tagged.result ≡ c.args.segment.holding = tagged_is _ _ _ _ c.new-tagged.ensures c.root.ensures c.range.ensures.value in
@@ -43,8 +44,8 @@ give_back-requires-clause-inside g c =
     let new_is : c.new-deed.result ≡ p = c.new-deed.ensures ∙ c.into_deed.ensures ∙ sym seg_is in
     subst (λ (h : Holding). IsPartOf s h) (sym new_is) (span_holds a p s lies)
 
-pub give_back-requires-clause-some : goal.give_back-requires-clause-some
-give_back-requires-clause-some g c =
+pub give_back-back-requires-clause-some : goal.give_back-back-requires-clause-some
+give_back-back-requires-clause-some g c =
     let a = the_state c.self.invariant.0 in
     let p : Holding = c.new-tagged.result in
     let seg_is : c.new-tagged.result ≡ c.args.segment.holding = tagged_is _ _ _ _ c.new-tagged.ensures c.root.ensures c.range.ensures.value in
@@ -55,8 +56,8 @@ give_back-requires-clause-some g c =
     let new_is : c.new-deed.result ≡ p = c.new-deed.ensures ∙ c.into_deed.ensures ∙ sym seg_is in
     subst (λ (h : Holding). 0 < h.range.len) (sym new_is) (positive a lies.sound p lies.at)
 
-pub give_back-requires-clause-beside : goal.give_back-requires-clause-beside
-give_back-requires-clause-beside g c =
+pub give_back-back-requires-clause-beside : goal.give_back-back-requires-clause-beside
+give_back-back-requires-clause-beside g c =
     let a = the_state c.self.invariant.0 in
     let p : Holding = c.new-tagged.result in
     let seg_is : c.new-tagged.result ≡ c.args.segment.holding = tagged_is _ _ _ _ c.new-tagged.ensures c.root.ensures c.range.ensures.value in
@@ -67,8 +68,8 @@ give_back-requires-clause-beside g c =
     let new_is : c.new-deed.result ≡ p = c.new-deed.ensures ∙ c.into_deed.ensures ∙ sym seg_is in
     free_beside a p s lies
 
-pub give_back-requires-clause-clear : goal.give_back-requires-clause-clear
-give_back-requires-clause-clear g c =
+pub give_back-back-requires-clause-clear : goal.give_back-back-requires-clause-clear
+give_back-back-requires-clause-clear g c =
     let a = the_state c.self.invariant.0 in
     let p : Holding = c.new-tagged.result in
     let seg_is : c.new-tagged.result ≡ c.args.segment.holding = tagged_is _ _ _ _ c.new-tagged.ensures c.root.ensures c.range.ensures.value in
@@ -79,8 +80,20 @@ give_back-requires-clause-clear g c =
     let new_is : c.new-deed.result ≡ p = c.new-deed.ensures ∙ c.into_deed.ensures ∙ sym seg_is in
     subst (λ (h : Holding). All (Apart h) a.free) (sym new_is) (free_clear a p s lies)
 
-pub give_back-requires-clause-room : goal.give_back-requires-clause-room
-give_back-requires-clause-room g c =
+pub give_back-back-requires-clause-known : goal.give_back-back-requires-clause-known
+give_back-back-requires-clause-known g c =
+    let a = the_state c.self.invariant.0 in
+    let p : Holding = c.new-tagged.result in
+    let seg_is : c.new-tagged.result ≡ c.args.segment.holding = tagged_is _ _ _ _ c.new-tagged.ensures c.root.ensures c.range.ensures.value in
+    let at : finmap.get c.self.inside.tags p.range.base ≡ Some p = search rules in
+    let spans = spans_said a c.span_at.result _ _ _ p.range.base refl refl c.base-2.ensures.value c.span_at.ensures in
+    let s : Holding = c.unwrap-span.result in
+    let lies = lies_in a p s c.span_at.result c.self.invariant.0.divided at spans c.unwrap-span.ensures in
+    let new_is : c.new-deed.result ≡ p = c.new-deed.ensures ∙ c.into_deed.ensures ∙ sym seg_is in
+    subst (λ (h : Holding). IsKnownBeside c.beside-beside.result h.range a.free) (sym new_is) (known_beside a lies.sound _ _ _ _ c.base-4.ensures.value c.end.ensures.value c.beside-beside.ensures.left c.beside-beside.ensures.right)
+
+pub give_back-back-requires-clause-room : goal.give_back-back-requires-clause-room
+give_back-back-requires-clause-room g c =
     let a = the_state c.self.invariant.0 in
     let p : Holding = c.new-tagged.result in
     let seg_is : c.new-tagged.result ≡ c.args.segment.holding = tagged_is _ _ _ _ c.new-tagged.ensures c.root.ensures c.range.ensures.value in
@@ -93,8 +106,8 @@ give_back-requires-clause-room g c =
     let room = c.self.invariant.1.room in
     omega (arith, len, room)
 
-pub give_back-requires-clause-ticks : goal.give_back-requires-clause-ticks
-give_back-requires-clause-ticks g c =
+pub give_back-back-requires-clause-ticks : goal.give_back-back-requires-clause-ticks
+give_back-back-requires-clause-ticks g c =
     let a = the_state c.self.invariant.0 in
     let p : Holding = c.new-tagged.result in
     let seg_is : c.new-tagged.result ≡ c.args.segment.holding = tagged_is _ _ _ _ c.new-tagged.ensures c.root.ensures c.range.ensures.value in
@@ -122,9 +135,10 @@ invariant_of-self g c =
     let merged : Holding = back.merged in
     let merges : Merges s p a.free merged back.mid = subst (λ (h : Holding). Merges s h a.free merged back.mid) new_is back.merges in
     let none = none_lent a p s lies merged (merged_has s p merged a.free back.mid merges) (not_lent a.imported s merged c.is_span-lent.result c.is_span-lent.ensures back.leaves.0) in
-    let after = freed_is a p s lies merged back.mid merges _ _ back.leaves.1 c.remove.ensures in (
+    let tags : c.tell.new.tags ≡ finmap.remove a.allocated p.range.base = c.tell.ensures.tags ∙ (c.join-cell.ensures.unchanged ∙ c.remove.ensures) in
+    let after = freed_is a p s lies merged back.mid merges _ _ (ap (λ v. v.ranges) c.tell.ensures.free ∙ back.leaves.1) tags in (
       freed_is_sound a p s lies merged back.mid merges c.self.invariant.0 none _ after,
-      backed_free c.self.inside.policy c.self.inside.free c.give_back.new.self _ _ (comes_fewer _ _ _ _ _ _ back) c.give_back.ensures.setup c.give_back.ensures.ticks len c.self.invariant.1,
+      backed_told c.self.inside.policy _ _ _ _ c.tell.ensures.free (c.tell.ensures.tags ∙ c.join-cell.ensures.unchanged) (backed_free c.self.inside.policy c.self.inside.free c.give_back-back.new.self _ _ (comes_fewer _ _ _ _ _ _ back) c.give_back-back.ensures.setup c.give_back-back.ensures.ticks len c.self.invariant.1),
     )
 
 pub span_at-requires-clause-owned : goal.span_at-requires-clause-owned
@@ -165,15 +179,15 @@ invariant_of-self-2 g c =
     let len : finmap.len c.remove.new.self + 1 ≡ finmap.len c.self.inside.tags = ap (λ m. finmap.len m + 1) c.remove.ensures ∙ len_less c.self.inside.tags p.range.base p at in
     let back = c.in-Some.ensures.returned in
     let merged : Holding = back.merged in
-    let left : List Holding = c.give_back.new.self.ranges in
+    let left : List Holding = c.give_back-back.new.self.ranges in
     let merges : Merges s p a.free merged left = subst (λ (xs : List Holding). Merges s p a.free merged xs) (sym back.leaves.3) (subst (λ (h : Holding). Merges s h a.free merged back.mid) new_is back.merges) in
     let o = c.take-import.ensures.items in
     let k : ℕ = o.0 in
     let found : (k < length a.imported) × HoldsAt (λ t. t.holding ≡ merged) a.imported k = (o.1, λ d. ap (λ (t : Tag). t.holding) (o.2 d) ∙ (c.take-import.ensures.span ∙ sym back.leaves.1)) in
-    let tags : c.remove.new.self ≡ finmap.remove a.allocated p.range.base = c.remove.ensures in
+    let tags : c.vacate.new.self ≡ finmap.remove a.allocated p.range.base = c.vacate.ensures.unchanged ∙ (c.join-cell.ensures.unchanged ∙ c.remove.ensures) in
     let after = returned_is a p s lies merged left merges k found.0 found.1 _ _ o.3 tags in (
       returned_is_sound a p s lies merged left merges k found.0 found.1 c.self.invariant.0 _ after,
-      backed_free c.self.inside.policy c.self.inside.free c.give_back.new.self _ _ (comes_fewer _ _ _ _ _ _ back) c.give_back.ensures.setup c.give_back.ensures.ticks len c.self.invariant.1,
+      backed_told c.self.inside.policy _ _ _ _ refl (c.vacate.ensures.unchanged ∙ c.join-cell.ensures.unchanged) (backed_free c.self.inside.policy c.self.inside.free c.give_back-back.new.self _ _ (comes_fewer _ _ _ _ _ _ back) c.give_back-back.ensures.setup c.give_back-back.ensures.ticks len c.self.invariant.1),
     )
 
 pub returns-in_default : goal.returns-in_default
@@ -190,11 +204,12 @@ returns-in_default g c =
     let merged : Holding = back.merged in
     let merges : Merges s p a.free merged back.mid = subst (λ (h : Holding). Merges s h a.free merged back.mid) new_is back.merges in
     let none = none_lent a p s lies merged (merged_has s p merged a.free back.mid merges) (not_lent a.imported s merged c.is_span-lent.result c.is_span-lent.ensures back.leaves.0) in
-    let after = freed_is a p s lies merged back.mid merges _ _ back.leaves.1 c.remove.ensures in
+    let tags : c.tell.new.tags ≡ finmap.remove a.allocated p.range.base = c.tell.ensures.tags ∙ (c.join-cell.ensures.unchanged ∙ c.remove.ensures) in
+    let after = freed_is a p s lies merged back.mid merges _ _ (ap (λ v. v.ranges) c.tell.ensures.free ∙ back.leaves.1) tags in
     let tagged : IsTagged c.args.self.now c.args.segment = search rules in
     let id : c.self.inside.id ≡ c.args.self.now.id = ap (λ (s : ArenaState). s.id) c.self.view_is in
     let segment : c.args.segment ≡ direct_tag c.args.self.now.id c.args.segment.holding = same_tag _ _ tagged.arena tagged.route refl in
-    let loses : Loses (ranges_of c.self.inside.tags) (ranges_of c.remove.new.self) p = subst (λ m. Loses (ranges_of c.self.inside.tags) (ranges_of m) p) (sym c.remove.ensures) (loses_remove c.self.inside.tags p.range.base p at) in record {
+    let loses : Loses (ranges_of c.self.inside.tags) (ranges_of c.tell.new.tags) p = subst (λ m. Loses (ranges_of c.self.inside.tags) (ranges_of m) p) (sym tags) (loses_remove c.self.inside.tags p.range.base p at) in record {
       freed = record {
         mine = tagged;
         frees = rw seg_is at (rw c.self.view_is at (frees a p s lies merged back.mid merges _ after none));
@@ -203,14 +218,14 @@ returns-in_default g c =
       sound = freed_is_sound a p s lies merged back.mid merges c.self.invariant.0 none _ after;
       kept = search rules;
       owned = search rules;
-      loses = tags_lose c.args.self.now (record a { free = c.give_back.new.self.ranges; allocated = c.remove.new.self }) c.args.segment.holding c.args.segment id (subst (λ (h : Holding). Loses (ranges_of c.args.self.now.allocated) (ranges_of c.remove.new.self) h) seg_is (subst (λ (x : ArenaState). Loses (ranges_of x.allocated) (ranges_of c.remove.new.self) p) c.self.view_is loses)) segment;
+      loses = tags_lose c.args.self.now (record a { free = c.tell.new.free.ranges; allocated = c.tell.new.tags }) c.args.segment.holding c.args.segment id (subst (λ (h : Holding). Loses (ranges_of c.args.self.now.allocated) (ranges_of c.tell.new.tags) h) seg_is (subst (λ (x : ArenaState). Loses (ranges_of x.allocated) (ranges_of c.tell.new.tags) p) c.self.view_is loses)) segment;
       returned = (λ f.
           let now : sum_by f c.self.inside.imported.items ≡ sum_by f c.args.self.now.imported = ap (λ (s : ArenaState). sum_by f s.imported) c.self.view_is in
           omega (arith, now));
       spans = (λ u. let now = ap (λ (s : ArenaState). covering_held u (spans_of s)) c.self.view_is in omega (arith, now));
       covering = (λ u.
           let counts = freed_covers a p s lies merged back.mid merges u in
-          let same : covering_held u c.give_back.new.self.ranges ≡ covering_held u (after_free a p merged).free = ap (λ (x : ArenaState). covering_held u x.free) after in
+          let same : covering_held u c.tell.new.free.ranges ≡ covering_held u (after_free a p merged).free = ap (λ (x : ArenaState). covering_held u x.free) after in
           let old : covering_held u a.free ≡ covering_held u c.args.self.now.free = ap (λ (x : ArenaState). covering_held u x.free) c.self.view_is in
           let piece : covers u p.range ≡ covers u c.args.segment.holding.range = ap (λ (h : Holding). covers u h.range) seg_is in
           omega (arith, counts, same, old, piece));
@@ -228,12 +243,12 @@ returns g c =
     let new_is : c.new-deed.result ≡ p = c.new-deed.ensures ∙ c.into_deed.ensures ∙ sym seg_is in
     let back = c.in-Some.ensures.returned in
     let merged : Holding = back.merged in
-    let left : List Holding = c.give_back.new.self.ranges in
+    let left : List Holding = c.give_back-back.new.self.ranges in
     let merges : Merges s p a.free merged left = subst (λ (xs : List Holding). Merges s p a.free merged xs) (sym back.leaves.3) (subst (λ (h : Holding). Merges s h a.free merged back.mid) new_is back.merges) in
     let o = c.take-import.ensures.items in
     let k : ℕ = o.0 in
     let found : (k < length a.imported) × HoldsAt (λ t. t.holding ≡ merged) a.imported k = (o.1, λ d. ap (λ (t : Tag). t.holding) (o.2 d) ∙ (c.take-import.ensures.span ∙ sym back.leaves.1)) in
-    let tags : c.remove.new.self ≡ finmap.remove a.allocated p.range.base = c.remove.ensures in
+    let tags : c.vacate.new.self ≡ finmap.remove a.allocated p.range.base = c.vacate.ensures.unchanged ∙ (c.join-cell.ensures.unchanged ∙ c.remove.ensures) in
     let after = returned_is a p s lies merged left merges k found.0 found.1 _ _ o.3 tags in
     let back_is = back.leaves.2 in
     let import : Tag = c.take-import.result in
@@ -252,7 +267,7 @@ returns g c =
     let here : f (get_or a.imported k import) ≡ f c.new.result = ap f (o.2 import ∙ sym same_import) in
     let now : sum_by f a.imported ≡ sum_by f c.args.self.now.imported = ap (λ (s : ArenaState). sum_by f s.imported) c.self.view_is in
     omega (arith, less, out, here, now, sum_by-cons f c.new.result [])) in
-    let loses : Loses (ranges_of c.self.inside.tags) (ranges_of c.remove.new.self) p = subst (λ m. Loses (ranges_of c.self.inside.tags) (ranges_of m) p) (sym c.remove.ensures) (loses_remove c.self.inside.tags p.range.base p at) in record {
+    let loses : Loses (ranges_of c.self.inside.tags) (ranges_of c.vacate.new.self) p = subst (λ m. Loses (ranges_of c.self.inside.tags) (ranges_of m) p) (sym tags) (loses_remove c.self.inside.tags p.range.base p at) in record {
       freed = record {
         mine = tagged;
         frees = rw seg_is at (rw c.self.view_is at (frees_back a p s lies merged left merges k found.0 found.1 _ c.new.result after (same_import ∙ sym (o.2 import) ∙ get_or_default a.imported k import c.new.result found.0)));
@@ -264,9 +279,9 @@ returns g c =
       sound = returned_is_sound a p s lies merged left merges k found.0 found.1 c.self.invariant.0 _ after;
       kept = search rules;
       owned = search rules;
-      loses = tags_lose c.args.self.now (record a { imported = c.take-import.new.self.items; free = left; allocated = c.remove.new.self }) c.args.segment.holding c.args.segment id (subst (λ (h : Holding). Loses (ranges_of c.args.self.now.allocated) (ranges_of c.remove.new.self) h) seg_is (subst (λ (x : ArenaState). Loses (ranges_of x.allocated) (ranges_of c.remove.new.self) p) c.self.view_is loses)) segment;
+      loses = tags_lose c.args.self.now (record a { imported = c.take-import.new.self.items; free = left; allocated = c.vacate.new.self }) c.args.segment.holding c.args.segment id (subst (λ (h : Holding). Loses (ranges_of c.args.self.now.allocated) (ranges_of c.vacate.new.self) h) seg_is (subst (λ (x : ArenaState). Loses (ranges_of x.allocated) (ranges_of c.vacate.new.self) p) c.self.view_is loses)) segment;
       returned = returned;
-      spans = free_spans c.args.self.now (record a { imported = c.take-import.new.self.items; free = left; allocated = c.remove.new.self }) owned (Some c.new.result) returned;
+      spans = free_spans c.args.self.now (record a { imported = c.take-import.new.self.items; free = left; allocated = c.vacate.new.self }) owned (Some c.new.result) returned;
       covering = (λ u.
           let counts = merge_covers a p s lies merged left merges u in
           let old : covering_held u a.free ≡ covering_held u c.args.self.now.free = ap (λ (x : ArenaState). covering_held u x.free) c.self.view_is in

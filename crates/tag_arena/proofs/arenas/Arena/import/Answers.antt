@@ -12,6 +12,7 @@ use Rattle.tag_arena.proofs.Importing.{imports, import_absent, import_is, import
 use Rattle.tag_arena.proofs.Sounding.{the_state}
 use Rattle.tag_arena.proofs.Returning.{tagged_is, same_tag}
 use Rattle.tag_arena.specs.Spanned.{holdings_of}
+use Rattle.tag_arena.proofs.Certifying.{backed_told}
 use Rattle.tag_arena.proofs.Backing.{backed_back, backed_import}
 use Rattle.tag_arena.proofs.Granted.{clear_behind, ends_alone}
 use Rattle.tag_arena.proofs.arenas.Arena.import.Goals as goal
@@ -27,7 +28,7 @@ insert-requires-clause-absent g c =
     let base_of : c.base.result ≡ t.holding.range.base = c.base.ensures.value ∙ ap (λ (h : Holding). h.range.base) whole_is in
     let piece_is = tagged_is _ (part t.holding t.holding.range.base n) _ _ c.new-first.ensures c.root-2.ensures (c.piece_of.ensures ∙ ap (λ (b : ℕ). record { base = b; len = n }) base_of) in
     let absent = import_absent a t n k in
-    subst (λ (h : Holding). finmap.get c.self.inside.tags h.range.base ≡ None) (sym piece_is) absent
+    ap (λ m. finmap.get m c.new-first.result.range.base) c.open.ensures.unchanged ∙ subst (λ (h : Holding). finmap.get c.self.inside.tags h.range.base ≡ None) (sym piece_is) absent
 
 pub remove-requires : goal.remove-requires
 remove-requires g c = stands _ _ _ _ c.in-Ok-insert.ensures.ok
@@ -44,7 +45,7 @@ invariant_of-self-in-Err g c =
     let piece_is = tagged_is _ (part t.holding t.holding.range.base n) _ _ c.new-first.ensures c.root-2.ensures (c.piece_of.ensures ∙ ap (λ (b : ℕ). record { base = b; len = n }) base_of) in
     let absent = import_absent a t n k in
     let absent_here = subst (λ (h : Holding). finmap.get c.self.inside.tags h.range.base ≡ None) (sym piece_is) absent in
-    let tags = undone c.self.inside.tags c.insert.new.self c.remove.new.self c.new-first.result.range.base c.new-first.result absent_here c.in-Ok-insert.ensures.ok c.remove.ensures in
+    let tags = undone c.self.inside.tags c.insert.new.self c.remove.new.self c.new-first.result.range.base c.new-first.result absent_here (c.in-Ok-insert.ensures.ok ∙ ap (λ m. finmap.insert m c.new-first.result.range.base c.new-first.result) c.open.ensures.unchanged) c.remove.ensures in
     let same = ap (λ (xs : List Tag). record a { imported = xs; free = c.reserve_free.new.free.ranges; allocated = c.remove.new.self }) c.reserve.ensures.items ∙ as_it_was a _ _ (ap (λ v. v.ranges) c.reserve_free.ensures.rest) tags in
     let len = ap finmap.len tags in (
       subst IsSoundArena (sym same) c.self.invariant.0,
@@ -63,7 +64,7 @@ returns-in-Err-clause-unchanged g c =
     let piece_is = tagged_is _ (part t.holding t.holding.range.base n) _ _ c.new-first.ensures c.root-2.ensures (c.piece_of.ensures ∙ ap (λ (b : ℕ). record { base = b; len = n }) base_of) in
     let absent = import_absent a t n k in
     let absent_here = subst (λ (h : Holding). finmap.get c.self.inside.tags h.range.base ≡ None) (sym piece_is) absent in
-    let tags = undone c.self.inside.tags c.insert.new.self c.remove.new.self c.new-first.result.range.base c.new-first.result absent_here c.in-Ok-insert.ensures.ok c.remove.ensures in
+    let tags = undone c.self.inside.tags c.insert.new.self c.remove.new.self c.new-first.result.range.base c.new-first.result absent_here (c.in-Ok-insert.ensures.ok ∙ ap (λ m. finmap.insert m c.new-first.result.range.base c.new-first.result) c.open.ensures.unchanged) c.remove.ensures in
     let same = ap (λ (xs : List Tag). record a { imported = xs; free = c.reserve_free.new.free.ranges; allocated = c.remove.new.self }) c.reserve.ensures.items ∙ as_it_was a _ _ (ap (λ v. v.ranges) c.reserve_free.ensures.rest) tags in
     same ∙ c.self.view_is
 
@@ -91,12 +92,12 @@ invariant_of-self-2 g c =
     let free : c.insert_rest.new.self.ranges ≡ a.free ++ rest_between t.holding (t.holding.range.base + n) (end_of t.holding.range) = c.insert_rest.ensures.ranges ∙ ap (λ v. v.ranges ++ option_to_list c.in-Ok-cut_first.parts.1) c.reserve_free.ensures.rest ∙ ap (λ (xs : List Holding). a.free ++ xs) high_is in
     let import_new : c.new.result ≡ t = c.new.ensures ∙ same_tag _ t c.arena-source.ensures (sym c.requires.route) whole_is in
     let imported : c.put.new.self.items ≡ a.imported ++ t ∷ [] = c.put.ensures ∙ ap (λ (x : Tag). c.reserve.new.self.items ++ x ∷ []) import_new ∙ ap (λ (xs : List Tag). xs ++ t ∷ []) c.reserve.ensures.items in
-    let tags : c.insert.new.self ≡ finmap.insert a.allocated t.holding.range.base (part t.holding t.holding.range.base n) = c.in-Ok-insert.ensures.ok ∙ ap (λ (h : Holding). finmap.insert c.self.inside.tags h.range.base h) piece_is in
+    let tags : c.insert.new.self ≡ finmap.insert a.allocated t.holding.range.base (part t.holding t.holding.range.base n) = c.in-Ok-insert.ensures.ok ∙ ap (λ m. finmap.insert m c.new-first.result.range.base c.new-first.result) c.open.ensures.unchanged ∙ ap (λ (h : Holding). finmap.insert c.self.inside.tags h.range.base h) piece_is in
     let rover_is : c.end-self-inside.result ≡ t.holding.range.base + n = c.end-self-inside.ensures.value ∙ ap (λ (h : Holding). end_of h.range) piece_is in
-    let after = import_is a t n k _ _ _ _ rover_is imported free tags in
+    let after = import_is a t n k _ _ _ _ rover_is imported (ap (λ v. v.ranges) c.tell_rests.ensures.free ∙ free) (c.tell_rests.ensures.tags ∙ tags) in
     let len = ap finmap.len tags ∙ len_more a.allocated t.holding.range.base (part t.holding t.holding.range.base n) absent in (
       import_sound a t n k _ after,
-      backed_import c.self.inside.policy c.self.inside.free c.reserve_free.new.free c.reserve_free.ensures.rest c.insert_rest.new.self c.in-Ok-cut_first.parts.1 _ _ c.in-Ok-reserve_free.ensures.room c.in-Ok-reserve_free.ensures.ticks c.insert_rest.ensures.ranges c.insert_rest.ensures.policy c.insert_rest.ensures.room c.insert_rest.ensures.ticks len c.self.invariant.1,
+      backed_told c.self.inside.policy _ _ _ _ c.tell_rests.ensures.free c.tell_rests.ensures.tags (backed_import c.self.inside.policy c.self.inside.free c.reserve_free.new.free c.reserve_free.ensures.rest c.insert_rest.new.self c.in-Ok-cut_first.parts.1 _ _ c.in-Ok-reserve_free.ensures.room c.in-Ok-reserve_free.ensures.ticks c.insert_rest.ensures.ranges c.insert_rest.ensures.policy c.insert_rest.ensures.room c.insert_rest.ensures.ticks len c.self.invariant.1),
     )
 
 pub returns-clause-carved : goal.returns-clause-carved
@@ -114,9 +115,9 @@ returns-clause-carved g c =
     let free : c.insert_rest.new.self.ranges ≡ a.free ++ rest_between t.holding (t.holding.range.base + n) (end_of t.holding.range) = c.insert_rest.ensures.ranges ∙ ap (λ v. v.ranges ++ option_to_list c.in-Ok-cut_first.parts.1) c.reserve_free.ensures.rest ∙ ap (λ (xs : List Holding). a.free ++ xs) high_is in
     let import_new : c.new.result ≡ t = c.new.ensures ∙ same_tag _ t c.arena-source.ensures (sym c.requires.route) whole_is in
     let imported : c.put.new.self.items ≡ a.imported ++ t ∷ [] = c.put.ensures ∙ ap (λ (x : Tag). c.reserve.new.self.items ++ x ∷ []) import_new ∙ ap (λ (xs : List Tag). xs ++ t ∷ []) c.reserve.ensures.items in
-    let tags : c.insert.new.self ≡ finmap.insert a.allocated t.holding.range.base (part t.holding t.holding.range.base n) = c.in-Ok-insert.ensures.ok ∙ ap (λ (h : Holding). finmap.insert c.self.inside.tags h.range.base h) piece_is in
+    let tags : c.insert.new.self ≡ finmap.insert a.allocated t.holding.range.base (part t.holding t.holding.range.base n) = c.in-Ok-insert.ensures.ok ∙ ap (λ m. finmap.insert m c.new-first.result.range.base c.new-first.result) c.open.ensures.unchanged ∙ ap (λ (h : Holding). finmap.insert c.self.inside.tags h.range.base h) piece_is in
     let rover_is : c.end-self-inside.result ≡ t.holding.range.base + n = c.end-self-inside.ensures.value ∙ ap (λ (h : Holding). end_of h.range) piece_is in
-    let after = import_is a t n k _ _ _ _ rover_is imported free tags in
+    let after = import_is a t n k _ _ _ _ rover_is imported (ap (λ v. v.ranges) c.tell_rests.ensures.free ∙ free) (c.tell_rests.ensures.tags ∙ tags) in
     after ∙ ap (λ (s : ArenaState). after_carve (after_import s t) t.holding (first_units n t.holding)) c.self.view_is
 
 pub put-requires-clause-absent : goal.put-requires-clause-absent

@@ -9,4 +9,4 @@ destroy-requires g c =
     let tags = c.self.inside.slots.tags in
     let none : length c.args.self.ranges ≡ 0 = ap length c.requires in
     let same = ap (λ v. length v.ranges) c.self.view_is in
-    omega (arith, none, length-tags_by_age tags c.self.invariant.0.timed, length-map (tags_by_age tags) range_of, same)
+    omega (arith, none, length-tags_by_age tags c.self.invariant.timed, length-map (tags_by_age tags) range_of, same)

@@ -9,7 +9,7 @@ use Rattle.tag_arena.proofs.free_index.FreeIndex.instant.Goals as goal
 
 pub returns-in_default-clause-choice : goal.returns-in_default-clause-choice
 returns-in_default-clause-choice g c =
-    let all = subst (All (λ r. IsRange r.range)) (ap (λ v. v.ranges) c.self.view_is) (all_ranges c.self.inside.clock c.self.inside.slots.tags c.self.invariant.0.tags) in
+    let all = subst (All (λ r. IsRange r.range)) (ap (λ v. v.ranges) c.self.view_is) (all_ranges c.self.inside.clock c.self.inside.slots.tags c.self.invariant.tags) in
     inr (
       (λ plain r i h on serves.
           let below = (All-contains (λ x. IsRange x.range) c.args.self.now.ranges r all h).below in
@@ -19,7 +19,7 @@ returns-in_default-clause-choice g c =
     )
 
 pub newest-requires-clause-tags : goal.newest-requires-clause-tags
-newest-requires-clause-tags g c = (c.self.inside.clock, c.self.invariant.0.tags)
+newest-requires-clause-tags g c = (c.self.inside.clock, c.self.invariant.tags)
 
 pub returns-in_default-newest-clause-choice : goal.returns-in_default-newest-clause-choice
 returns-in_default-newest-clause-choice g c =
@@ -32,9 +32,9 @@ returns-in_default-newest-clause-choice g c =
 
 pub returns-clause-placed : goal.returns-clause-placed
 returns-clause-placed g c =
-    let all = subst (All (λ r. IsRange r.range)) (ap (λ v. v.ranges) c.self.view_is) (all_ranges c.self.inside.clock c.self.inside.slots.tags c.self.invariant.0.tags) in
+    let all = subst (All (λ r. IsRange r.range)) (ap (λ v. v.ranges) c.self.view_is) (all_ranges c.self.inside.clock c.self.inside.slots.tags c.self.invariant.tags) in
     let plain : IsPlain c.args.request.now = c.is_constrained.ensures.0 c.if-is_constrained.false in
-    let range = c.in-Some-newest.range in
+    let range = c.in-Some-newest.newest.range in
     let x = subst (λ l. IsInstant c.args.quantum c.in-Some.units l range) (ap (λ v. v.ranges) c.self.view_is) c.in-Some-newest.ensures in
     let among : Contains c.args.self.now.ranges range = (x.index, x.within, x.here range) in
     let serves = serves_at_base c.args.quantum c.args.request.now c.args.self.now.ranges plain all c.requires.aligned range among (omega (arith, x.large, x.on_list.0, c.in-Some.ensures.1)) in
@@ -45,7 +45,7 @@ returns-clause-placed g c =
 
 pub returns-in_default-clause-one : goal.returns-in_default-clause-one
 returns-in_default-clause-one g c = λ by zero_before.
-    let all = subst (All (λ r. IsRange r.range)) (ap (λ v. v.ranges) c.self.view_is) (all_ranges c.self.inside.clock c.self.inside.slots.tags c.self.invariant.0.tags) in
+    let all = subst (All (λ r. IsRange r.range)) (ap (λ v. v.ranges) c.self.view_is) (all_ranges c.self.inside.clock c.self.inside.slots.tags c.self.invariant.tags) in
     let range = by.1.0 in
     let x = by.1.1 in
     let among : Contains c.args.self.now.ranges range = (x.index, x.within, x.here range) in

@@ -10,7 +10,7 @@ pub returns-clause-len : goal.returns-clause-len
 returns-clause-len g c =
     let tags = c.self.inside.slots.tags in
     let same = ap (λ v. length v.ranges) c.self.view_is in
-    omega (arith, c.taken.ensures, length-tags_by_age tags c.self.invariant.0.timed, length-map (tags_by_age tags) range_of, same)
+    omega (arith, c.taken.ensures, length-tags_by_age tags c.self.invariant.timed, length-map (tags_by_age tags) range_of, same)
 
 pub returns-clause-ranges : goal.returns-clause-ranges
-returns-clause-ranges g c = subst (All (λ r. IsRange r.range)) (ap (λ v. v.ranges) c.self.view_is) (all_ranges c.self.inside.clock c.self.inside.slots.tags c.self.invariant.0.tags)
+returns-clause-ranges g c = subst (All (λ r. IsRange r.range)) (ap (λ v. v.ranges) c.self.view_is) (all_ranges c.self.inside.clock c.self.inside.slots.tags c.self.invariant.tags)

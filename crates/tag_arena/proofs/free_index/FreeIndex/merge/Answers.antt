@@ -1,9 +1,16 @@
-use Rattle.std.proofs.Common.{ap, ◌∙◌, subst}
+use Rattle.std.proofs.Common.{◌≢◌, All, sym, ap, ◌∙◌, subst}
 use Rattle.deed_core.specs.Extent.{Extent, end_of}
 use Rattle.tag_arena.specs.Neighbors.{TakesLeft}
 use Rattle.tag_arena.proofs.Returning.{joins_right}
-use Rattle.tag_arena.proofs.Neighboring.{left_goes_on}
+use Rattle.tag_arena.proofs.Neighboring.{left_goes_on, left_keeps}
 use Rattle.tag_arena.proofs.free_index.FreeIndex.merge.Goals as goal
+
+pub take_right-right-requires-clause-known : goal.take_right-right-requires-clause-known
+take_right-right-requires-clause-known g c = λ allocated.
+    let taken = subst (λ v. TakesLeft c.base.result c.base-base.result v.ranges c.take_left-left.result c.take_left-left.new.self.ranges) c.go_to.ensures.unchanged c.take_left-left.ensures.taken in
+    let end = c.end.ensures.value ∙ ap end_of c.range-range.ensures.value in
+    subst (λ n. All (λ r. r.range.base ≢ n) c.take_left-left.new.self.ranges) (sym end)
+    (left_keeps (λ r. r.range.base ≢ end_of c.args.deed.range) _ _ c.args.self.now.ranges _ c.take_left-left.result taken (c.requires.known.right allocated))
 
 pub join_left-low-requires : goal.join_left-low-requires
 join_left-low-requires g c =

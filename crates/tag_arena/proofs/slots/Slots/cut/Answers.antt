@@ -4,6 +4,7 @@ use Rattle.deed_core.specs.Holding.{Holding}
 use Rattle.tag_arena.specs.Cuts.{IsCut}
 use Rattle.tag_arena.specs.FreeTags.{SlotBecomes, tag_at}
 use Rattle.tag_arena.specs.Slotted.{taken_count}
+use Rattle.tag_arena.proofs.Lying.{none_taken}
 use Rattle.tag_arena.proofs.Slotting.{emptied, one_taken, slot_set, slot_within, set_back, slotted_same, tag_is, taken_is}
 use Rattle.tag_arena.proofs.slots.Slots.cut.Goals as goal
 
@@ -54,3 +55,9 @@ returns-in-None-clause-unchanged g c =
     let put = tag_is c.new-timed.result c.args.tag c.in-Err.same c.since.result c.power.result c.new-timed.ensures same c.since.ensures c.power.ensures in
     let back = set_back s.slots.items c.args.at c.take.new.self c.replace.new.self (c.replace.ensures.after ∙ (ap (λ u. Some u) put ∙ sym here)) in
     back ∙ ap (λ v. v.tags) c.self.view_is
+
+pub unreachable-requires-in-Some-replace : goal.unreachable-requires-in-Some-replace
+unreachable-requires-in-Some-replace g c =
+    let s = c.self.inside in
+    let here = ap (λ v. tag_at v.tags c.args.at) c.self.view_is ∙ c.requires.here in
+    none_taken s.slots.items c.args.at c.args.tag c.in-Some-replace.field-0 c.take.new.self c.replace.result c.index_mut-in-Err.result.now here c.take.ensures.after c.in-Some-replace.is c.replace.ensures.value c.index_mut-in-Err.ensures.value

@@ -1,0 +1,96 @@
+//! Pieces of spans that come back: they are merged with the free ranges beside them.
+ghost use Rattle.std.specs.Prelude.{◌≡◌, ◌≢◌, ◌+◌, ◌<◌, ◌≤◌, All, AllPairs, length};
+ghost use Rattle.deed_core.specs.Extent.{Covers, end_of};
+ghost use Rattle.deed_core.specs.Holding.{Apart};
+ghost use Rattle.tag_arena.specs.Layout.{IsPartOf};
+ghost use Rattle.tag_arena.specs.Neighbors.{IsBeside, IsKnownBeside, Merges, TakesLeft};
+ghost use Rattle.tag_arena.specs.Neighbors.{TakesRight};
+ghost use Rattle.tag_arena.specs.Returns.{ComesBack};
+
+use crate::cells::{Beside, Side};
+use crate::free_index::FreeIndex;
+use crate::held_ranges::{HeldRange, held_range_of};
+use crate::merges::{join_left, join_right};
+use deed_core::{Deed, Stored};
+
+impl<D: Deed> FreeIndex<D> {
+    /// Takes out the free range that ends at `base`, unless the span begins there.
+    fn take_left(&mut self, start: u64, base: u64, side: Side) -> Option<Stored<D>>
+        requires start { start ≤ base }
+        requires apart { AllPairs Apart self.old.ranges }
+        requires known { side ≡ Side.Allocated → All (λ r. end_of r.range ≢ base) self.old.ranges }
+        requires clear { All (λ r. ¬ Covers r.range base) self.old.ranges }
+        ensures taken { TakesLeft start base self.old.ranges result self.new.ranges }
+        ensures rest { self.new ≡ record self.old { ranges = self.new.ranges } }
+    {
+        if base == start {
+            return None;
+        }
+        let left = self.ending_at(base, side)?;
+        Some(self.take(left, side.slot()))
+    }
+
+    /// Takes out the free range that begins at `end`, unless the span ends there.
+    fn take_right(&mut self, end: u64, limit: u64, side: Side) -> Option<Stored<D>>
+        requires limit { end ≤ limit }
+        requires known { side ≡ Side.Allocated → All (λ r. r.range.base ≢ end) self.old.ranges }
+        ensures taken { TakesRight end limit self.old.ranges result self.new.ranges }
+        ensures rest { self.new ≡ record self.old { ranges = self.new.ranges } }
+    {
+        if end == limit {
+            return None;
+        }
+        let right = self.beginning_at(end, side)?;
+        Some(self.take(right, side.slot()))
+    }
+
+    /// The deed and its free neighbours inside the span, which are taken out. It takes no memory.
+    pub fn merge(&mut self, span: HeldRange, deed: Stored<D>, beside: Beside) -> Stored<D>
+        requires inside { IsPartOf span deed }
+        requires some { 0 < deed.range.len }
+        requires beside { All (IsBeside span) self.old.ranges }
+        requires apart { AllPairs Apart self.old.ranges }
+        requires clear { All (Apart deed) self.old.ranges }
+        requires known { IsKnownBeside beside deed.range self.old.ranges }
+        ensures merges { Merges span deed self.old.ranges result self.new.ranges }
+        ensures rest { self.new ≡ record self.old { ranges = self.new.ranges } }
+    {
+        let range = deed.range();
+        let base = range.base();
+        self.go_to(base);
+        let left = self.take_left(span.base(), base, beside.left);
+        let right = self.take_right(range.end(), span.end(), beside.right);
+        self.note_merge(left.is_some(), right.is_some());
+        let low = join_left(left, deed);
+        join_right(low, right)
+    }
+
+    /// A piece of a span comes back. With its free neighbours it is the newest range; where that is
+    /// the whole of a span that was lent, it is handed back. It takes no memory.
+    pub fn give_back(
+        &mut self,
+        span: HeldRange,
+        lent: bool,
+        deed: Stored<D>,
+        beside: Beside,
+    ) -> Option<Stored<D>>
+        requires inside { IsPartOf span deed }
+        requires some { 0 < deed.range.len }
+        requires beside { All (IsBeside span) self.old.ranges }
+        requires apart { AllPairs Apart self.old.ranges }
+        requires clear { All (Apart deed) self.old.ranges }
+        requires known { IsKnownBeside beside deed.range self.old.ranges }
+        requires room { length self.old.ranges < self.old.room }
+        requires ticks { 0 < self.old.ticks }
+        ensures returned { ComesBack lent span deed self.old.ranges self.new.ranges result }
+        ensures setup { (self.new.policy ≡ self.old.policy) × (self.new.room ≡ self.old.room) }
+        ensures ticks { self.old.ticks ≤ self.new.ticks + 1 }
+    {
+        let merged = self.merge(span, deed, beside);
+        if lent && held_range_of(&merged) == span {
+            return Some(merged);
+        }
+        self.insert(merged);
+        None
+    }
+}
