@@ -243,10 +243,12 @@ impl<D: Deed> Arena<D> {
         let Ok(()) = reserve_free(self.alloc, &mut self.free, &self.tags, 1) else {
             return Err(SpanFault::NoMemory(deed));
         };
+        let Ok(cell) = self.tags.open() else {
+            return Err(SpanFault::NoMemory(deed));
+        };
         let stored = Stored::new(deed);
         self.owned.put(Import::new(self.id, held_range_of(&stored)));
         self.free.insert(stored);
-        let cell = self.tags.open();
         tell(&mut self.free, &mut self.tags, cell);
         Ok(())
     }
@@ -376,12 +378,16 @@ impl<D: Deed> Arena<D> {
         };
         let whole = HeldRange::new(span.root(), span.range());
         let first = HeldRange::new(span.root(), piece_of(whole, whole.base(), len));
+        let Ok(opened) = self.tags.open() else {
+            return Err(span);
+        };
         let origin = Origin {
-            cell: self.tags.open(),
+            cell: opened,
             low: false,
             high: first.end() < whole.end(),
         };
         let Ok(cell) = self.tags.insert(first, origin) else {
+            self.tags.vacate(origin.cell);
             return Err(span);
         };
         let source = span.arena();
@@ -389,6 +395,8 @@ impl<D: Deed> Arena<D> {
             Ok(parts) => parts,
             Err(span) => {
                 self.tags.remove(first);
+                let whole = self.tags.join(origin.cell, false, origin.high);
+                self.tags.vacate(whole);
                 return Err(span);
             }
         };

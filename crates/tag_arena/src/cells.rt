@@ -24,16 +24,6 @@ pub enum Side {
     Allocated,
 }
 
-impl Side {
-    /// The slot that is likely, or any.
-    pub fn slot(self) -> usize {
-        match self {
-            Side::Free(slot) => slot,
-            Side::Unknown | Side::Allocated => 0,
-        }
-    }
-}
-
 /// What is known of what stands before a range and behind it.
 #[derive(Clone, Copy, Debug)]
 pub struct Beside {
@@ -68,7 +58,8 @@ impl Model for Cell {
     ghost view = { λ c. known_of c.standing };
 }
 
-/// Cells, which may be kept or not. It takes memory for a new cell where there is some.
+/// Cells, which may be kept or not. `reserve` and `open` alone take memory: where there is none for
+/// a new cell, a range has none.
 #[derive(Drop)]
 pub struct Cells {
     kept: bool,
@@ -110,14 +101,20 @@ impl Cells {
         Ok(())
     }
 
-    /// A cell for the free range of a new span.
-    pub fn open(&mut self) -> Option<usize>
+    /// A cell for the free range of a new span, where they are kept. `Err` is out of memory.
+    pub fn open(&mut self) -> Result<Option<usize>, AllocError>
         ensures { Forgets self.old self.new }
     {
         if !self.kept {
-            return None;
+            return Ok(None);
         }
-        self.add(None, None)
+        self.reserve()?;
+        Ok(self.add(None, None))
+    }
+
+    /// Whether ranges have cells.
+    pub fn is_kept(&self) -> bool {
+        self.kept
     }
 
     /// A cell between two others, of a free range.

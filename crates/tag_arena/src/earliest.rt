@@ -49,7 +49,7 @@ fn earliest_behind<D: Deed>(
             return Some(Fit {
                 range,
                 base,
-                slot: 0,
+                slot: entry.slot,
             });
         }
         from = range.base() + 1;
@@ -81,12 +81,12 @@ fn earliest_fit<D: Deed>(
 {
     let units = request.units(quantum)?;
     rising.go_to(start, u64::MAX);
-    if let Some(range) = range_with(slots, rising, start) {
-        if let Some(base) = probes.least_in(request, quantum, range, start) {
+    if let Some(found) = range_with(slots, rising, start) {
+        if let Some(base) = probes.least_in(request, quantum, found.range, start) {
             return Some(Fit {
-                range,
+                range: found.range,
                 base,
-                slot: 0,
+                slot: found.slot,
             });
         }
     }

@@ -3,6 +3,7 @@ ghost use Rattle.std.specs.Prelude.{◌≡◌, ◌≢◌, ◌+◌, ◌<◌, ◌�
 ghost use Rattle.std.specs.Prelude.{◌-◌, ◌%◌, ◌^◌, length, max, true, AllPairs, Contains, IfOk};
 ghost use Rattle.std.specs.Prelude.{IfSome, MatchBool, option_to_list};
 ghost use Rattle.std.specs.Int.{IsPowerOfTwo};
+ghost use Rattle.std.specs.Option.{option_map};
 ghost use Rattle.deed_core.specs.Covering.{units_held};
 ghost use Rattle.deed_core.specs.Extent.{Covers, IsRange, end_of};
 ghost use Rattle.deed_core.specs.Holding.{Apart};
@@ -24,7 +25,7 @@ use crate::newest_lists::NewestLists;
 use crate::orders::{Order, OrderedIndex};
 use crate::policies::{Policy, has_bases, has_lists, has_sizes};
 use crate::probes::Probes;
-use crate::searches::{Fit, best_fit, newest, range_from, range_with};
+use crate::searches::{Fit, SlotRange, best_fit, newest, range_from, range_with};
 use crate::slot_searches::slot_of;
 use crate::slots::{Slots, TimedDeed};
 use crate::traces::Trace;
@@ -206,12 +207,12 @@ impl<D: Deed> FreeIndex<D> {
 
     /// The free range that ends at `end`, if there is one. What stands there may be known; else
     /// under `next` it is the one with the unit below `end`, since none has the unit `end`.
-    pub fn ending_at(&self, end: u64, side: Side) -> Option<HeldRange>
+    pub fn ending_at(&self, end: u64, side: Side) -> Option<SlotRange>
         requires some { 0 < end }
         requires apart { AllPairs Apart self.now.ranges }
         requires known { side ≡ Side.Allocated → All (λ r. end_of r.range ≢ end) self.now.ranges }
         requires clear { All (λ r. ¬ Covers r.range end) self.now.ranges }
-        ensures { EndsAt end self.now.ranges result }
+        ensures { EndsAt end self.now.ranges (option_map (λ f. f.range) result) }
     {
         if has_bases(self.policy) {
             return range_with(&self.slots, &self.rising, end - 1);
@@ -221,16 +222,17 @@ impl<D: Deed> FreeIndex<D> {
         }
         if let Side::Free(slot) = side {
             if let Some(range) = self.slots.ending_in(slot, end) {
-                return Some(range);
+                return Some(SlotRange { range, slot });
             }
         }
-        self.slots.ending_at(end)
+        let range = self.slots.ending_at(end)?;
+        Some(SlotRange { range, slot: 0 })
     }
 
     /// The free range that begins at `base`, if there is one. What stands there may be known.
-    pub fn beginning_at(&self, base: u64, side: Side) -> Option<HeldRange>
+    pub fn beginning_at(&self, base: u64, side: Side) -> Option<SlotRange>
         requires known { side ≡ Side.Allocated → All (λ r. r.range.base ≢ base) self.now.ranges }
-        ensures { BeginsAt base self.now.ranges result }
+        ensures { BeginsAt base self.now.ranges (option_map (λ f. f.range) result) }
     {
         if has_bases(self.policy) {
             return range_from(&self.slots, &self.rising, base);
@@ -240,10 +242,11 @@ impl<D: Deed> FreeIndex<D> {
         }
         if let Side::Free(slot) = side {
             if let Some(range) = self.slots.beginning_in(slot, base) {
-                return Some(range);
+                return Some(SlotRange { range, slot });
             }
         }
-        self.slots.beginning_at(base)
+        let range = self.slots.beginning_at(base)?;
+        Some(SlotRange { range, slot: 0 })
     }
 
     /// The best range that serves the request, and its least address that does. Under `next` there

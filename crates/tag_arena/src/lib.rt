@@ -35,7 +35,7 @@
 //! carve, a new span or an import that makes a map larger, at each range. A
 //! request with a window of its own, from `min` to `max`, may try many ranges that don't serve it,
 //! and one on another grid than the last may weigh many anew. An index takes some 100 bytes for
-//! each range, free or allocated, cells some 60 to 120, and the lists 32 to 64, beside 1,024
+//! each range, free or allocated, cells some 80 to 140, and the lists 32 to 64, beside 1,024
 //! of each arena: a carve and a new span make room for what they add, and for each allocated range
 //! to become free, before they change anything. So `Arena::free` and `Arena::remove_owned` take no
 //! memory.

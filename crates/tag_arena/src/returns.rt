@@ -27,7 +27,7 @@ impl<D: Deed> FreeIndex<D> {
             return None;
         }
         let left = self.ending_at(base, side)?;
-        Some(self.take(left, side.slot()))
+        Some(self.take(left.range, left.slot))
     }
 
     /// Takes out the free range that begins at `end`, unless the span ends there.
@@ -41,7 +41,7 @@ impl<D: Deed> FreeIndex<D> {
             return None;
         }
         let right = self.beginning_at(end, side)?;
-        Some(self.take(right, side.slot()))
+        Some(self.take(right.range, right.slot))
     }
 
     /// The deed and its free neighbours inside the span, which are taken out. It takes no memory.

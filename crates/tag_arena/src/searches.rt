@@ -132,30 +132,38 @@ fn best_by_reach<D: Deed>(
 }
 
 /// The free range with this unit in it. Where there is none, it looks at no slot.
-pub fn range_with<D: Deed>(slots: &Slots<D>, rising: &OrderedIndex, unit: u64) -> Option<HeldRange>
+pub fn range_with<D: Deed>(slots: &Slots<D>, rising: &OrderedIndex, unit: u64) -> Option<SlotRange>
     requires tags { (clock : ℕ) × AreTags clock slots.now.tags }
     requires mirrors { Mirrors Rising rising.now.items slots.now.tags }
     requires apart { AllPairs Apart (ranges_by_age slots.now.tags) }
-    ensures { IsWith unit (ranges_by_age slots.now.tags) result }
+    ensures { IsWith unit (ranges_by_age slots.now.tags) (option_map (λ f. f.range) result) }
 {
     let entry = rising.last_to(unit, u64::MAX)?;
     if entry.major + entry.minor <= unit {
         return None;
     }
-    Some(slots.range_at(entry.slot, entry.major, entry.minor))
+    let range = slots.range_at(entry.slot, entry.major, entry.minor);
+    Some(SlotRange {
+        range,
+        slot: entry.slot,
+    })
 }
 
 /// The free range that begins at a base.
-pub fn range_from<D: Deed>(slots: &Slots<D>, rising: &OrderedIndex, base: u64) -> Option<HeldRange>
+pub fn range_from<D: Deed>(slots: &Slots<D>, rising: &OrderedIndex, base: u64) -> Option<SlotRange>
     requires tags { (clock : ℕ) × AreTags clock slots.now.tags }
     requires mirrors { Mirrors Rising rising.now.items slots.now.tags }
-    ensures { BeginsAt base (ranges_by_age slots.now.tags) result }
+    ensures { BeginsAt base (ranges_by_age slots.now.tags) (option_map (λ f. f.range) result) }
 {
     let entry = rising.first_from(base, 0)?;
     if entry.major != base {
         return None;
     }
-    Some(slots.range_at(entry.slot, entry.major, entry.minor))
+    let range = slots.range_at(entry.slot, entry.major, entry.minor);
+    Some(SlotRange {
+        range,
+        slot: entry.slot,
+    })
 }
 
 /// The number of the least power-of-two list whose every member has room for `units`.
@@ -172,7 +180,7 @@ fn least_list(units: u64) -> u32
 
 /// A free range and its slot.
 #[derive(Clone, Copy, Debug)]
-pub struct Listed {
+pub struct SlotRange {
     pub range: HeldRange,
     pub slot: usize,
 }
@@ -183,7 +191,7 @@ pub fn newest<D: Deed>(
     lists: &NewestLists,
     quantum: u64,
     units: u64,
-) -> Option<Listed>
+) -> Option<SlotRange>
     requires quantum { IsPowerOfTwo quantum }
     requires units { quantum ≤ units }
     requires timed { IsTimed slots.now.tags }
@@ -197,5 +205,5 @@ pub fn newest<D: Deed>(
         return None;
     };
     let range = slots.tag(slot).range();
-    Some(Listed { range, slot })
+    Some(SlotRange { range, slot })
 }

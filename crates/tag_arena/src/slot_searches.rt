@@ -33,16 +33,20 @@ pub fn slot_by_size<D: Deed>(
     Some(entry.slot)
 }
 
-/// The slot of a free range, if it is one, by the order of bases.
+/// The slot of a free range, if it is one: the one that is likely, or else by the order of bases.
 pub fn slot_by_base<D: Deed>(
     slots: &Slots<D>,
     rising: &OrderedIndex,
     range: HeldRange,
+    likely: usize,
 ) -> Option<usize>
     requires tags { (clock : ℕ) × AreTags clock slots.now.tags }
     requires mirrors { Mirrors Rising rising.now.items slots.now.tags }
     ensures { LiesIn range slots.now.tags result }
 {
+    if slots.is_in(likely, range) {
+        return Some(likely);
+    }
     let entry = rising.first_from(range.base(), range.len())?;
     if slots.tag(entry.slot).range() != range {
         return None;
@@ -65,7 +69,7 @@ pub fn slot_of<D: Deed>(
     ensures { LiesIn range slots.now.tags result }
 {
     match policy {
-        Policy::Next => slot_by_base(slots, rising, range),
+        Policy::Next => slot_by_base(slots, rising, range, likely),
         Policy::Best | Policy::Instant => slot_by_size(slots, sizes, range, likely),
     }
 }

@@ -122,6 +122,9 @@ impl Tags {
 
     /// The cell of the range at a base, if there is one. It is for speed alone.
     pub fn cell(&self, base: u64) -> Option<usize> {
+        if !self.cells.is_kept() {
+            return None;
+        }
         if let Some(near) = self.near {
             if near.base == base {
                 return near.cell;
@@ -149,8 +152,8 @@ impl Tags {
         }
     }
 
-    /// A cell for the free range of a new span.
-    pub fn open(&mut self) -> Option<usize>
+    /// A cell for the free range of a new span, where ranges have cells. `Err` is out of memory.
+    pub fn open(&mut self) -> Result<Option<usize>, AllocError>
         ensures unchanged { self.new ≡ self.old }
     {
         self.cells.open()

@@ -1,6 +1,7 @@
 use Rattle.std.proofs.Common.{subst}
 use Rattle.tag_arena.proofs.Granting.{rounded_some}
 use Rattle.tag_arena.specs.FreeTags.{ranges_by_age}
+use Rattle.std.specs.Option.{option_map}
 use Rattle.tag_arena.specs.Fits.{IsWith}
 use Rattle.tag_arena.proofs.Lasting.{all_ranges}
 use Rattle.tag_arena.proofs.Roving.{by_one, by_none}
@@ -14,9 +15,9 @@ earliest_behind-requires-clause-below g c =
     let some = rounded_some c.args.request.now.size c.args.quantum c.requires.good.size in
     elim c.match-range_with.branch [
       | in-Some+in_default-least_in w ↦
-          let last = subst (IsWith c.args.start free) w.in-Some.is c.range_with.ensures in
-          by_one free all c.requires.apart c.args.quantum c.args.request.now c.args.start w.in-Some.range some last (λ b s past. w.in_default-least_in.ensures b (s, past))
+          let last = subst (λ o. IsWith c.args.start free (option_map (λ f. f.range) o)) w.in-Some.is c.range_with.ensures in
+          by_one free all c.requires.apart c.args.quantum c.args.request.now c.args.start w.in-Some.found.range some last (λ b s past. w.in_default-least_in.ensures b (s, past))
       | in_default w ↦
-          let last = subst (IsWith c.args.start free) w.in_default.is c.range_with.ensures in
+          let last = subst (λ o. IsWith c.args.start free (option_map (λ f. f.range) o)) w.in_default.is c.range_with.ensures in
           by_none free all c.requires.apart c.args.quantum c.args.request.now c.args.start some last
     ]

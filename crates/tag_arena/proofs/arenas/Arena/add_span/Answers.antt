@@ -30,7 +30,7 @@ invariant_of-self-2 g c =
     let h : Holding = c.new-stored.result in
     let range : c.range-range.result ≡ h.range = same_range _ h _ c.range-range.ensures.value c.new-stored.ensures in
     let owned : holdings_of c.put.new.self.items ≡ a.owned ++ h ∷ [] = held_more _ _ _ _ h c.put.ensures c.reserve.ensures.items (ap (λ (t : Tag). t.holding) c.new.ensures ∙ c.held_range_of.ensures.value) in
-    let tags : c.tell.new.tags ≡ c.self.inside.tags = c.tell.ensures.tags ∙ c.open-cell.ensures.unchanged in
+    let tags : c.tell.new.tags ≡ c.self.inside.tags = c.tell.ensures.tags ∙ c.open.ensures.unchanged in
     let free : c.tell.new.free.ranges ≡ a.free ++ h ∷ [] = ap (λ v. v.ranges) c.tell.ensures.free ∙ pushed _ _ _ _ _ c.insert.ensures.ranges (ap (λ v. v.ranges) c.reserve_free.ensures.rest) refl in
     let clear = subst (λ (s : ArenaState). IsClear s c.range-range.result × OnQuantum s.quantum c.range-range.result) (sym c.self.view_is) (c.if-has_overlap.ensures.clear, c.if-not-is_aligned.ensures.0 refl) in (
       rw (owned, free, tags) (added_sound a c.self.invariant.0 h c.held_range_of.ensures.range (subst (λ (e : Extent). OnQuantum c.self.inside.quantum e) range clear.1) (subst (λ (e : Extent). IsClear a e) range clear.0)),
@@ -43,7 +43,7 @@ returns-clause-sound g c =
     let h : Holding = c.new-stored.result in
     let range : c.range-range.result ≡ h.range = same_range _ h _ c.range-range.ensures.value c.new-stored.ensures in
     let owned : holdings_of c.put.new.self.items ≡ a.owned ++ h ∷ [] = held_more _ _ _ _ h c.put.ensures c.reserve.ensures.items (ap (λ (t : Tag). t.holding) c.new.ensures ∙ c.held_range_of.ensures.value) in
-    let tags : c.tell.new.tags ≡ c.self.inside.tags = c.tell.ensures.tags ∙ c.open-cell.ensures.unchanged in
+    let tags : c.tell.new.tags ≡ c.self.inside.tags = c.tell.ensures.tags ∙ c.open.ensures.unchanged in
     let free : c.tell.new.free.ranges ≡ a.free ++ h ∷ [] = ap (λ v. v.ranges) c.tell.ensures.free ∙ pushed _ _ _ _ _ c.insert.ensures.ranges (ap (λ v. v.ranges) c.reserve_free.ensures.rest) refl in
     let clear = subst (λ (s : ArenaState). IsClear s c.range-range.result × OnQuantum s.quantum c.range-range.result) (sym c.self.view_is) (c.if-has_overlap.ensures.clear, c.if-not-is_aligned.ensures.0 refl) in
     rw (owned, free, tags) (added_sound a c.self.invariant.0 h c.held_range_of.ensures.range (subst (λ (e : Extent). OnQuantum c.self.inside.quantum e) range clear.1) (subst (λ (e : Extent). IsClear a e) range clear.0))

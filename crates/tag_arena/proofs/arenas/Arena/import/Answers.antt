@@ -45,8 +45,8 @@ invariant_of-self-in-Err g c =
     let piece_is = tagged_is _ (part t.holding t.holding.range.base n) _ _ c.new-first.ensures c.root-2.ensures (c.piece_of.ensures ∙ ap (λ (b : ℕ). record { base = b; len = n }) base_of) in
     let absent = import_absent a t n k in
     let absent_here = subst (λ (h : Holding). finmap.get c.self.inside.tags h.range.base ≡ None) (sym piece_is) absent in
-    let tags = undone c.self.inside.tags c.insert.new.self c.remove.new.self c.new-first.result.range.base c.new-first.result absent_here (c.in-Ok-insert.ensures.ok ∙ ap (λ m. finmap.insert m c.new-first.result.range.base c.new-first.result) c.open.ensures.unchanged) c.remove.ensures in
-    let same = ap (λ (xs : List Tag). record a { imported = xs; free = c.reserve_free.new.free.ranges; allocated = c.remove.new.self }) c.reserve.ensures.items ∙ as_it_was a _ _ (ap (λ v. v.ranges) c.reserve_free.ensures.rest) tags in
+    let tags : c.vacate-in-Err.new.self ≡ c.self.inside.tags = c.vacate-in-Err.ensures.unchanged ∙ (c.join-whole.ensures.unchanged ∙ undone c.self.inside.tags c.insert.new.self c.remove.new.self c.new-first.result.range.base c.new-first.result absent_here (c.in-Ok-insert.ensures.ok ∙ ap (λ m. finmap.insert m c.new-first.result.range.base c.new-first.result) c.open.ensures.unchanged) c.remove.ensures) in
+    let same = ap (λ (xs : List Tag). record a { imported = xs; free = c.reserve_free.new.free.ranges; allocated = c.vacate-in-Err.new.self }) c.reserve.ensures.items ∙ as_it_was a _ _ (ap (λ v. v.ranges) c.reserve_free.ensures.rest) tags in
     let len = ap finmap.len tags in (
       subst IsSoundArena (sym same) c.self.invariant.0,
       backed_back c.self.inside.policy c.self.inside.free c.reserve_free.new.free c.reserve_free.ensures.rest c.reserve_free.new.free _ _ c.reserve_free.ensures.grows refl len c.self.invariant.1,
@@ -64,8 +64,8 @@ returns-in-Err-clause-unchanged g c =
     let piece_is = tagged_is _ (part t.holding t.holding.range.base n) _ _ c.new-first.ensures c.root-2.ensures (c.piece_of.ensures ∙ ap (λ (b : ℕ). record { base = b; len = n }) base_of) in
     let absent = import_absent a t n k in
     let absent_here = subst (λ (h : Holding). finmap.get c.self.inside.tags h.range.base ≡ None) (sym piece_is) absent in
-    let tags = undone c.self.inside.tags c.insert.new.self c.remove.new.self c.new-first.result.range.base c.new-first.result absent_here (c.in-Ok-insert.ensures.ok ∙ ap (λ m. finmap.insert m c.new-first.result.range.base c.new-first.result) c.open.ensures.unchanged) c.remove.ensures in
-    let same = ap (λ (xs : List Tag). record a { imported = xs; free = c.reserve_free.new.free.ranges; allocated = c.remove.new.self }) c.reserve.ensures.items ∙ as_it_was a _ _ (ap (λ v. v.ranges) c.reserve_free.ensures.rest) tags in
+    let tags : c.vacate-in-Err.new.self ≡ c.self.inside.tags = c.vacate-in-Err.ensures.unchanged ∙ (c.join-whole.ensures.unchanged ∙ undone c.self.inside.tags c.insert.new.self c.remove.new.self c.new-first.result.range.base c.new-first.result absent_here (c.in-Ok-insert.ensures.ok ∙ ap (λ m. finmap.insert m c.new-first.result.range.base c.new-first.result) c.open.ensures.unchanged) c.remove.ensures) in
+    let same = ap (λ (xs : List Tag). record a { imported = xs; free = c.reserve_free.new.free.ranges; allocated = c.vacate-in-Err.new.self }) c.reserve.ensures.items ∙ as_it_was a _ _ (ap (λ v. v.ranges) c.reserve_free.ensures.rest) tags in
     same ∙ c.self.view_is
 
 pub insert_rest-requires-clause-clear : goal.insert_rest-requires-clause-clear
