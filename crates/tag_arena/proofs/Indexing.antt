@@ -63,26 +63,30 @@ differs : (tags : List (Option FreeTag)) (t : FreeTag) → All (λ r. r.range.ba
 differs tags t absent j u here = All-contains (λ r. r.range.base ≢ t.range.range.base) (ranges_by_age tags) u.range absent (range_is_free tags j u here)
 
 module _ (policy : Policy) (s s2 : SlotsState) (r z : OrderedIndexState) (l : ListsState) (r2 z2 : OrderedIndexState) (l2 : ListsState) (clock room k : ℕ) (t : FreeTag) (x : IsIndexed policy s r z l clock room) where
-  pub indexed_put : tag_at s.tags k ≡ None → SlotBecomes s.tags s2.tags k (Some t) → s2.room ≡ s.room → IsTag (clock + 1) t → t.since ≡ clock + 1
-      → MeetsOrder (keeps_bases policy) Rising s2 room r2 → MeetsOrder (keeps_sizes policy) Sizes s2 room z2 → MeetsLists policy s2 l2 → IsIndexed policy s2 r2 z2 l2 (clock + 1) room
-  indexed_put vacant becomes same is now hr hz hl =
+  pub indexed_put : tag_at s.tags k ≡ None → SlotBecomes s.tags s2.tags k (Some t) → taken_count s2.tags ≡ taken_count s.tags + 1 → length (ranges_by_age s.tags) < room → s2.room ≡ s.room → IsTag (clock + 1) t → t.since ≡ clock + 1
+      → MeetsOrder (keeps_bases policy) Rising s2 room r2 → r2.kept ≡ r.kept → MeetsOrder (keeps_sizes policy) Sizes s2 room z2 → MeetsLists policy s2 l2 → IsIndexed policy s2 r2 z2 l2 (clock + 1) room
+  indexed_put vacant becomes count lt same is now hr kept hz hl =
       let later = newer clock k s.tags s2.tags t x.tags now in
       record {
         timed = timed_put s.tags s2.tags k t x.timed vacant becomes later;
         tags = λ j u here. ⊎_elim (λ a. subst (IsTag (clock + 1)) a.1 is) (λ a. tags_later clock s.tags x.tags j u a.1) (put_cases s.tags s2.tags k t becomes j u here);
+        few = omega (arith, count, taken_below s.tags room x.timed lt);
         slots_room = omega (arith, x.slots_room, same);
         rising = hr;
+        bases_kept = kept ∙ x.bases_kept;
         sizes = hz;
         lists_meet = hl;
       }
 
-  pub indexed_take : tag_at s.tags k ≡ Some t → SlotBecomes s.tags s2.tags k None → s2.room ≡ s.room
-      → MeetsOrder (keeps_bases policy) Rising s2 room r2 → MeetsOrder (keeps_sizes policy) Sizes s2 room z2 → MeetsLists policy s2 l2 → IsIndexed policy s2 r2 z2 l2 clock room
-  indexed_take here becomes same hr hz hl = record {
+  pub indexed_take : tag_at s.tags k ≡ Some t → SlotBecomes s.tags s2.tags k None → taken_count s2.tags + 1 ≡ taken_count s.tags → s2.room ≡ s.room
+      → MeetsOrder (keeps_bases policy) Rising s2 room r2 → r2.kept ≡ r.kept → MeetsOrder (keeps_sizes policy) Sizes s2 room z2 → MeetsLists policy s2 l2 → IsIndexed policy s2 r2 z2 l2 clock room
+  indexed_take here becomes count same hr kept hz hl = record {
     timed = timed_take s.tags s2.tags k t x.timed here becomes;
     tags = λ j u stays. x.tags j u (take_cases s.tags s2.tags k t becomes j u stays).1;
+    few = omega (arith, x.few, count);
     slots_room = omega (arith, x.slots_room, same);
     rising = hr;
+    bases_kept = kept ∙ x.bases_kept;
     sizes = hz;
     lists_meet = hl;
   }
@@ -106,17 +110,12 @@ module _ (old new : List (Option FreeTag)) (k : ℕ) (t : FreeTag) (timed : IsTi
       let a = aged_take old new k t timed here becomes in
       (a.0, omega (arith, a.1, length-map (tags_by_age old) range_of), (λ d. get_or-map range_of (tags_by_age old) a.0 t d a.1 ∙ ap range_of (a.2 t)), ap (map range_of) a.3 ∙ map-remove range_of (tags_by_age old) a.0)
 
--- the orders that the policy asks for have the tags
+-- the order of bases has the tags where the policy asks for it
 module _ (policy : Policy) (s : SlotsState) (r z : OrderedIndexState) (l : ListsState) (clock room : ℕ) (x : IsIndexed policy s r z l clock room) where
   pub bases_kept : keeps_bases policy ≡ true → Mirrors Rising r.items s.tags
   bases_kept kept =
-      let up = subst (λ b. KeepsUp b r.order r.items r.room s.tags room) (x.rising.kept_is ∙ kept) x.rising.keeps_up in
-      subst (λ o. Mirrors o r.items s.tags) x.rising.order_is up.0
-
-  pub sizes_kept : keeps_sizes policy ≡ true → Mirrors Sizes z.items s.tags
-  sizes_kept kept =
-      let up = subst (λ b. KeepsUp b z.order z.items z.room s.tags room) (x.sizes.kept_is ∙ kept) x.sizes.keeps_up in
-      subst (λ o. Mirrors o z.items s.tags) x.sizes.order_is up.0
+      let up = subst (λ b. KeepsUp b r.order r.items s.tags) (x.bases_kept ∙ kept) x.rising.keeps_up in
+      subst (λ o. Mirrors o r.items s.tags) x.rising.order_is up
 
 -- where ranges stand in the order by base
 module _ (clock : ℕ) (items : List IndexEntry) (tags : List (Option FreeTag)) (m : Mirrors Rising items tags) (are : AreTags clock tags) where
@@ -165,13 +164,14 @@ module _ (clock : ℕ) (items : List IndexEntry) (tags : List (Option FreeTag)) 
       other (ap (λ x. x.major) (Some-injective (sym found ∙ w.4)) ∙ w.3))
 
 -- what a kept index asks before a range is put in
-module _ (kept : Bool) (order : Order) (s : SlotsState) (room : ℕ) (i : OrderedIndexState) (is : MeetsOrder kept order s room i) where
+module _ (asked : Bool) (order : Order) (s : SlotsState) (room : ℕ) (i : OrderedIndexState) (is : MeetsOrder asked order s room i) where
   pub place_in : IsTimed s.tags → length (ranges_by_age s.tags) < room → HasRoomForOne i.kept i.items i.room
-  place_in timed lt = place_for i.kept i.order i.items i.room room s.tags is.keeps_up (taken_below s.tags room timed lt)
+  place_in timed lt =
+      place_for i.kept i.order i.items i.room s.tags is.keeps_up
+      (λ kept. let wide = is.holds (is.asked_is kept) in omega (arith, wide, taken_below s.tags room timed lt))
 
   pub absent_in : (clock k : ℕ) (t : FreeTag) → AreTags clock s.tags → IsTag (clock + 1) t → All (λ r. r.range.base ≢ t.range.range.base) (ranges_by_age s.tags) → IsAbsent i.kept i.items (rank_of (entry_of i.order k t))
-  absent_in clock k t are new absent =
-      absent_for i.kept i.order i.items i.room room s.tags (clock + 1) k t is.keeps_up (tags_later clock s.tags are) new (differs s.tags t absent)
+  absent_in clock k t are new absent = absent_for i.kept i.order i.items s.tags (clock + 1) k t is.keeps_up (tags_later clock s.tags are) new (differs s.tags t absent)
 
 -- the tag of a range that becomes free
 pub new_tag : (clock p len : ℕ) (deed : Holding) (made : FreeTag) → made ≡ record { range = deed; since = clock + 1; power = p } → IsRange deed.range → len ≡ deed.range.len → 2 ^ p ≤ len → len < 2 * 2 ^ p → p < 64 → IsTag (clock + 1) made

@@ -42,8 +42,8 @@ module _ (tags : FinMap nat_cmp Holding) where
       (w.0, get_less tags range.range.base range x.base f.1 ∙ w.1, w.2)
 
   -- what stands at a base stays there where a range is put in at another, where none stood
-  pub near_stays : (k : ℕ) (v : Holding) → get tags k ≡ None → (near : Option Near) → IfSome near (λ n. get tags n.base ≡ Some n.range)
-      → IfSome near (λ n. get (insert tags k v) n.base ≡ Some n.range)
+  pub near_stays : (k : ℕ) (v : Holding) → get tags k ≡ None → (near : Option Near) → IfSome near (λ n. get tags n.base ≡ Some n.found.range)
+      → IfSome near (λ n. get (insert tags k v) n.base ≡ Some n.found.range)
   near_stays k v none None here = tt
   near_stays k v none (Some n) here =
-      get_other tags k v n.base (λ same. absurd (let some : get tags k ≡ Some n.range = ap (get tags) (sym same) ∙ here in cc)) ∙ here
+      get_other tags k v n.base (λ same. absurd (let some : get tags k ≡ Some n.found.range = ap (get tags) (sym same) ∙ here in cc)) ∙ here

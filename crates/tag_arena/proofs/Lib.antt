@@ -29,6 +29,7 @@ pub mod Listing
 pub mod Aging
 pub mod Slotting
 pub mod Mirroring
+pub mod Entering
 pub mod Indexing
 pub mod Linking
 pub mod Starting

@@ -33,9 +33,9 @@ module _ (order : Order) (items : List IndexEntry) (tags : List (Option FreeTag)
       subst (λ x. rank_of x ≢ rank_of (entry_of order k t)) (sym w.2) (ranks_differ order clock e.slot k w.0 t (are e.slot w.0 w.1) is (differs e.slot w.0 w.1)))
 
   -- one more
-  pub mirrors_put : (new : List (Option FreeTag)) (items2 : List IndexEntry) (k : ℕ) (t : FreeTag) → tag_at tags k ≡ None → SlotBecomes tags new k (Some t) → ((j : ℕ) (u : FreeTag) → tag_at tags j ≡ Some u → u.since < t.since)
+  pub mirrors_put : (new : List (Option FreeTag)) (items2 : List IndexEntry) (k : ℕ) (t : FreeTag) → tag_at tags k ≡ None → SlotBecomes tags new k (Some t)
       → taken_count new ≡ taken_count tags + 1 → Rises rank_of items → PutsIn rank_of (entry_of order k t) items items2 → Mirrors order items2 new
-  mirrors_put new items2 k t vacant becomes newer count rises puts =
+  mirrors_put new items2 k t vacant becomes count rises puts =
       let e0 = entry_of order k t in
       let p = place_below rank_of (rank_of e0) items in
       let into_new : (e : IndexEntry) → Contains (insert items p e0) e → Contains items2 e = λ e h. subst (λ l. Contains l e) (sym puts) h in
@@ -91,42 +91,43 @@ module _ (order : Order) (items : List IndexEntry) (tags : List (Option FreeTag)
       }
 
 -- the same for an index that may not be kept
-pub place_for : (kept : Bool) (order : Order) (items : List IndexEntry) (room wanted : ℕ) (tags : List (Option FreeTag)) → KeepsUp kept order items room tags wanted → taken_count tags < wanted → HasRoomForOne kept items room
-place_for true order items room wanted tags h lt = omega (arith, h.0.count, h.1, lt)
-place_for false order items room wanted tags h lt = tt
+pub place_for : (kept : Bool) (order : Order) (items : List IndexEntry) (room : ℕ) (tags : List (Option FreeTag)) → KeepsUp kept order items tags → (kept ≡ true → taken_count tags < room) → HasRoomForOne kept items room
+place_for true order items room tags h few = let lt = few refl in omega (arith, h.count, lt)
+place_for false order items room tags h few = tt
 
-pub absent_for : (kept : Bool) (order : Order) (items : List IndexEntry) (room wanted : ℕ) (tags : List (Option FreeTag)) (clock k : ℕ) (t : FreeTag) → KeepsUp kept order items room tags wanted → AreTags clock tags → IsTag clock t
+pub absent_for : (kept : Bool) (order : Order) (items : List IndexEntry) (tags : List (Option FreeTag)) (clock k : ℕ) (t : FreeTag) → KeepsUp kept order items tags → AreTags clock tags → IsTag clock t
     → ((j : ℕ) (u : FreeTag) → tag_at tags j ≡ Some u → u.range.range.base ≢ t.range.range.base) → IsAbsent kept items (rank_of (entry_of order k t))
-absent_for true order items room wanted tags clock k t h are is differs = absent_entry order items tags h.0 clock k t are is differs
-absent_for false order items room wanted tags clock k t h are is differs = tt
+absent_for true order items tags clock k t h are is differs = absent_entry order items tags h clock k t are is differs
+absent_for false order items tags clock k t h are is differs = tt
 
-put_for : (kept : Bool) (order : Order) (items items2 : List IndexEntry) (room wanted : ℕ) (tags new : List (Option FreeTag)) (k : ℕ) (t : FreeTag) → KeepsUp kept order items room tags wanted → tag_at tags k ≡ None → SlotBecomes tags new k (Some t)
-    → ((j : ℕ) (u : FreeTag) → tag_at tags j ≡ Some u → u.since < t.since) → taken_count new ≡ taken_count tags + 1 → Rises rank_of items → PutsEntry kept (entry_of order k t) items items2 → KeepsUp kept order items2 room new wanted
-put_for true order items items2 room wanted tags new k t h vacant becomes newer count rises puts = (mirrors_put order items tags h.0 new items2 k t vacant becomes newer count rises puts, h.1)
-put_for false order items items2 room wanted tags new k t h vacant becomes newer count rises puts = tt
+put_for : (kept : Bool) (order : Order) (items items2 : List IndexEntry) (tags new : List (Option FreeTag)) (k : ℕ) (t : FreeTag) → KeepsUp kept order items tags → tag_at tags k ≡ None → SlotBecomes tags new k (Some t)
+    → taken_count new ≡ taken_count tags + 1 → Rises rank_of items → PutsEntry kept (entry_of order k t) items items2 → KeepsUp kept order items2 new
+put_for true order items items2 tags new k t h vacant becomes count rises puts = mirrors_put order items tags h new items2 k t vacant becomes count rises puts
+put_for false order items items2 tags new k t h vacant becomes count rises puts = puts ∙ h
 
-take_for : (kept : Bool) (order : Order) (items items2 : List IndexEntry) (room wanted : ℕ) (tags new : List (Option FreeTag)) (k : ℕ) (t : FreeTag) → KeepsUp kept order items room tags wanted → tag_at tags k ≡ Some t → SlotBecomes tags new k None
-    → taken_count new + 1 ≡ taken_count tags → Rises rank_of items → TakesEntry kept (rank_of (entry_of order k t)) items items2 → ((j : ℕ) (u : FreeTag) → tag_at new j ≡ Some u → (j ≢ k) × (tag_at tags j ≡ Some u)) → KeepsUp kept order items2 room new wanted
-take_for true order items items2 room wanted tags new k t h here becomes count rises takes cases = (mirrors_take order items tags h.0 new items2 k t here becomes count rises takes cases, h.1)
-take_for false order items items2 room wanted tags new k t h here becomes count rises takes cases = tt
+take_for : (kept : Bool) (order : Order) (items items2 : List IndexEntry) (tags new : List (Option FreeTag)) (k : ℕ) (t : FreeTag) → KeepsUp kept order items tags → tag_at tags k ≡ Some t → SlotBecomes tags new k None
+    → taken_count new + 1 ≡ taken_count tags → Rises rank_of items → TakesEntry kept (rank_of (entry_of order k t)) items items2 → ((j : ℕ) (u : FreeTag) → tag_at new j ≡ Some u → (j ≢ k) × (tag_at tags j ≡ Some u)) → KeepsUp kept order items2 new
+take_for true order items items2 tags new k t h here becomes count rises takes cases = mirrors_take order items tags h new items2 k t here becomes count rises takes cases
+take_for false order items items2 tags new k t h here becomes count rises takes cases = takes ∙ h
 
--- an index is kept as it is
-pub own : {kept : Bool} {order : Order} {s : SlotsState} {room : ℕ} {i : OrderedIndexState} → MeetsOrder kept order s room i → MeetsOrder i.kept order s room i
-own m = record { order_is = m.order_is; kept_is = refl; keeps_up = m.keeps_up }
+-- with other entries all else is the same
+pub all_else : (i i2 : OrderedIndexState) → i2 ≡ record i { items = i2.items } → (i2.kept ≡ i.kept) × (i2.order ≡ i.order) × (i2.room ≡ i.room)
+all_else i i2 rest = (ap (λ x. x.kept) rest, ap (λ x. x.order) rest, ap (λ x. x.room) rest)
 
 -- an index of an order, with one more and one less
-module _ (kept : Bool) (order : Order) (old new : SlotsState) (room : ℕ) (i i2 : OrderedIndexState) (is : MeetsOrder kept order old room i) (rest : i2 ≡ record i { items = i2.items }) where
-  kept_so : KeepsUp i.kept i.order i2.items i.room new.tags room → MeetsOrder kept order new room i2
+module _ (asked : Bool) (order : Order) (old new : SlotsState) (room : ℕ) (i i2 : OrderedIndexState) (is : MeetsOrder asked order old room i) (rest : i2 ≡ record i { items = i2.items }) where
+  kept_so : KeepsUp i.kept i.order i2.items new.tags → MeetsOrder asked order new room i2
   kept_so h = record {
     order_is = ap (λ x. x.order) rest ∙ is.order_is;
-    kept_is = ap (λ x. x.kept) rest ∙ is.kept_is;
-    keeps_up = subst (λ x. KeepsUp x.kept x.order i2.items x.room new.tags room) (sym rest) h;
+    asked_is = λ kept. is.asked_is (sym (ap (λ x. x.kept) rest) ∙ kept);
+    holds = λ asks. let wide = is.holds asks in omega (arith, wide, ap (λ x. x.room) rest);
+    keeps_up = subst (λ x. KeepsUp x.kept x.order i2.items new.tags) (sym rest) h;
   }
 
-  pub kept_put : (k : ℕ) (t : FreeTag) → tag_at old.tags k ≡ None → SlotBecomes old.tags new.tags k (Some t) → ((j : ℕ) (u : FreeTag) → tag_at old.tags j ≡ Some u → u.since < t.since) → taken_count new.tags ≡ taken_count old.tags + 1
-      → Rises rank_of i.items → PutsEntry i.kept (entry_of i.order k t) i.items i2.items → MeetsOrder kept order new room i2
-  kept_put k t vacant becomes newer count rises puts = kept_so (put_for i.kept i.order i.items i2.items i.room room old.tags new.tags k t is.keeps_up vacant becomes newer count rises puts)
+  pub kept_put : (k : ℕ) (t : FreeTag) → tag_at old.tags k ≡ None → SlotBecomes old.tags new.tags k (Some t) → taken_count new.tags ≡ taken_count old.tags + 1
+      → Rises rank_of i.items → PutsEntry i.kept (entry_of i.order k t) i.items i2.items → MeetsOrder asked order new room i2
+  kept_put k t vacant becomes count rises puts = kept_so (put_for i.kept i.order i.items i2.items old.tags new.tags k t is.keeps_up vacant becomes count rises puts)
 
   pub kept_take : (k : ℕ) (t : FreeTag) → tag_at old.tags k ≡ Some t → SlotBecomes old.tags new.tags k None → taken_count new.tags + 1 ≡ taken_count old.tags → Rises rank_of i.items
-      → TakesEntry i.kept (rank_of (entry_of i.order k t)) i.items i2.items → MeetsOrder kept order new room i2
-  kept_take k t here becomes count rises takes = kept_so (take_for i.kept i.order i.items i2.items i.room room old.tags new.tags k t is.keeps_up here becomes count rises takes (λ j u e. take_cases old.tags new.tags k t becomes j u e))
+      → TakesEntry i.kept (rank_of (entry_of i.order k t)) i.items i2.items → MeetsOrder asked order new room i2
+  kept_take k t here becomes count rises takes = kept_so (take_for i.kept i.order i.items i2.items old.tags new.tags k t is.keeps_up here becomes count rises takes (λ j u e. take_cases old.tags new.tags k t becomes j u e))

@@ -61,6 +61,13 @@ module _ (slots : Vec (Option FreeTag)) (vacant rest : Vec ℕ) (room k : ℕ) (
         vacant_holds = omega (arith, s.vacant_holds, capacity);
       }
 
+-- where a slot is taken, there is room for one more vacant slot
+pub room_beside : (slots : Vec (Option FreeTag)) (vacant : Vec ℕ) (room k : ℕ) (t : FreeTag) → IsSlotted slots vacant room → tag_at slots.items k ≡ Some t → vec_len vacant < vec_capacity vacant
+room_beside slots vacant room k t s here =
+    let count = taken_set slots.items k None (slot_within slots.items k t here) in
+    let was = ap one_of here in
+    omega (arith, count, was, s.counted, s.within, s.vacant_holds)
+
 -- a slot that is emptied
 module _ (slots new : Vec (Option FreeTag)) (vacant more : Vec ℕ) (room k : ℕ) (t : FreeTag) (s : IsSlotted slots vacant room) (here : tag_at slots.items k ≡ Some t) (is : new.items ≡ set slots.items k None) (pushed : more.items ≡ vacant.items ++ k ∷ []) where
   pub one_taken : taken_count new.items + 1 ≡ taken_count slots.items

@@ -1,6 +1,6 @@
 -- The orders in which free ranges are kept.
-use Rattle.std.specs.Prelude.{◌≡◌, ◌≢◌, ℕ, ◌+◌, ◌*◌, ◌^◌, ◌<◌, ◌≤◌, Bool, true, false}
-use Rattle.std.specs.Prelude.{List, Contains, Option, Some, length, count_by, is_some, All, Any}
+use Rattle.std.specs.Prelude.{◌≡◌, ◌≢◌, ℕ, ◌+◌, ◌*◌, ◌^◌, ◌<◌, Bool, true, false}
+use Rattle.std.specs.Prelude.{List, [], Contains, Option, Some, length, count_by, is_some, All, Any}
 use Rattle.std.specs.Prelude.{min}
 use Rattle.sorted_rows.specs.Order.{PutsIn, TakesOut}
 use Rattle.tag_arena.specs.declared.entries.IndexEntry.{IndexEntry}
@@ -41,10 +41,10 @@ pub record Mirrors (order : Order) (items : List IndexEntry)
   pub into : (k : ℕ) (t : FreeTag) → tag_at tags k ≡ Some t → Contains items (entry_of order k t)
   pub count : length items ≡ count_by is_some tags
 
--- so they are where the index is kept, and there is room for so many
-abbrev pub KeepsUp : Bool → Order → List IndexEntry → ℕ → List (Option FreeTag) → ℕ → Type 0
-KeepsUp true order items room tags wanted = Mirrors order items tags × (wanted ≤ room)
-KeepsUp false order items room tags wanted = Unit {0}
+-- so they are where the index is kept; else it has none
+abbrev pub KeepsUp : Bool → Order → List IndexEntry → List (Option FreeTag) → Type 0
+KeepsUp true order items tags = Mirrors order items tags
+KeepsUp false order items tags = items ≡ []
 
 -- no entry of a kept index has the key
 abbrev pub IsAbsent : Bool → List IndexEntry → ℕ → Type 0

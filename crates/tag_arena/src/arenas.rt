@@ -20,14 +20,16 @@ ghost use Rattle.tag_arena.specs.Found.{IsCuttable};
 ghost use Rattle.tag_arena.specs.Outcomes.{KeepsSetup, AddSpanOf, CarveOf, IsImportFor, ImportOf};
 ghost use Rattle.tag_arena.specs.Outcomes.{ImportCovers, FreeOf, RemoveOf};
 
-use crate::cell_notes::{origin_in, tell, tell_rests};
+use crate::cell_notes::{origin_in, tell};
+use crate::cells::Sides;
 use crate::cuts::cut_first;
 use crate::faults::{ArenaFault, SpanFault};
-use crate::free_index::FreeIndex;
-use crate::held_ranges::{HeldRange, held_range_of};
+use crate::free_index::{Carved, FreeIndex};
+use crate::held_ranges::{HeldRange, held_range_of, piece_of};
 use crate::policies::{Policy, has_sizes};
 use crate::probes::Probes;
 use crate::reserves::reserve_free;
+use crate::returns::GivenBack;
 use crate::searches::Fit;
 use crate::span_searches::{is_span, overlaps, span_at};
 use crate::spans::{Import, Spans};
@@ -248,8 +250,8 @@ impl<D: Deed> Arena<D> {
         };
         let stored = Stored::new(deed);
         self.owned.put(Import::new(self.id, held_range_of(&stored)));
-        self.free.insert(stored);
-        tell(&mut self.free, &mut self.tags, cell);
+        let slot = self.free.insert(stored);
+        tell(&mut self.free, &mut self.tags, cell, Some(slot));
         Ok(())
     }
 
@@ -305,19 +307,18 @@ impl<D: Deed> Arena<D> {
         // Room for both rests, of which one takes the place of the range, and for the piece.
         reserve_free(self.alloc, &mut self.free, &self.tags, 2)?;
         let piece = HeldRange::new(found.range.root(), piece_of(found.range, found.base, len));
-        let origin = origin_in(found, len, self.free.chosen_cell());
+        let origin = origin_in(found, len, self.free.cell(found.slot));
         let rest = self.tags.insert(piece, origin)?;
-        let Ok(deed) = self.free.carve(found.range, found.base, len) else {
-            let cell = self.tags.cell(piece.base());
-            self.tags.remove(piece);
-            let whole = self.tags.join(cell, origin.low, origin.high);
-            self.free.set_cell(found.slot, whole);
-            self.tags.set_free(whole, found.slot);
+        let Ok(Carved { low, piece, high }) = self.free.carve(found, len) else {
+            let cell = self.tags.remove(piece);
+            let whole = self.tags.join(cell, origin.rests);
+            tell(&mut self.free, &mut self.tags, whole, Some(found.slot));
             return Err(AllocError);
         };
-        tell_rests(&mut self.free, &mut self.tags, origin, rest);
+        tell(&mut self.free, &mut self.tags, origin.cell, low);
+        tell(&mut self.free, &mut self.tags, rest, high);
         self.rover = found.base + len;
-        Ok(Segment::new(self.id, Route::Direct, deed.into_deed()))
+        Ok(Segment::new(self.id, Route::Direct, piece.into_deed()))
     }
 
     /// Adds an imported span, a segment that was carved from its source by no cache, and carves its
@@ -383,8 +384,10 @@ impl<D: Deed> Arena<D> {
         };
         let origin = Origin {
             cell: opened,
-            low: false,
-            high: first.end() < whole.end(),
+            rests: Sides {
+                left: false,
+                right: first.end() < whole.end(),
+            },
         };
         let Ok(cell) = self.tags.insert(first, origin) else {
             self.tags.vacate(origin.cell);
@@ -394,14 +397,14 @@ impl<D: Deed> Arena<D> {
         let (deed, rest) = match cut_first(span, len) {
             Ok(parts) => parts,
             Err(span) => {
-                self.tags.remove(first);
-                let whole = self.tags.join(origin.cell, false, origin.high);
+                let cell = self.tags.remove(first);
+                let whole = self.tags.join(cell, origin.rests);
                 self.tags.vacate(whole);
                 return Err(span);
             }
         };
-        self.free.insert_rest(rest);
-        tell_rests(&mut self.free, &mut self.tags, origin, cell);
+        let slot = self.free.insert_rest(rest);
+        tell(&mut self.free, &mut self.tags, cell, slot);
         self.imported.put(Import::new(source, whole));
         self.rover = first.end();
         Ok(Segment::new(self.id, Route::Direct, deed.into_deed()))
@@ -442,20 +445,19 @@ impl<D: Deed> Arena<D> {
             return Err(segment);
         }
         let tagged = HeldRange::new(segment.root(), segment.range());
-        if self.tags.get(tagged.base()) != Some(tagged) {
-            return Err(segment);
-        }
+        let cell = match self.tags.get(tagged.base()) {
+            Some(found) if found.range == tagged => found.cell,
+            _ => return Err(segment),
+        };
         let span = span_at(&self.owned, &self.imported, tagged.base()).unwrap();
         let lent = is_span(&self.imported, span);
-        let cell = self.tags.cell(tagged.base());
         let beside = self.tags.beside(cell, tagged.base(), tagged.end());
         self.tags.remove(tagged);
         let deed = Stored::new(segment.into_deed());
-        let back = self.free.give_back(span, lent, deed, beside);
-        let trace = self.free.trace();
-        let cell = self.tags.join(cell, trace.left, trace.right);
-        let Some(whole) = back else {
-            tell(&mut self.free, &mut self.tags, cell);
+        let GivenBack { whole, slot, sides } = self.free.give_back(span, lent, deed, beside);
+        let cell = self.tags.join(cell, sides);
+        let Some(whole) = whole else {
+            tell(&mut self.free, &mut self.tags, cell, slot);
             return Ok(None);
         };
         self.tags.vacate(cell);
@@ -477,23 +479,13 @@ impl<D: Deed> Arena<D> {
         ensures covering { IfSome result (λ deed.
             Loses self.old.free self.new.free (D.holding deed)) }
     {
+        self.free.keep_sizes();
         let Some(whole) = lowest_whole(&self.owned, &self.free) else {
             return None;
         };
-        let _ = self.owned.take(whole);
-        let deed = self.free.take(whole, 0);
-        self.tags.vacate(self.free.trace().cell);
+        let _ = self.owned.take(whole.range);
+        self.tags.vacate(self.free.cell(whole.slot));
+        let deed = self.free.take(whole.range, whole.slot);
         Some(deed.into_deed())
     }
-}
-
-/// The `len` units from `base` on, which lie in the range.
-fn piece_of(range: HeldRange, base: u64, len: u64) -> Range
-    requires some { 0 < len }
-    requires from { range.range.base ≤ base }
-    requires to { base + len ≤ range.range.base + range.range.len }
-    ensures { result ≡ record { base = base; len = len } }
-{
-    let _ = range.end();
-    Range::new(base, len).unwrap()
 }

@@ -9,6 +9,7 @@ ghost use Rattle.std.specs.Prelude.{◌≡◌, ◌≢◌, ℕ, [], Some, IsTrue}
 ghost use Rattle.deed_core.specs.Extent.{Extent, end_of};
 ghost use Rattle.tag_arena.specs.Cells.{known_at, Forgets, Learns, ForgetsAt};
 
+use crate::cell_links::CellLink;
 use deed_core::Range;
 use std::alloc::{AllocError, Global};
 use std::marker::Model;
@@ -31,6 +32,13 @@ pub struct Beside {
     pub right: Side,
 }
 
+/// On which sides of a range there is a free one that belongs to it.
+#[derive(Clone, Copy, PartialEq, Eq, Debug)]
+pub struct Sides {
+    pub left: bool,
+    pub right: bool,
+}
+
 /// What stands in a cell.
 #[derive(Clone, Copy, Debug)]
 pub enum Standing {
@@ -44,8 +52,8 @@ pub enum Standing {
 #[derive(Debug, Drop)]
 pub struct Cell {
     standing: Standing,
-    before: Option<usize>,
-    after: Option<usize>,
+    before: CellLink,
+    after: CellLink,
 }
 
 impl Model for Cell {
@@ -112,11 +120,6 @@ impl Cells {
         Ok(self.add(None, None))
     }
 
-    /// Whether ranges have cells.
-    pub fn is_kept(&self) -> bool {
-        self.kept
-    }
-
     /// A cell between two others, of a free range.
     fn add(&mut self, before: Option<usize>, after: Option<usize>) -> Option<usize>
         ensures { Forgets self.old self.new }
@@ -134,15 +137,15 @@ impl Cells {
         match self.vacant {
             Some(at) if at < self.cells.len() => {
                 let cell = &mut self.cells[at];
-                self.vacant = cell.after;
+                self.vacant = cell.after.cell();
                 cell.standing = Standing::Free(0);
                 Some(at)
             }
             _ => {
                 let cell = Cell {
                     standing: Standing::Free(0),
-                    before: None,
-                    after: None,
+                    before: CellLink::none(),
+                    after: CellLink::none(),
                 };
                 if self.cells.push(cell).is_err() {
                     return None;
@@ -174,7 +177,7 @@ impl Cells {
         if let Some(at) = at {
             if at < self.cells.len() {
                 let cell = &mut self.cells[at];
-                cell.after = after;
+                cell.after = CellLink::to(after);
             }
         }
     }
@@ -185,7 +188,7 @@ impl Cells {
         if let Some(at) = at {
             if at < self.cells.len() {
                 let cell = &mut self.cells[at];
-                cell.before = before;
+                cell.before = CellLink::to(before);
             }
         }
     }
@@ -196,7 +199,7 @@ impl Cells {
             return (None, None);
         }
         let cell = &self.cells[at];
-        (cell.before, cell.after)
+        (cell.before.cell(), cell.after.cell())
     }
 
     /// Takes a cell out from between its neighbors: it may be used again.
@@ -210,7 +213,7 @@ impl Cells {
         self.link(before, after);
         let cell = &mut self.cells[at];
         cell.standing = Standing::Free(0);
-        cell.after = self.vacant;
+        cell.after = CellLink::to(self.vacant);
         self.vacant = Some(at);
     }
 
@@ -277,17 +280,17 @@ impl Cells {
     /// A piece of the free range in a cell is allocated. The low rest, if there is one, keeps the
     /// cell, and the piece has a new one behind it; then comes the cell of the high rest, which is
     /// the answer.
-    pub fn carve(&mut self, at: usize, piece: Range, low: bool, high: bool) -> Option<usize>
+    pub fn carve(&mut self, at: usize, piece: Range, rests: Sides) -> Option<usize>
         requires { (k : ℕ) (x : Extent) → known_at self.old k ≡ Some x → x.base ≢ piece.base }
         ensures { Learns piece self.old self.new }
     {
         let mut place = at;
-        if low {
+        if rests.left {
             let (_, after) = self.links(at);
             place = self.add(Some(at), after)?;
         }
         let mut rest = None;
-        if high {
+        if rests.right {
             let (_, after) = self.links(place);
             rest = self.add(Some(place), after);
         }
@@ -343,17 +346,17 @@ impl Cells {
     }
 
     /// Joins the range in a cell with those that are free beside it, and answers their cell.
-    pub fn join(&mut self, at: usize, left: bool, right: bool) -> usize
+    pub fn join(&mut self, at: usize, sides: Sides) -> usize
         ensures { Forgets self.old self.new }
     {
         let (before, after) = self.links(at);
         if let Some(after) = after {
-            if right {
+            if sides.right {
                 self.unlink(after);
             }
         }
         match before {
-            Some(before) if left => {
+            Some(before) if sides.left => {
                 self.unlink(at);
                 before
             }

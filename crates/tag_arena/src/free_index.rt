@@ -1,7 +1,7 @@
 //! The free ranges of an arena, in orders and on lists, as its policy asks.
 ghost use Rattle.std.specs.Prelude.{◌≡◌, ◌≢◌, ◌+◌, ◌<◌, ◌≤◌, ◌++◌, ◌∷◌, [], All, Any, OnOk, OnErr};
 ghost use Rattle.std.specs.Prelude.{◌-◌, ◌%◌, ◌^◌, length, max, true, AllPairs, Contains, IfOk};
-ghost use Rattle.std.specs.Prelude.{IfSome, MatchBool, option_to_list};
+ghost use Rattle.std.specs.Prelude.{IfSome, MatchOption, option_to_list};
 ghost use Rattle.std.specs.Int.{IsPowerOfTwo};
 ghost use Rattle.std.specs.Option.{option_map};
 ghost use Rattle.deed_core.specs.Covering.{units_held};
@@ -20,6 +20,7 @@ ghost use Rattle.tag_arena.specs.FreeRanges.{keeps_sizes};
 use crate::cells::Side;
 use crate::cuts::Cut;
 use crate::earliest::next_fit;
+use crate::filling::fill;
 use crate::held_ranges::{HeldRange, held_range_of};
 use crate::newest_lists::NewestLists;
 use crate::orders::{Order, OrderedIndex};
@@ -28,7 +29,6 @@ use crate::probes::Probes;
 use crate::searches::{Fit, SlotRange, best_fit, newest, range_from, range_with};
 use crate::slot_searches::slot_of;
 use crate::slots::{Slots, TimedDeed};
-use crate::traces::Trace;
 use deed_core::{Deed, Request, Stored};
 use std::alloc::{AllocError, Global};
 use std::marker::Model;
@@ -43,7 +43,6 @@ pub struct FreeIndex<D: Deed> {
     lists: NewestLists,
     clock: u64,
     room: usize,
-    trace: Trace,
 }
 
 impl<D: Deed> Model for FreeIndex<D> {
@@ -64,6 +63,13 @@ impl<D: Deed> Model for FreeIndex<D> {
         IsIndexed f.policy f.slots f.rising f.sizes f.lists f.clock f.room };
 }
 
+/// A piece that was carved, and the slots of the rests beside it.
+pub struct Carved<D: Deed> {
+    pub low: Option<usize>,
+    pub piece: Stored<D>,
+    pub high: Option<usize>,
+}
+
 impl<D: Deed> FreeIndex<D> {
     /// No free range, and no room for any.
     pub fn new(alloc: Global, policy: Policy) -> FreeIndex<D>
@@ -76,11 +82,10 @@ impl<D: Deed> FreeIndex<D> {
             policy,
             slots: Slots::new(alloc),
             rising: OrderedIndex::new(alloc, Order::Rising, has_bases(policy)),
-            sizes: OrderedIndex::new(alloc, Order::Sizes, has_sizes(policy)),
+            sizes: OrderedIndex::new(alloc, Order::Sizes, false),
             lists: NewestLists::new(alloc, has_lists(policy)),
             clock: 0,
             room: 0,
-            trace: Trace::new(),
         }
     }
 
@@ -113,8 +118,8 @@ impl<D: Deed> FreeIndex<D> {
         }
         self.lists.reserve(room)?;
         self.slots.reserve(room)?;
-        self.rising.reserve(alloc, room)?;
-        self.sizes.reserve(alloc, room)?;
+        self.rising.reserve(alloc, room, has_bases(self.policy))?;
+        self.sizes.reserve(alloc, room, has_sizes(self.policy))?;
         self.room = room;
         Ok(())
     }
@@ -127,8 +132,8 @@ impl<D: Deed> FreeIndex<D> {
         self.rising.go_to(base, 0);
     }
 
-    /// A range becomes free: it is the newest. It takes no memory.
-    pub fn insert(&mut self, deed: Stored<D>)
+    /// A range becomes free: it is the newest. The answer is its slot. It takes no memory.
+    pub fn insert(&mut self, deed: Stored<D>) -> usize
         requires clear { All (Apart deed) self.old.ranges }
         requires room { length self.old.ranges < self.old.room }
         requires ticks { 0 < self.old.ticks }
@@ -145,8 +150,7 @@ impl<D: Deed> FreeIndex<D> {
         self.rising.enter(slot, tag);
         self.sizes.enter(slot, tag);
         self.lists.enter(slot, tag);
-        self.trace.older = self.trace.newest;
-        self.trace.newest = slot;
+        slot
     }
 
     /// A free range is free no more. Its slot may be the one that is likely.
@@ -166,7 +170,6 @@ impl<D: Deed> FreeIndex<D> {
         );
         let Some(slot) = found else { unreachable!() };
         let tag = self.slots.tag(slot);
-        self.trace.cell = self.slots.cell(slot);
         self.rising.strike(slot, tag);
         self.sizes.strike(slot, tag);
         self.lists.strike(slot, tag);
@@ -189,20 +192,30 @@ impl<D: Deed> FreeIndex<D> {
         self.slots.units()
     }
 
-    /// Whether it is a free range.
-    pub fn has(&self, range: HeldRange) -> bool
-        ensures { MatchBool result (Contains self.now.ranges range)
-            (¬ Contains self.now.ranges range) }
+    /// Whether it is a free range, and in which slot.
+    pub fn find(&self, range: HeldRange) -> Option<usize>
+        ensures { let free = self.now.ranges in
+            MatchOption result (¬ Contains free range) (λ slot. Contains free range) }
     {
-        let found = slot_of(
+        slot_of(
             self.policy,
             &self.slots,
             &self.rising,
             &self.sizes,
             range,
             0,
-        );
-        found.is_some()
+        )
+    }
+
+    /// Where the policy may ask for the order of sizes, it is kept from now on. It is for speed
+    /// alone, and takes no memory.
+    pub fn keep_sizes(&mut self)
+        requires apart { AllPairs Apart self.old.ranges }
+        ensures unchanged { self.new ≡ self.old }
+    {
+        if has_sizes(self.policy) {
+            fill(&self.slots, &mut self.sizes);
+        }
     }
 
     /// The free range that ends at `end`, if there is one. What stands there may be known; else
@@ -249,16 +262,19 @@ impl<D: Deed> FreeIndex<D> {
         Some(SlotRange { range, slot: 0 })
     }
 
-    /// The best range that serves the request, and its least address that does. Under `next` there
-    /// is no index for it.
+    /// The best range that serves the request, and its least address that does. The order of sizes
+    /// is kept from the first such call on: that one looks at each free range. Under `next` there
+    /// is no room for it.
     pub fn best(&mut self, quantum: u64, request: &Request, probes: &mut Probes) -> Option<Fit>
         requires is_kept { keeps_sizes self.old.policy ≡ true }
         requires quantum { IsPowerOfTwo quantum }
         requires good { IsGood quantum request.now }
+        requires apart { AllPairs Apart self.old.ranges }
         ensures choice { IsBestChoice quantum request.now self.old.ranges (base_of result) }
         ensures placed { IfSome result (IsFit quantum request.now self.old.ranges) }
         ensures unchanged { self.new ≡ self.old }
     {
+        fill(&self.slots, &mut self.sizes);
         best_fit(&self.slots, &mut self.sizes, quantum, request, probes)
     }
 
@@ -270,6 +286,7 @@ impl<D: Deed> FreeIndex<D> {
         requires quantum { IsPowerOfTwo quantum }
         requires good { IsGood quantum request.now }
         requires aligned { All (λ r. r.range.base % quantum ≡ 0) self.old.ranges }
+        requires apart { AllPairs Apart self.old.ranges }
         ensures choice { IsInstantChoice quantum request.now self.old.ranges (base_of result) }
         ensures placed { IfSome result (IsFit quantum request.now self.old.ranges) }
         ensures unchanged { self.new ≡ self.old }
@@ -338,17 +355,22 @@ impl<D: Deed> FreeIndex<D> {
         ensures one { self.old.policy ≡ Instant → ServedByList quantum request.now self.old.ranges
             → probes.old.count ≡ 0 → probes.new.count ≡ 1 }
     {
-        let fit = match self.policy {
+        match self.policy {
             Policy::Best => self.best(quantum, request, probes),
             Policy::Next => self.next(rover, quantum, request, probes),
             Policy::Instant => self.instant(quantum, request, probes),
-        }?;
-        self.trace.chosen = fit.slot;
-        Some(fit)
+        }
     }
 
-    /// Cuts the units from `base` to `end` out of a free range, which is free no more.
-    fn cut(&mut self, range: HeldRange, base: u64, end: u64) -> Result<Cut<D>, AllocError>
+    /// Cuts the units from `base` to `end` out of a free range, which is free no more. Its slot may
+    /// be the one that is likely.
+    fn cut(
+        &mut self,
+        range: HeldRange,
+        base: u64,
+        end: u64,
+        likely: usize,
+    ) -> Result<Cut<D>, AllocError>
         requires among { Contains self.old.ranges range }
         requires from { range.range.base ≤ base }
         requires some { base < end }
@@ -365,7 +387,7 @@ impl<D: Deed> FreeIndex<D> {
             &self.rising,
             &self.sizes,
             range,
-            self.trace.chosen,
+            likely,
         );
         let Some(slot) = found else { unreachable!() };
         let tag = self.slots.tag(slot);
@@ -376,8 +398,8 @@ impl<D: Deed> FreeIndex<D> {
         Ok(cut)
     }
 
-    /// A rest, if there is one, becomes free.
-    pub fn insert_rest(&mut self, rest: Option<Stored<D>>)
+    /// A rest, if there is one, becomes free. The answer is its slot.
+    pub fn insert_rest(&mut self, rest: Option<Stored<D>>) -> Option<usize>
         requires clear { IfSome rest (λ h. All (Apart h) self.old.ranges) }
         requires room { length self.old.ranges < self.old.room }
         requires ticks { 0 < self.old.ticks }
@@ -387,55 +409,43 @@ impl<D: Deed> FreeIndex<D> {
         ensures ticks { self.old.ticks ≤ self.new.ticks + 1 }
     {
         match rest {
-            Some(rest) => self.insert(rest),
-            None => {}
+            Some(rest) => Some(self.insert(rest)),
+            None => None,
         }
     }
 
-    /// Carves `len` units from `base` on out of a free range, whose rests become free, the low one
-    /// first. Where a split is refused, all is as it was.
-    pub fn carve(&mut self, range: HeldRange, base: u64, len: u64) -> Result<Stored<D>, AllocError>
-        requires among { Contains self.old.ranges range }
+    /// Carves the first `len` units of what was found out of its range, whose rests become free,
+    /// the low one first. Where a split is refused, all is as it was.
+    pub fn carve(&mut self, found: Fit, len: u64) -> Result<Carved<D>, AllocError>
+        requires among { Contains self.old.ranges found.range }
         requires some { 0 < len }
-        requires from { range.range.base ≤ base }
-        requires to { base + len ≤ end_of range.range }
+        requires from { found.range.range.base ≤ found.base }
+        requires to { found.base + len ≤ end_of found.range.range }
         requires apart { AllPairs Apart self.old.ranges }
         requires room { length self.old.ranges < self.old.room }
         requires ticks { 1 < self.old.ticks }
-        ensures piece { IfOk result (λ piece. piece ≡ part range base len) }
-        ensures carved { IfOk result (λ piece.
-            CarvesOut range piece self.old.ranges self.new.ranges) }
+        ensures piece { IfOk result (λ c. c.piece ≡ part found.range found.base len) }
+        ensures carved { IfOk result (λ c.
+            CarvesOut found.range c.piece self.old.ranges self.new.ranges) }
         ensures unchanged { OnErr result (self.new ≡ self.old) }
         ensures setup { (self.new.policy ≡ self.old.policy) × (self.new.room ≡ self.old.room) }
         ensures len { length self.new.ranges ≤ length self.old.ranges + 1 }
         ensures ticks { self.old.ticks ≤ self.new.ticks + 2 }
     {
+        let Fit { range, base, slot } = found;
         self.go_to(range.base());
         // For their clauses: each of these ranges has units.
         let _ = range.end();
         let _ = self.len();
-        let Cut { low, piece, high } = self.cut(range, base, base + len)?;
-        self.insert_rest(low);
-        self.insert_rest(high);
-        Ok(piece)
+        let Cut { low, piece, high } = self.cut(range, base, base + len, slot)?;
+        let low = self.insert_rest(low);
+        let high = self.insert_rest(high);
+        Ok(Carved { low, piece, high })
     }
 
-    /// What the index did last. It is for speed alone.
-    pub fn trace(&self) -> Trace {
-        self.trace
-    }
-
-    /// Tells which sides the range that came back was merged on. It is for speed alone.
-    pub fn note_merge(&mut self, left: bool, right: bool)
-        ensures unchanged { self.new ≡ self.old }
-    {
-        self.trace.left = left;
-        self.trace.right = right;
-    }
-
-    /// The cell of the range that was chosen last, if it has one. It is for speed alone.
-    pub fn chosen_cell(&self) -> Option<usize> {
-        self.slots.cell(self.trace.chosen)
+    /// The cell of the range in a slot, if it has one. It is for speed alone.
+    pub fn cell(&self, slot: usize) -> Option<usize> {
+        self.slots.cell(slot)
     }
 
     /// Tells the cell of the range in a slot. It is for speed alone.
@@ -457,7 +467,6 @@ impl<D: Deed> FreeIndex<D> {
             lists: _,
             clock: _,
             room: _,
-            trace: _,
         } = self;
         slots.destroy();
     }

@@ -1,5 +1,5 @@
 //! What a deed stands for, as plain data.
-ghost use Rattle.std.specs.Prelude.{◌≡◌, ◌<◌, HoldsAt, length};
+ghost use Rattle.std.specs.Prelude.{◌≡◌, ◌+◌, ◌<◌, ◌≤◌, HoldsAt, length};
 ghost use Rattle.deed_core.specs.Extent.{IsRange, end_of};
 
 use deed_core::{Deed, Range, Stored};
@@ -79,4 +79,15 @@ pub fn held_range_at<D: Deed>(free: &[Stored<D>], at: usize) -> HeldRange
     ensures range { IsRange result.range }
 {
     held_range_of(&free[at])
+}
+
+/// The `len` units from `base` on, which lie in the range.
+pub fn piece_of(range: HeldRange, base: u64, len: u64) -> Range
+    requires some { 0 < len }
+    requires from { range.range.base ≤ base }
+    requires to { base + len ≤ range.range.base + range.range.len }
+    ensures { result ≡ record { base = base; len = len } }
+{
+    let _ = range.end();
+    Range::new(base, len).unwrap()
 }

@@ -44,12 +44,14 @@
 #![tactic(auto)]
 
 mod arenas;
+mod cell_links;
 mod cell_notes;
 mod cells;
 mod cuts;
 mod earliest;
 mod entries;
 mod faults;
+mod filling;
 mod free_index;
 mod held_ranges;
 mod laws;
@@ -69,7 +71,6 @@ mod span_entries;
 mod span_searches;
 mod spans;
 mod tags;
-mod traces;
 mod whole_spans;
 
 pub use arenas::{Arena, ArenaReport};

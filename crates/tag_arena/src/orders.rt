@@ -40,7 +40,7 @@ pub fn entry_of(order: Order, slot: usize, tag: SlotTag) -> IndexEntry
     }
 }
 
-/// An index in one order, or nothing where it isn't kept.
+/// An index in one order. Where it isn't kept, it has nothing in it.
 #[derive(Drop)]
 pub struct OrderedIndex {
     order: Order,
@@ -75,13 +75,27 @@ impl OrderedIndex {
         }
     }
 
-    /// Makes room for `room` entries in all, where it is kept.
-    pub fn reserve(&mut self, alloc: Global, room: usize) -> Result<(), AllocError>
-        ensures ok { OnOk result (self.old.kept ≡ true → self.new.room ≡ max room self.old.room) }
+    /// Whether it is kept.
+    pub fn is_kept(&self) -> bool
+        ensures { result ≡ self.now.kept }
+    {
+        self.kept
+    }
+
+    /// From now on it is kept. Its entries are for the caller to put in.
+    pub fn begin(&mut self)
+        ensures { self.new ≡ record self.old { kept = true } }
+    {
+        self.kept = true;
+    }
+
+    /// Makes room for `room` entries in all where that is asked for, whether it is kept or not.
+    pub fn reserve(&mut self, alloc: Global, room: usize, asked: bool) -> Result<(), AllocError>
+        ensures ok { OnOk result (asked ≡ true → self.new.room ≡ max room self.old.room) }
         ensures rest { self.new ≡ record self.old { room = self.new.room } }
         ensures grows { self.old.room ≤ self.new.room }
     {
-        if self.kept {
+        if asked {
             self.rows.reserve(alloc, room)?;
         }
         Ok(())

@@ -7,11 +7,25 @@ ghost use Rattle.tag_arena.specs.Neighbors.{IsBeside, IsKnownBeside, Merges, Tak
 ghost use Rattle.tag_arena.specs.Neighbors.{TakesRight};
 ghost use Rattle.tag_arena.specs.Returns.{ComesBack};
 
-use crate::cells::{Beside, Side};
+use crate::cells::{Beside, Side, Sides};
 use crate::free_index::FreeIndex;
 use crate::held_ranges::{HeldRange, held_range_of};
 use crate::merges::{join_left, join_right};
 use deed_core::{Deed, Stored};
+
+/// A deed with those that were free beside it, and on which sides there was one.
+pub struct Merged<D: Deed> {
+    pub deed: Stored<D>,
+    pub sides: Sides,
+}
+
+/// What a piece that came back has become: the whole of a span that was lent, or a free range in a
+/// slot; and on which sides it was merged.
+pub struct GivenBack<D: Deed> {
+    pub whole: Option<Stored<D>>,
+    pub slot: Option<usize>,
+    pub sides: Sides,
+}
 
 impl<D: Deed> FreeIndex<D> {
     /// Takes out the free range that ends at `base`, unless the span begins there.
@@ -45,24 +59,27 @@ impl<D: Deed> FreeIndex<D> {
     }
 
     /// The deed and its free neighbours inside the span, which are taken out. It takes no memory.
-    pub fn merge(&mut self, span: HeldRange, deed: Stored<D>, beside: Beside) -> Stored<D>
+    pub fn merge(&mut self, span: HeldRange, deed: Stored<D>, beside: Beside) -> Merged<D>
         requires inside { IsPartOf span deed }
         requires some { 0 < deed.range.len }
         requires beside { All (IsBeside span) self.old.ranges }
         requires apart { AllPairs Apart self.old.ranges }
         requires clear { All (Apart deed) self.old.ranges }
         requires known { IsKnownBeside beside deed.range self.old.ranges }
-        ensures merges { Merges span deed self.old.ranges result self.new.ranges }
+        ensures merges { Merges span deed self.old.ranges result.deed self.new.ranges }
         ensures rest { self.new ≡ record self.old { ranges = self.new.ranges } }
     {
         let range = deed.range();
         let base = range.base();
         self.go_to(base);
-        let left = self.take_left(span.base(), base, beside.left);
-        let right = self.take_right(range.end(), span.end(), beside.right);
-        self.note_merge(left.is_some(), right.is_some());
-        let low = join_left(left, deed);
-        join_right(low, right)
+        let low = self.take_left(span.base(), base, beside.left);
+        let high = self.take_right(range.end(), span.end(), beside.right);
+        let sides = Sides {
+            left: low.is_some(),
+            right: high.is_some(),
+        };
+        let deed = join_right(join_left(low, deed), high);
+        Merged { deed, sides }
     }
 
     /// A piece of a span comes back. With its free neighbours it is the newest range; where that is
@@ -73,7 +90,7 @@ impl<D: Deed> FreeIndex<D> {
         lent: bool,
         deed: Stored<D>,
         beside: Beside,
-    ) -> Option<Stored<D>>
+    ) -> GivenBack<D>
         requires inside { IsPartOf span deed }
         requires some { 0 < deed.range.len }
         requires beside { All (IsBeside span) self.old.ranges }
@@ -82,15 +99,23 @@ impl<D: Deed> FreeIndex<D> {
         requires known { IsKnownBeside beside deed.range self.old.ranges }
         requires room { length self.old.ranges < self.old.room }
         requires ticks { 0 < self.old.ticks }
-        ensures returned { ComesBack lent span deed self.old.ranges self.new.ranges result }
+        ensures returned { ComesBack lent span deed self.old.ranges self.new.ranges result.whole }
         ensures setup { (self.new.policy ≡ self.old.policy) × (self.new.room ≡ self.old.room) }
         ensures ticks { self.old.ticks ≤ self.new.ticks + 1 }
     {
-        let merged = self.merge(span, deed, beside);
-        if lent && held_range_of(&merged) == span {
-            return Some(merged);
+        let Merged { deed, sides } = self.merge(span, deed, beside);
+        if lent && held_range_of(&deed) == span {
+            return GivenBack {
+                whole: Some(deed),
+                slot: None,
+                sides,
+            };
         }
-        self.insert(merged);
-        None
+        let slot = Some(self.insert(deed));
+        GivenBack {
+            whole: None,
+            slot,
+            sides,
+        }
     }
 }

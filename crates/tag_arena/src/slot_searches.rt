@@ -3,7 +3,7 @@ ghost use Rattle.std.specs.Prelude.{◌≡◌, ℕ, true};
 ghost use Rattle.tag_arena.specs.declared.orders.Order.TheVariants.{Rising, Sizes};
 ghost use Rattle.tag_arena.specs.Boundaries.{LiesIn};
 ghost use Rattle.tag_arena.specs.FreeTags.{AreTags};
-ghost use Rattle.tag_arena.specs.FreeRanges.{keeps_bases, keeps_sizes};
+ghost use Rattle.tag_arena.specs.FreeRanges.{keeps_bases};
 ghost use Rattle.tag_arena.specs.Orders.{Mirrors};
 
 use crate::held_ranges::HeldRange;
@@ -12,7 +12,8 @@ use crate::policies::Policy;
 use crate::slots::Slots;
 use deed_core::Deed;
 
-/// The slot of a free range, if it is one: the one that is likely, or else by the order of sizes.
+/// The slot of a free range, if it is one: the one that is likely, or else by the order of sizes,
+/// or, where that isn't kept, by a look at each slot.
 pub fn slot_by_size<D: Deed>(
     slots: &Slots<D>,
     sizes: &OrderedIndex,
@@ -20,11 +21,14 @@ pub fn slot_by_size<D: Deed>(
     likely: usize,
 ) -> Option<usize>
     requires tags { (clock : ℕ) × AreTags clock slots.now.tags }
-    requires mirrors { Mirrors Sizes sizes.now.items slots.now.tags }
+    requires mirrors { sizes.now.kept ≡ true → Mirrors Sizes sizes.now.items slots.now.tags }
     ensures { LiesIn range slots.now.tags result }
 {
     if slots.is_in(likely, range) {
         return Some(likely);
+    }
+    if !sizes.is_kept() {
+        return slots.holding(range);
     }
     let entry = sizes.first_from(range.len(), range.base())?;
     if slots.tag(entry.slot).range() != range {
@@ -65,7 +69,7 @@ pub fn slot_of<D: Deed>(
 ) -> Option<usize>
     requires tags { (clock : ℕ) × AreTags clock slots.now.tags }
     requires bases { keeps_bases policy ≡ true → Mirrors Rising rising.now.items slots.now.tags }
-    requires sizes { keeps_sizes policy ≡ true → Mirrors Sizes sizes.now.items slots.now.tags }
+    requires sizes { sizes.now.kept ≡ true → Mirrors Sizes sizes.now.items slots.now.tags }
     ensures { LiesIn range slots.now.tags result }
 {
     match policy {

@@ -2,11 +2,12 @@
 ghost use Rattle.std.specs.Prelude.{◌≡◌, ◌+◌, ◌<◌, ◌≤◌, [], None, Some, OnOk, OnErr, IsTrue, ◌↔◌};
 ghost use Rattle.std.specs.Prelude.{All, length, max, IfOk, IfSome, sum_by};
 ghost use Rattle.deed_core.specs.Extent.{IsRange, end_of};
-ghost use Rattle.tag_arena.specs.Boundaries.{StandsAt, begin_of, tag_end};
+ghost use Rattle.tag_arena.specs.Boundaries.{LiesIn, StandsAt, begin_of, tag_end};
 ghost use Rattle.tag_arena.specs.Cuts.{IsCut};
 ghost use Rattle.tag_arena.specs.FreeTags.{FreeTag, tag_at, SlotBecomes};
 ghost use Rattle.tag_arena.specs.Slotted.{taken_count, slot_units};
 
+use crate::cell_links::CellLink;
 use crate::cuts::{Cut, cut_out};
 use crate::held_ranges::{HeldRange, held_range_of};
 use deed_core::{Deed, Range, Stored};
@@ -19,7 +20,7 @@ pub struct TimedDeed<D: Deed> {
     deed: Stored<D>,
     since: u64,
     power: u32,
-    cell: Option<usize>,
+    cell: CellLink,
 }
 
 impl<D: Deed> Model for TimedDeed<D> {
@@ -38,7 +39,7 @@ impl<D: Deed> TimedDeed<D> {
             deed,
             since,
             power,
-            cell: None,
+            cell: CellLink::none(),
         }
     }
 
@@ -332,10 +333,21 @@ impl<D: Deed> Slots<D> {
         None
     }
 
+    /// The slot of a range, if it lies in one, by a look at each.
+    pub fn holding(&self, range: HeldRange) -> Option<usize>
+        ensures { LiesIn range self.now.tags result }
+    {
+        for slot in 0..self.slots.len() {
+            if self.is_in(slot, range) {
+                return Some(slot);
+            }
+        }
+        None
+    }
+
     /// Whether a range lies in a slot.
     pub fn is_in(&self, slot: usize, range: HeldRange) -> bool
-        ensures { IsTrue result → (t : FreeTag) × (tag_at self.now.tags slot ≡ Some t)
-            × (t.range ≡ range) }
+        ensures { IsTrue result ↔ LiesIn range self.now.tags (Some slot) }
     {
         if slot >= self.slots.len() {
             return false;
@@ -352,7 +364,7 @@ impl<D: Deed> Slots<D> {
             return None;
         }
         match &self.slots[slot] {
-            Some(timed) => timed.cell,
+            Some(timed) => timed.cell.cell(),
             None => None,
         }
     }
@@ -365,7 +377,7 @@ impl<D: Deed> Slots<D> {
             return;
         }
         if let Some(timed) = &mut self.slots[slot] {
-            timed.cell = cell;
+            timed.cell = CellLink::to(cell);
         }
     }
 

@@ -1,10 +1,12 @@
 //! The allocated ranges, by their bases.
 ghost use Rattle.std.specs.Prelude.{◌≡◌, ◌+◌, ◌^◌, ◌<◌, OnOk, OnErr, ℕ, Some, None};
 ghost use Rattle.std.specs.FinMap as finmap;
+ghost use Rattle.std.specs.Option.{option_map};
 ghost use Rattle.deed_core.specs.Holding.{Holding};
 ghost use Rattle.deed_core.specs.Extent.{end_of};
 
-use crate::cells::{Beside, Cells, Side};
+use crate::cell_links::CellLink;
+use crate::cells::{Beside, Cells, Side, Sides};
 use crate::held_ranges::HeldRange;
 use std::alloc::{AllocError, Global};
 use std::collections::HashMap;
@@ -14,7 +16,7 @@ use std::marker::Model;
 #[derive(Debug, Drop)]
 pub struct CellRange {
     range: HeldRange,
-    cell: Option<usize>,
+    cell: CellLink,
 }
 
 impl Model for CellRange {
@@ -30,16 +32,21 @@ impl Model for CellRange {
 #[derive(Clone, Copy, Debug)]
 pub struct Origin {
     pub cell: Option<usize>,
-    pub low: bool,
-    pub high: bool,
+    pub rests: Sides,
+}
+
+/// An allocated range that was found, and its cell, if it has one.
+#[derive(Clone, Copy, Debug)]
+pub struct Found {
+    pub range: HeldRange,
+    pub cell: Option<usize>,
 }
 
 /// The base last gone to, with what stands there.
 #[derive(Clone, Copy, Debug)]
 pub struct Near {
     base: u64,
-    range: HeldRange,
-    cell: Option<usize>,
+    found: Found,
 }
 
 /// Each allocated range at its base, how many they are, the base last gone to, and what is known
@@ -68,7 +75,7 @@ impl Model for Tags {
 
     ghost invariant = { λ a. let tags = finmap.from_entries {R = nat_cmp} a.ranges.entries in
         (a.count ≡ finmap.len tags)
-        × IfSome a.near (λ near. finmap.get tags near.base ≡ Some near.range)
+        × IfSome a.near (λ near. finmap.get tags near.base ≡ Some near.found.range)
         × AreAllocated tags a.cells };
 }
 
@@ -96,42 +103,33 @@ impl Tags {
     pub fn go_to(&mut self, base: u64)
         ensures unchanged { self.new ≡ self.old }
     {
-        self.near = match self.ranges.get(&base) {
-            Some(found) => Some(Near {
-                base,
-                range: found.range,
-                cell: found.cell,
-            }),
+        self.near = match self.look(base) {
+            Some(found) => Some(Near { base, found }),
             None => None,
         };
     }
 
-    pub fn get(&self, base: u64) -> Option<HeldRange>
-        ensures { result ≡ finmap.get self.now base }
+    /// The range at a base, if one stands there.
+    pub fn get(&self, base: u64) -> Option<Found>
+        ensures { option_map (λ f. f.range) result ≡ finmap.get self.now base }
     {
         if let Some(near) = self.near {
             if near.base == base {
-                return Some(near.range);
+                return Some(near.found);
             }
         }
-        match self.ranges.get(&base) {
-            Some(found) => Some(found.range),
-            None => None,
-        }
+        self.look(base)
     }
 
-    /// The cell of the range at a base, if there is one. It is for speed alone.
-    pub fn cell(&self, base: u64) -> Option<usize> {
-        if !self.cells.is_kept() {
-            return None;
-        }
-        if let Some(near) = self.near {
-            if near.base == base {
-                return near.cell;
-            }
-        }
+    /// The same, by a look in the map.
+    fn look(&self, base: u64) -> Option<Found>
+        ensures { option_map (λ f. f.range) result ≡ finmap.get self.now base }
+    {
         match self.ranges.get(&base) {
-            Some(found) => found.cell,
+            Some(found) => Some(Found {
+                range: found.range,
+                cell: found.cell.cell(),
+            }),
             None => None,
         }
     }
@@ -169,11 +167,11 @@ impl Tags {
     }
 
     /// Joins what is free in a cell with what is free beside it, and answers its cell.
-    pub fn join(&mut self, cell: Option<usize>, left: bool, right: bool) -> Option<usize>
+    pub fn join(&mut self, cell: Option<usize>, sides: Sides) -> Option<usize>
         ensures unchanged { self.new ≡ self.old }
     {
         let at = cell?;
-        Some(self.cells.join(at, left, right))
+        Some(self.cells.join(at, sides))
     }
 
     /// What was free in a cell is gone.
@@ -194,26 +192,27 @@ impl Tags {
     {
         self.cells.reserve()?;
         let cell = match origin.cell {
-            Some(_) if origin.low => Some(self.cells.next_new()),
+            Some(_) if origin.rests.left => Some(self.cells.next_new()),
             other => other,
         };
+        let cell = CellLink::to(cell);
         self.ranges.insert(range.base(), CellRange { range, cell })?;
         self.count += 1;
         match origin.cell {
-            Some(at) => Ok(self.cells.carve(at, range.range(), origin.low, origin.high)),
+            Some(at) => Ok(self.cells.carve(at, range.range(), origin.rests)),
             None => Ok(None),
         }
     }
 
-    /// Takes out a range that stands.
-    pub fn remove(&mut self, range: HeldRange)
+    /// Takes out a range that stands, and answers its cell, if it has one.
+    pub fn remove(&mut self, range: HeldRange) -> Option<usize>
         requires { finmap.get self.old range.range.base ≡ Some range }
         ensures { self.new ≡ finmap.remove self.old range.range.base }
     {
         self.near = None;
         let base = range.base();
         let cell = match self.ranges.remove(&base) {
-            Some(found) => found.cell,
+            Some(found) => found.cell.cell(),
             None => None,
         };
         self.count -= 1;
@@ -221,5 +220,6 @@ impl Tags {
             Some(at) => self.cells.free(at, base),
             None => self.cells.forget(),
         }
+        cell
     }
 }

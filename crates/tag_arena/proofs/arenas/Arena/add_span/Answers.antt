@@ -14,8 +14,8 @@ use Rattle.tag_arena.specs.Spanned.{holdings_of}
 use Rattle.tag_arena.proofs.Granted.{clear_inside, ends_alone, held_more}
 use Rattle.tag_arena.proofs.arenas.Arena.add_span.Goals as goal
 
-pub insert-requires-clause-clear : goal.insert-requires-clause-clear
-insert-requires-clause-clear g c =
+pub insert-slot-requires-clause-clear : goal.insert-slot-requires-clause-clear
+insert-slot-requires-clause-clear g c =
     let a = the_state c.self.invariant.0 in
     let h : Holding = c.new-stored.result in
     let range : c.range-range.result ≡ h.range = same_range _ h _ c.range-range.ensures.value c.new-stored.ensures in
@@ -31,10 +31,10 @@ invariant_of-self-2 g c =
     let range : c.range-range.result ≡ h.range = same_range _ h _ c.range-range.ensures.value c.new-stored.ensures in
     let owned : holdings_of c.put.new.self.items ≡ a.owned ++ h ∷ [] = held_more _ _ _ _ h c.put.ensures c.reserve.ensures.items (ap (λ (t : Tag). t.holding) c.new.ensures ∙ c.held_range_of.ensures.value) in
     let tags : c.tell.new.tags ≡ c.self.inside.tags = c.tell.ensures.tags ∙ c.open.ensures.unchanged in
-    let free : c.tell.new.free.ranges ≡ a.free ++ h ∷ [] = ap (λ v. v.ranges) c.tell.ensures.free ∙ pushed _ _ _ _ _ c.insert.ensures.ranges (ap (λ v. v.ranges) c.reserve_free.ensures.rest) refl in
+    let free : c.tell.new.free.ranges ≡ a.free ++ h ∷ [] = ap (λ v. v.ranges) c.tell.ensures.free ∙ pushed _ _ _ _ _ c.insert-slot.ensures.ranges (ap (λ v. v.ranges) c.reserve_free.ensures.rest) refl in
     let clear = subst (λ (s : ArenaState). IsClear s c.range-range.result × OnQuantum s.quantum c.range-range.result) (sym c.self.view_is) (c.if-has_overlap.ensures.clear, c.if-not-is_aligned.ensures.0 refl) in (
       rw (owned, free, tags) (added_sound a c.self.invariant.0 h c.held_range_of.ensures.range (subst (λ (e : Extent). OnQuantum c.self.inside.quantum e) range clear.1) (subst (λ (e : Extent). IsClear a e) range clear.0)),
-      backed_told c.self.inside.policy _ _ _ _ c.tell.ensures.free tags (backed_insert c.self.inside.policy c.self.inside.free c.reserve_free.new.free c.reserve_free.ensures.rest c.insert.new.self h _ c.in-Ok-reserve_free.ensures.room c.in-Ok-reserve_free.ensures.ticks c.insert.ensures.ranges c.insert.ensures.policy c.insert.ensures.room c.insert.ensures.ticks c.self.invariant.1),
+      backed_told c.self.inside.policy _ _ _ _ c.tell.ensures.free tags (backed_insert c.self.inside.policy c.self.inside.free c.reserve_free.new.free c.reserve_free.ensures.rest c.insert-slot.new.self h _ c.in-Ok-reserve_free.ensures.room c.in-Ok-reserve_free.ensures.ticks c.insert-slot.ensures.ranges c.insert-slot.ensures.policy c.insert-slot.ensures.room c.insert-slot.ensures.ticks c.self.invariant.1),
     )
 
 pub returns-clause-sound : goal.returns-clause-sound
@@ -44,7 +44,7 @@ returns-clause-sound g c =
     let range : c.range-range.result ≡ h.range = same_range _ h _ c.range-range.ensures.value c.new-stored.ensures in
     let owned : holdings_of c.put.new.self.items ≡ a.owned ++ h ∷ [] = held_more _ _ _ _ h c.put.ensures c.reserve.ensures.items (ap (λ (t : Tag). t.holding) c.new.ensures ∙ c.held_range_of.ensures.value) in
     let tags : c.tell.new.tags ≡ c.self.inside.tags = c.tell.ensures.tags ∙ c.open.ensures.unchanged in
-    let free : c.tell.new.free.ranges ≡ a.free ++ h ∷ [] = ap (λ v. v.ranges) c.tell.ensures.free ∙ pushed _ _ _ _ _ c.insert.ensures.ranges (ap (λ v. v.ranges) c.reserve_free.ensures.rest) refl in
+    let free : c.tell.new.free.ranges ≡ a.free ++ h ∷ [] = ap (λ v. v.ranges) c.tell.ensures.free ∙ pushed _ _ _ _ _ c.insert-slot.ensures.ranges (ap (λ v. v.ranges) c.reserve_free.ensures.rest) refl in
     let clear = subst (λ (s : ArenaState). IsClear s c.range-range.result × OnQuantum s.quantum c.range-range.result) (sym c.self.view_is) (c.if-has_overlap.ensures.clear, c.if-not-is_aligned.ensures.0 refl) in
     rw (owned, free, tags) (added_sound a c.self.invariant.0 h c.held_range_of.ensures.range (subst (λ (e : Extent). OnQuantum c.self.inside.quantum e) range clear.1) (subst (λ (e : Extent). IsClear a e) range clear.0))
 

@@ -30,8 +30,8 @@ insert-requires-clause-absent g c =
     let absent = import_absent a t n k in
     ap (λ m. finmap.get m c.new-first.result.range.base) c.open.ensures.unchanged ∙ subst (λ (h : Holding). finmap.get c.self.inside.tags h.range.base ≡ None) (sym piece_is) absent
 
-pub remove-requires : goal.remove-requires
-remove-requires g c = stands _ _ _ _ c.in-Ok-insert.ensures.ok
+pub remove-cell-requires : goal.remove-cell-requires
+remove-cell-requires g c = stands _ _ _ _ c.in-Ok-insert.ensures.ok
 
 pub invariant_of-self-in-Err : goal.invariant_of-self-in-Err
 invariant_of-self-in-Err g c =
@@ -45,7 +45,7 @@ invariant_of-self-in-Err g c =
     let piece_is = tagged_is _ (part t.holding t.holding.range.base n) _ _ c.new-first.ensures c.root-2.ensures (c.piece_of.ensures ∙ ap (λ (b : ℕ). record { base = b; len = n }) base_of) in
     let absent = import_absent a t n k in
     let absent_here = subst (λ (h : Holding). finmap.get c.self.inside.tags h.range.base ≡ None) (sym piece_is) absent in
-    let tags : c.vacate-in-Err.new.self ≡ c.self.inside.tags = c.vacate-in-Err.ensures.unchanged ∙ (c.join-whole.ensures.unchanged ∙ undone c.self.inside.tags c.insert.new.self c.remove.new.self c.new-first.result.range.base c.new-first.result absent_here (c.in-Ok-insert.ensures.ok ∙ ap (λ m. finmap.insert m c.new-first.result.range.base c.new-first.result) c.open.ensures.unchanged) c.remove.ensures) in
+    let tags : c.vacate-in-Err.new.self ≡ c.self.inside.tags = c.vacate-in-Err.ensures.unchanged ∙ (c.join-whole.ensures.unchanged ∙ undone c.self.inside.tags c.insert.new.self c.remove-cell.new.self c.new-first.result.range.base c.new-first.result absent_here (c.in-Ok-insert.ensures.ok ∙ ap (λ m. finmap.insert m c.new-first.result.range.base c.new-first.result) c.open.ensures.unchanged) c.remove-cell.ensures) in
     let same = ap (λ (xs : List Tag). record a { imported = xs; free = c.reserve_free.new.free.ranges; allocated = c.vacate-in-Err.new.self }) c.reserve.ensures.items ∙ as_it_was a _ _ (ap (λ v. v.ranges) c.reserve_free.ensures.rest) tags in
     let len = ap finmap.len tags in (
       subst IsSoundArena (sym same) c.self.invariant.0,
@@ -64,12 +64,12 @@ returns-in-Err-clause-unchanged g c =
     let piece_is = tagged_is _ (part t.holding t.holding.range.base n) _ _ c.new-first.ensures c.root-2.ensures (c.piece_of.ensures ∙ ap (λ (b : ℕ). record { base = b; len = n }) base_of) in
     let absent = import_absent a t n k in
     let absent_here = subst (λ (h : Holding). finmap.get c.self.inside.tags h.range.base ≡ None) (sym piece_is) absent in
-    let tags : c.vacate-in-Err.new.self ≡ c.self.inside.tags = c.vacate-in-Err.ensures.unchanged ∙ (c.join-whole.ensures.unchanged ∙ undone c.self.inside.tags c.insert.new.self c.remove.new.self c.new-first.result.range.base c.new-first.result absent_here (c.in-Ok-insert.ensures.ok ∙ ap (λ m. finmap.insert m c.new-first.result.range.base c.new-first.result) c.open.ensures.unchanged) c.remove.ensures) in
+    let tags : c.vacate-in-Err.new.self ≡ c.self.inside.tags = c.vacate-in-Err.ensures.unchanged ∙ (c.join-whole.ensures.unchanged ∙ undone c.self.inside.tags c.insert.new.self c.remove-cell.new.self c.new-first.result.range.base c.new-first.result absent_here (c.in-Ok-insert.ensures.ok ∙ ap (λ m. finmap.insert m c.new-first.result.range.base c.new-first.result) c.open.ensures.unchanged) c.remove-cell.ensures) in
     let same = ap (λ (xs : List Tag). record a { imported = xs; free = c.reserve_free.new.free.ranges; allocated = c.vacate-in-Err.new.self }) c.reserve.ensures.items ∙ as_it_was a _ _ (ap (λ v. v.ranges) c.reserve_free.ensures.rest) tags in
     same ∙ c.self.view_is
 
-pub insert_rest-requires-clause-clear : goal.insert_rest-requires-clause-clear
-insert_rest-requires-clause-clear g c =
+pub insert_rest-slot-requires-clause-clear : goal.insert_rest-slot-requires-clause-clear
+insert_rest-slot-requires-clause-clear g c =
     let a = the_state c.self.invariant.0 in
     let t : Tag = c.args.span in
     let n : ℕ = c.args.len in
@@ -89,15 +89,15 @@ invariant_of-self-2 g c =
     let piece_is = tagged_is _ (part t.holding t.holding.range.base n) _ _ c.new-first.ensures c.root-2.ensures (c.piece_of.ensures ∙ ap (λ (b : ℕ). record { base = b; len = n }) base_of) in
     let absent = import_absent a t n k in
     let high_is : option_to_list c.in-Ok-cut_first.parts.1 ≡ rest_between t.holding (t.holding.range.base + n) (end_of t.holding.range) = c.in-Ok-cut_first.ensures.high in
-    let free : c.insert_rest.new.self.ranges ≡ a.free ++ rest_between t.holding (t.holding.range.base + n) (end_of t.holding.range) = c.insert_rest.ensures.ranges ∙ ap (λ v. v.ranges ++ option_to_list c.in-Ok-cut_first.parts.1) c.reserve_free.ensures.rest ∙ ap (λ (xs : List Holding). a.free ++ xs) high_is in
+    let free : c.insert_rest-slot.new.self.ranges ≡ a.free ++ rest_between t.holding (t.holding.range.base + n) (end_of t.holding.range) = c.insert_rest-slot.ensures.ranges ∙ ap (λ v. v.ranges ++ option_to_list c.in-Ok-cut_first.parts.1) c.reserve_free.ensures.rest ∙ ap (λ (xs : List Holding). a.free ++ xs) high_is in
     let import_new : c.new.result ≡ t = c.new.ensures ∙ same_tag _ t c.arena-source.ensures (sym c.requires.route) whole_is in
     let imported : c.put.new.self.items ≡ a.imported ++ t ∷ [] = c.put.ensures ∙ ap (λ (x : Tag). c.reserve.new.self.items ++ x ∷ []) import_new ∙ ap (λ (xs : List Tag). xs ++ t ∷ []) c.reserve.ensures.items in
     let tags : c.insert.new.self ≡ finmap.insert a.allocated t.holding.range.base (part t.holding t.holding.range.base n) = c.in-Ok-insert.ensures.ok ∙ ap (λ m. finmap.insert m c.new-first.result.range.base c.new-first.result) c.open.ensures.unchanged ∙ ap (λ (h : Holding). finmap.insert c.self.inside.tags h.range.base h) piece_is in
     let rover_is : c.end-self-inside.result ≡ t.holding.range.base + n = c.end-self-inside.ensures.value ∙ ap (λ (h : Holding). end_of h.range) piece_is in
-    let after = import_is a t n k _ _ _ _ rover_is imported (ap (λ v. v.ranges) c.tell_rests.ensures.free ∙ free) (c.tell_rests.ensures.tags ∙ tags) in
+    let after = import_is a t n k _ _ _ _ rover_is imported (ap (λ v. v.ranges) c.tell.ensures.free ∙ free) (c.tell.ensures.tags ∙ tags) in
     let len = ap finmap.len tags ∙ len_more a.allocated t.holding.range.base (part t.holding t.holding.range.base n) absent in (
       import_sound a t n k _ after,
-      backed_told c.self.inside.policy _ _ _ _ c.tell_rests.ensures.free c.tell_rests.ensures.tags (backed_import c.self.inside.policy c.self.inside.free c.reserve_free.new.free c.reserve_free.ensures.rest c.insert_rest.new.self c.in-Ok-cut_first.parts.1 _ _ c.in-Ok-reserve_free.ensures.room c.in-Ok-reserve_free.ensures.ticks c.insert_rest.ensures.ranges c.insert_rest.ensures.policy c.insert_rest.ensures.room c.insert_rest.ensures.ticks len c.self.invariant.1),
+      backed_told c.self.inside.policy _ _ _ _ c.tell.ensures.free c.tell.ensures.tags (backed_import c.self.inside.policy c.self.inside.free c.reserve_free.new.free c.reserve_free.ensures.rest c.insert_rest-slot.new.self c.in-Ok-cut_first.parts.1 _ _ c.in-Ok-reserve_free.ensures.room c.in-Ok-reserve_free.ensures.ticks c.insert_rest-slot.ensures.ranges c.insert_rest-slot.ensures.policy c.insert_rest-slot.ensures.room c.insert_rest-slot.ensures.ticks len c.self.invariant.1),
     )
 
 pub returns-clause-carved : goal.returns-clause-carved
@@ -112,12 +112,12 @@ returns-clause-carved g c =
     let piece_is = tagged_is _ (part t.holding t.holding.range.base n) _ _ c.new-first.ensures c.root-2.ensures (c.piece_of.ensures ∙ ap (λ (b : ℕ). record { base = b; len = n }) base_of) in
     let absent = import_absent a t n k in
     let high_is : option_to_list c.in-Ok-cut_first.parts.1 ≡ rest_between t.holding (t.holding.range.base + n) (end_of t.holding.range) = c.in-Ok-cut_first.ensures.high in
-    let free : c.insert_rest.new.self.ranges ≡ a.free ++ rest_between t.holding (t.holding.range.base + n) (end_of t.holding.range) = c.insert_rest.ensures.ranges ∙ ap (λ v. v.ranges ++ option_to_list c.in-Ok-cut_first.parts.1) c.reserve_free.ensures.rest ∙ ap (λ (xs : List Holding). a.free ++ xs) high_is in
+    let free : c.insert_rest-slot.new.self.ranges ≡ a.free ++ rest_between t.holding (t.holding.range.base + n) (end_of t.holding.range) = c.insert_rest-slot.ensures.ranges ∙ ap (λ v. v.ranges ++ option_to_list c.in-Ok-cut_first.parts.1) c.reserve_free.ensures.rest ∙ ap (λ (xs : List Holding). a.free ++ xs) high_is in
     let import_new : c.new.result ≡ t = c.new.ensures ∙ same_tag _ t c.arena-source.ensures (sym c.requires.route) whole_is in
     let imported : c.put.new.self.items ≡ a.imported ++ t ∷ [] = c.put.ensures ∙ ap (λ (x : Tag). c.reserve.new.self.items ++ x ∷ []) import_new ∙ ap (λ (xs : List Tag). xs ++ t ∷ []) c.reserve.ensures.items in
     let tags : c.insert.new.self ≡ finmap.insert a.allocated t.holding.range.base (part t.holding t.holding.range.base n) = c.in-Ok-insert.ensures.ok ∙ ap (λ m. finmap.insert m c.new-first.result.range.base c.new-first.result) c.open.ensures.unchanged ∙ ap (λ (h : Holding). finmap.insert c.self.inside.tags h.range.base h) piece_is in
     let rover_is : c.end-self-inside.result ≡ t.holding.range.base + n = c.end-self-inside.ensures.value ∙ ap (λ (h : Holding). end_of h.range) piece_is in
-    let after = import_is a t n k _ _ _ _ rover_is imported (ap (λ v. v.ranges) c.tell_rests.ensures.free ∙ free) (c.tell_rests.ensures.tags ∙ tags) in
+    let after = import_is a t n k _ _ _ _ rover_is imported (ap (λ v. v.ranges) c.tell.ensures.free ∙ free) (c.tell.ensures.tags ∙ tags) in
     after ∙ ap (λ (s : ArenaState). after_carve (after_import s t) t.holding (first_units n t.holding)) c.self.view_is
 
 pub put-requires-clause-absent : goal.put-requires-clause-absent

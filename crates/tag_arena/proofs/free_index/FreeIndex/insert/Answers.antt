@@ -5,7 +5,7 @@ use Rattle.tag_arena.specs.declared.orders.Order.TheVariants.{Rising, Sizes}
 use Rattle.deed_core.specs.Holding.{Apart}
 use Rattle.tag_arena.proofs.Bordering.{begins_apart}
 use Rattle.tag_arena.proofs.Lasting.{all_ranges}
-use Rattle.tag_arena.proofs.Mirroring.{kept_put}
+use Rattle.tag_arena.proofs.Mirroring.{all_else, kept_put}
 use Rattle.tag_arena.proofs.Indexing.{taken_below, newer, place_in, absent_in, new_tag, indexed_put, lists_so, ranges_put}
 use Rattle.tag_arena.proofs.free_index.FreeIndex.insert.Goals as goal
 
@@ -70,6 +70,8 @@ enter-requires-3-clause-linked g c = λ kept. (c.self.inside.slots.tags, c.self.
 
 pub invariant_of-self : goal.invariant_of-self
 invariant_of-self g c =
+    let few = ap (λ v. length v.ranges) c.self.view_is in
+    let room = ap (λ v. v.room) c.self.view_is in
     let s = c.self.inside in
     let x = c.self.invariant in
     let t = c.tag-tag.result in
@@ -83,10 +85,10 @@ invariant_of-self g c =
     let becomes = subst (λ u. SlotBecomes s.slots.tags s2.tags k (Some u)) (sym c.tag-tag.ensures) c.put-slot.ensures.becomes in
     let later = newer s.clock k s.slots.tags s2.tags t x.tags now in
     let count = c.put-slot.ensures.taken in
-    let hr = kept_put (keeps_bases s.policy) Rising s.slots s2 s.room s.rising c.enter.new.self x.rising c.enter.ensures.rest k t vacant becomes later count c.enter.ensures.rises c.enter.ensures.items in
-    let hz = kept_put (keeps_sizes s.policy) Sizes s.slots s2 s.room s.sizes c.enter-2.new.self x.sizes c.enter-2.ensures.rest k t vacant becomes later count c.enter-2.ensures.rises c.enter-2.ensures.items in
+    let hr = kept_put (keeps_bases s.policy) Rising s.slots s2 s.room s.rising c.enter.new.self x.rising c.enter.ensures.rest k t vacant becomes count c.enter.ensures.rises c.enter.ensures.items in
+    let hz = kept_put (keeps_sizes s.policy) Sizes s.slots s2 s.room s.sizes c.enter-2.new.self x.sizes c.enter-2.ensures.rest k t vacant becomes count c.enter-2.ensures.rises c.enter-2.ensures.items in
     let hl = lists_so s.policy s.slots s2 s.lists c.enter-3.new.self k t x.lists_meet c.enter-3.ensures.is_kept c.enter-3.ensures.room c.put-slot.ensures.room (λ kept linked. c.enter-3.ensures.linked kept s.slots.tags s2.tags linked x.timed vacant later becomes) in
-    indexed_put s.policy s.slots s2 s.rising s.sizes s.lists c.enter.new.self c.enter-2.new.self c.enter-3.new.self s.clock s.room k t x vacant becomes c.put-slot.ensures.room is now hr hz hl
+    indexed_put s.policy s.slots s2 s.rising s.sizes s.lists c.enter.new.self c.enter-2.new.self c.enter-3.new.self s.clock s.room k t x vacant becomes count (omega (arith, few, room, c.requires.room)) c.put-slot.ensures.room is now hr (all_else s.rising c.enter.new.self c.enter.ensures.rest).0 hz hl
 
 pub returns-clause-ranges : goal.returns-clause-ranges
 returns-clause-ranges g c =

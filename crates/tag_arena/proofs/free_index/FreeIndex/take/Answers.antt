@@ -6,7 +6,7 @@ use Rattle.tag_arena.specs.FreeTags.{ranges_by_age}
 use Rattle.tag_arena.specs.declared.orders.Order.TheVariants.{Rising, Sizes}
 use Rattle.tag_arena.proofs.Fitting.{tag_of_free}
 use Rattle.tag_arena.proofs.Listing.{Some-injective}
-use Rattle.tag_arena.proofs.Mirroring.{kept_take}
+use Rattle.tag_arena.proofs.Mirroring.{all_else, kept_take}
 use Rattle.tag_arena.proofs.Indexing.{indexed_take, lists_so, ranges_take}
 use Rattle.tag_arena.proofs.free_index.FreeIndex.take.Goals as goal
 
@@ -33,7 +33,7 @@ invariant_of-self g c =
     let h2 = kept_take (keeps_bases s.policy) Rising s.slots s2 s.room s.rising c.strike.new.self x.rising c.strike.ensures.rest k t here becomes count c.strike.ensures.rises c.strike.ensures.items in
     let h3 = kept_take (keeps_sizes s.policy) Sizes s.slots s2 s.room s.sizes c.strike-2.new.self x.sizes c.strike-2.ensures.rest k t here becomes count c.strike-2.ensures.rises c.strike-2.ensures.items in
     let h4 = lists_so s.policy s.slots s2 s.lists c.strike-3.new.self k t x.lists_meet c.strike-3.ensures.is_kept c.strike-3.ensures.room c.take.ensures.room (λ kept linked. c.strike-3.ensures.linked kept s.slots.tags s2.tags linked x.timed here becomes) in
-    indexed_take s.policy s.slots s2 s.rising s.sizes s.lists c.strike.new.self c.strike-2.new.self c.strike-3.new.self s.clock s.room k t x here becomes c.take.ensures.room h2 h3 h4
+    indexed_take s.policy s.slots s2 s.rising s.sizes s.lists c.strike.new.self c.strike-2.new.self c.strike-3.new.self s.clock s.room k t x here becomes count c.take.ensures.room h2 (all_else s.rising c.strike.new.self c.strike.ensures.rest).0 h3 h4
 
 pub returns-clause-ranges : goal.returns-clause-ranges
 returns-clause-ranges g c =

@@ -5,7 +5,7 @@ use Rattle.tag_arena.specs.Cuts.{IsCut}
 use Rattle.tag_arena.specs.FreeTags.{SlotBecomes, tag_at}
 use Rattle.tag_arena.specs.Slotted.{taken_count}
 use Rattle.tag_arena.proofs.Lying.{none_taken}
-use Rattle.tag_arena.proofs.Slotting.{emptied, one_taken, slot_set, slot_within, set_back, slotted_same, tag_is, taken_is}
+use Rattle.tag_arena.proofs.Slotting.{emptied, one_taken, room_beside, slot_set, slot_within, set_back, slotted_same, tag_is, taken_is}
 use Rattle.tag_arena.proofs.slots.Slots.cut.Goals as goal
 
 pub invariant_of-self : goal.invariant_of-self
@@ -61,3 +61,9 @@ unreachable-requires-in-Some-replace g c =
     let s = c.self.inside in
     let here = ap (λ v. tag_at v.tags c.args.at) c.self.view_is ∙ c.requires.here in
     none_taken s.slots.items c.args.at c.args.tag c.in-Some-replace.field-0 c.take.new.self c.replace.result c.index_mut-in-Err.result.now here c.take.ensures.after c.in-Some-replace.is c.replace.ensures.value c.index_mut-in-Err.ensures.value
+
+pub push_reserved-requires : goal.push_reserved-requires
+push_reserved-requires g c =
+    let s = c.self.inside in
+    let here = ap (λ v. tag_at v.tags c.args.at) c.self.view_is ∙ c.requires.here in
+    room_beside s.slots s.vacant s.room c.args.at c.args.tag c.self.invariant here

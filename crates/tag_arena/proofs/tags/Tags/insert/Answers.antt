@@ -21,14 +21,14 @@ module _ (es fs : List (ℕ × Holding)) (base : ℕ) (range : Holding) (is : ba
 
   -- what is true of the parts stays so
   stays : (count : ℕ) (near : Option Near) (old kept new : List (Option Extent)) → finmap.get (map_of es) range.range.base ≡ None
-      → (count ≡ finmap.len (map_of es)) × IfSome near (λ n. finmap.get (map_of es) n.base ≡ Some n.range) × AreAllocated (map_of es) old
+      → (count ≡ finmap.len (map_of es)) × IfSome near (λ n. finmap.get (map_of es) n.base ≡ Some n.found.range) × AreAllocated (map_of es) old
       → kept ≡ old → Learns range.range kept new
-      → (count + 1 ≡ finmap.len (map_of fs)) × IfSome near (λ n. finmap.get (map_of fs) n.base ≡ Some n.range) × AreAllocated (map_of fs) new
+      → (count + 1 ≡ finmap.len (map_of fs)) × IfSome near (λ n. finmap.get (map_of fs) n.base ≡ Some n.found.range) × AreAllocated (map_of fs) new
   stays count near old kept new none are same learns =
       let more = ap finmap.len one_more ∙ len_more (map_of es) range.range.base range none in
       let still = subst (AreAllocated (map_of es)) (sym same) are.2 in (
         omega (arith, more, are.0),
-        subst (λ m. IfSome near (λ n. finmap.get m n.base ≡ Some n.range)) (sym one_more) (near_stays (map_of es) range.range.base range none near are.1),
+        subst (λ m. IfSome near (λ n. finmap.get m n.base ≡ Some n.found.range)) (sym one_more) (near_stays (map_of es) range.range.base range none near are.1),
         subst (λ m. AreAllocated m new) (sym one_more) (allocated_learns (map_of es) range kept new none learns still),
       )
 
