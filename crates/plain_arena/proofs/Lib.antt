@@ -1,3 +1,4 @@
 pub mod Choosing
 pub mod Scans
 pub mod Scanned
+pub mod Lookups

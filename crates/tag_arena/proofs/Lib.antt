@@ -14,7 +14,6 @@ pub mod Removing
 pub mod Allocations
 pub mod Counting
 pub mod SpanLists
-pub mod Lookups
 pub mod Sounding
 pub mod Using
 pub mod Reporting
@@ -53,6 +52,6 @@ pub mod Coming
 pub mod Spanning
 pub mod SpanFinding
 pub mod LawProofs
-pub mod Knowing
-pub mod Knowledge
 pub mod Certifying
+pub mod CellFinding
+pub mod Tagging

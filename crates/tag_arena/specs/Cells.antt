@@ -1,41 +1,41 @@
--- What is known to be allocated, by the cells in which it stands.
-use Rattle.std.specs.Prelude.{◌≡◌, ◌≢◌, ℕ, ◌⊎◌, List, Option, Some, None, slice_index_or}
+-- The allocated ranges of an arena, in their cells.
+use Rattle.std.specs.Prelude.{◌≡◌, ◌≢◌, ℕ, List, [], ◌∷◌, Option, Some, None, slice_index_or}
 use Rattle.std.specs.Ordering.{nat_cmp}
-use Rattle.std.specs.FinMap.{FinMap, get}
-use Rattle.deed_core.specs.Extent.{Extent}
+use Rattle.std.specs.FinMap.{FinMap, empty, insert}
 use Rattle.deed_core.specs.Holding.{Holding}
 use Rattle.tag_arena.specs.declared.cells.Standing.{Standing}
 use Rattle.tag_arena.specs.declared.cells.Standing.TheVariants.{Free, Allocated}
 
--- the allocated range that stands there, if there is one
-abbrev pub known_of : Standing → Option Extent
-known_of (Free slot) = None
-known_of (Allocated range) = Some range
+-- the allocated range that stands there, if one does
+abbrev pub allocated_of : Standing → Option Holding
+allocated_of (Free slot) = None
+allocated_of (Allocated range) = Some range
 
--- what is known to be allocated in a cell
-abbrev pub known_at : List (Option Extent) → ℕ → Option Extent
-known_at cells k = slice_index_or cells k None
+-- what is allocated in a cell
+abbrev pub allocated_at : List (Option Holding) → ℕ → Option Holding
+allocated_at cells k = slice_index_or cells k None
 
--- no two begin at one base
-abbrev pub AreKnownOnce : List (Option Extent) → Type 0
-AreKnownOnce cells = (j k : ℕ) (x y : Extent) → known_at cells j ≡ Some x
-    → known_at cells k ≡ Some y → x.base ≡ y.base → j ≡ k
+-- what is allocated in a cell begins at a base
+abbrev pub IsAt : ℕ → ℕ → List (Option Holding) → Type 0
+IsAt base k cells = (h : Holding) × (allocated_at cells k ≡ Some h) × (h.range.base ≡ base)
 
--- nothing is known that wasn't
-abbrev pub Forgets : List (Option Extent) → List (Option Extent) → Type 0
-Forgets old new = (k : ℕ) (x : Extent) → known_at new k ≡ Some x → known_at old k ≡ Some x
+-- no two allocated ranges begin at one base
+abbrev pub AreOnce : List (Option Holding) → Type 0
+AreOnce cells = (j k : ℕ) (g h : Holding) → allocated_at cells j ≡ Some g
+    → allocated_at cells k ≡ Some h → g.range.base ≡ h.range.base → j ≡ k
 
--- nothing but this range
-abbrev pub Learns : Extent → List (Option Extent) → List (Option Extent) → Type 0
-Learns range old new = (k : ℕ) (x : Extent) → known_at new k ≡ Some x
-    → (known_at old k ≡ Some x) ⊎ (x ≡ range)
+-- the same is allocated in each
+abbrev pub SameCells : List (Option Holding) → List (Option Holding) → Type 0
+SameCells old new = (k : ℕ) → allocated_at new k ≡ allocated_at old k
 
--- nothing that wasn't, and no range at this base
-abbrev pub ForgetsAt : ℕ → List (Option Extent) → List (Option Extent) → Type 0
-ForgetsAt base old new = (k : ℕ) (x : Extent) → known_at new k ≡ Some x
-    → (known_at old k ≡ Some x) × (x.base ≢ base)
+-- one cell has changed
+pub record CellBecomes (old new : List (Option Holding)) (k : ℕ)
+    (what : Option Holding) : Type 0 where
+  pub changed : allocated_at new k ≡ what
+  pub others : (j : ℕ) → j ≢ k → allocated_at new j ≡ allocated_at old j
 
--- each range that is known stands among the allocated ones, at its base
-abbrev pub AreAllocated : FinMap nat_cmp Holding → List (Option Extent) → Type 0
-AreAllocated tags cells = (k : ℕ) (x : Extent) → known_at cells k ≡ Some x
-    → (h : Holding) × (get tags x.base ≡ Some h) × (h.range ≡ x)
+-- the allocated ranges, each at its base
+unfoldable pub tags_in : List (Option Holding) → FinMap nat_cmp Holding
+tags_in [] = empty
+tags_in (None ∷ rest) = tags_in rest
+tags_in (Some h ∷ rest) = insert (tags_in rest) h.range.base h

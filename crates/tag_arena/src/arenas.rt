@@ -21,7 +21,7 @@ ghost use Rattle.tag_arena.specs.Outcomes.{KeepsSetup, AddSpanOf, CarveOf, IsImp
 ghost use Rattle.tag_arena.specs.Outcomes.{ImportCovers, FreeOf, RemoveOf};
 
 use crate::cell_notes::{origin_in, tell};
-use crate::cells::Sides;
+use crate::cells::{Origin, Sides};
 use crate::cuts::cut_first;
 use crate::faults::{ArenaFault, SpanFault};
 use crate::free_index::{Carved, FreeIndex};
@@ -33,7 +33,7 @@ use crate::returns::GivenBack;
 use crate::searches::Fit;
 use crate::span_searches::{is_span, overlaps, span_at};
 use crate::spans::{Import, Spans};
-use crate::tags::{Origin, Tags};
+use crate::tags::Tags;
 use crate::whole_spans::lowest_whole;
 use deed_core::{Deed, Range, Request, Route, Segment, Stored};
 use std::alloc::{AllocError, Global};
@@ -452,7 +452,7 @@ impl<D: Deed> Arena<D> {
         let span = span_at(&self.owned, &self.imported, tagged.base()).unwrap();
         let lent = is_span(&self.imported, span);
         let beside = self.tags.beside(cell, tagged.base(), tagged.end());
-        self.tags.remove(tagged);
+        let cell = self.tags.remove(tagged);
         let deed = Stored::new(segment.into_deed());
         let GivenBack { whole, slot, sides } = self.free.give_back(span, lent, deed, beside);
         let cell = self.tags.join(cell, sides);

@@ -1,10 +1,10 @@
 //! What an arena tells its cells and its free ranges of each other. It is for speed alone.
 ghost use Rattle.std.specs.Prelude.{◌≡◌, ◌+◌, ◌^◌, ◌<◌};
 
-use crate::cells::Sides;
+use crate::cells::{Origin, Sides};
 use crate::free_index::FreeIndex;
 use crate::searches::Fit;
-use crate::tags::{Origin, Tags};
+use crate::tags::Tags;
 use deed_core::Deed;
 
 /// Where a piece is carved from what was found, which has this cell.

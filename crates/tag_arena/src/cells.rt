@@ -1,16 +1,17 @@
-//! Which range stands before another in its span, and which behind it (boundary tags: Knuth;
-//! Magazines and Vmem, 2001), as far as it is known.
+//! The cells of ranges: each allocated range stands in one, and under `best` and `instant` each
+//! free range has one too.
 //!
-//! Each range of an arena, free or allocated, may have a cell, linked with those of the ranges
-//! beside it. What a contract sees are the allocated ranges in their cells alone. All else is for
-//! speed: which cells are linked, and the slot of a free range, may be wrong, and who asks looks at
-//! the range itself, or searches.
-ghost use Rattle.std.specs.Prelude.{◌≡◌, ◌≢◌, ℕ, [], Some, IsTrue};
-ghost use Rattle.deed_core.specs.Extent.{Extent, end_of};
-ghost use Rattle.tag_arena.specs.Cells.{known_at, Forgets, Learns, ForgetsAt};
+//! Where free ranges have cells, each is linked with those of the ranges before it and behind it in
+//! its span (boundary tags: Knuth; Magazines and Vmem, 2001). What a contract sees are the
+//! allocated ranges in their cells alone. All else is for speed: which cells are linked, and the
+//! slot of a free range, may be wrong, and who asks looks at the range itself, or searches.
+ghost use Rattle.std.specs.Prelude.{◌≡◌, ℕ, ◌<◌, ◌≤◌, [], None, Some, IfOk, IsTrue, ◌↔◌, length};
+ghost use Rattle.deed_core.specs.Extent.{end_of};
+ghost use Rattle.deed_core.specs.Holding.{Holding};
+ghost use Rattle.tag_arena.specs.Cells.{allocated_at, CellBecomes, IsAt, SameCells};
 
 use crate::cell_links::CellLink;
-use deed_core::Range;
+use crate::held_ranges::HeldRange;
 use std::alloc::{AllocError, Global};
 use std::marker::Model;
 
@@ -39,172 +40,176 @@ pub struct Sides {
     pub right: bool,
 }
 
+/// Where a range is allocated: the cell of the free range that it is carved from, if it has one,
+/// and which rests of it stay free.
+#[derive(Clone, Copy, Debug)]
+pub struct Origin {
+    pub cell: Option<usize>,
+    pub rests: Sides,
+}
+
 /// What stands in a cell.
 #[derive(Clone, Copy, Debug)]
 pub enum Standing {
     /// A free range, in this slot perhaps, or nothing.
     Free(usize),
     /// An allocated range.
-    Allocated(Range),
+    Allocated(HeldRange),
 }
 
-/// What stands in a cell, and the cells of the ranges beside it.
+/// What stands in a cell, the cells of the ranges beside it, and the next one of its chain.
 #[derive(Debug, Drop)]
 pub struct Cell {
     standing: Standing,
     before: CellLink,
     after: CellLink,
+    next: CellLink,
 }
 
 impl Model for Cell {
     ghost use Rattle.std.specs.Prelude.{Option};
-    ghost use Rattle.deed_core.specs.Extent.{Extent};
-    ghost use Rattle.tag_arena.specs.Cells.{known_of};
+    ghost use Rattle.deed_core.specs.Holding.{Holding};
+    ghost use Rattle.tag_arena.specs.Cells.{allocated_of};
 
-    ghost Value = { Option Extent };
+    ghost Value = { Option Holding };
 
-    ghost view = { λ c. known_of c.standing };
+    ghost view = { λ c. allocated_of c.standing };
 }
 
-/// Cells, which may be kept or not. `reserve` and `open` alone take memory: where there is none for
-/// a new cell, a range has none.
+/// Cells. Free ranges may have some too, or not.
 #[derive(Drop)]
 pub struct Cells {
-    kept: bool,
+    linked: bool,
     cells: Vec<Cell>,
     /// The first cell that may be used again; each of these has the next one as `after`.
-    vacant: Option<usize>,
+    vacant: CellLink,
 }
 
 impl Model for Cells {
     ghost use Rattle.std.specs.Prelude.{List, Option};
-    ghost use Rattle.deed_core.specs.Extent.{Extent};
-    ghost use Rattle.tag_arena.specs.Cells.{AreKnownOnce};
+    ghost use Rattle.deed_core.specs.Holding.{Holding};
 
-    ghost Value = { List (Option Extent) };
+    ghost Value = { List (Option Holding) };
 
     ghost view = { λ c. c.cells.items };
-
-    ghost invariant = { λ c. AreKnownOnce c.cells.items };
 }
 
 impl Cells {
-    pub fn new(alloc: Global, kept: bool) -> Cells
+    /// No cell. Free ranges will have some, or not.
+    pub fn new(alloc: Global, linked: bool) -> Cells
         ensures { result ≡ [] }
     {
         Cells {
-            kept,
+            linked,
             cells: Vec::new(alloc),
-            vacant: None,
+            vacant: CellLink::none(),
         }
     }
 
-    /// Makes room for two new cells, where they are kept.
-    pub fn reserve(&mut self) -> Result<(), AllocError>
-        ensures unchanged { self.new ≡ self.old }
+    /// Whether free ranges have cells.
+    pub fn is_linked(&self) -> bool {
+        self.linked
+    }
+
+    /// How many cells there are, those that may be used again among them.
+    pub fn len(&self) -> usize
+        ensures { result ≡ length self.now }
     {
-        if self.kept {
-            self.cells.reserve(2)?;
-        }
-        Ok(())
+        self.cells.len()
     }
 
-    /// A cell for the free range of a new span, where they are kept. `Err` is out of memory.
+    /// The range that is allocated in a cell, if one is.
+    pub fn peek(&self, at: usize) -> Option<HeldRange>
+        ensures { result ≡ allocated_at self.now at }
+    {
+        let cell = self.cells.get(at)?;
+        match cell.standing {
+            Standing::Free(_) => None,
+            Standing::Allocated(range) => Some(range),
+        }
+    }
+
+    /// Whether the range that is allocated in a cell begins at a base.
+    pub fn begins_at(&self, at: usize, base: u64) -> bool
+        ensures { IsTrue result ↔ IsAt base at self.now }
+    {
+        match self.peek(at) {
+            Some(range) => range.base() == base,
+            None => false,
+        }
+    }
+
+    /// A cell with nothing allocated in it, which was used before or is new.
+    pub fn take(&mut self) -> Result<usize, AllocError>
+        ensures vacant { IfOk result (λ k. (k < length self.new)
+            × (allocated_at self.new k ≡ None)) }
+        ensures same { SameCells self.old self.new }
+        ensures len { length self.old ≤ length self.new }
+    {
+        if let Some(at) = self.vacant.cell() {
+            if at < self.cells.len() && self.peek(at).is_none() {
+                let cell = &mut self.cells[at];
+                self.vacant = cell.after;
+                *cell = Cell::new();
+                return Ok(at);
+            }
+        }
+        self.cells.push(Cell::new())?;
+        Ok(self.cells.len() - 1)
+    }
+
+    /// A cell for the free range of a new span, where free ranges have cells. `Err` is out of
+    /// memory.
     pub fn open(&mut self) -> Result<Option<usize>, AllocError>
-        ensures { Forgets self.old self.new }
+        ensures same { SameCells self.old self.new }
     {
-        if !self.kept {
+        if !self.linked {
             return Ok(None);
         }
-        self.reserve()?;
-        Ok(self.add(None, None))
-    }
-
-    /// A cell between two others, of a free range.
-    fn add(&mut self, before: Option<usize>, after: Option<usize>) -> Option<usize>
-        ensures { Forgets self.old self.new }
-    {
-        let at = self.take_vacant()?;
-        self.link(before, Some(at));
-        self.link(Some(at), after);
-        Some(at)
-    }
-
-    /// A cell that isn't used, or a new one.
-    fn take_vacant(&mut self) -> Option<usize>
-        ensures { Forgets self.old self.new }
-    {
-        match self.vacant {
-            Some(at) if at < self.cells.len() => {
-                let cell = &mut self.cells[at];
-                self.vacant = cell.after.cell();
-                cell.standing = Standing::Free(0);
-                Some(at)
-            }
-            _ => {
-                let cell = Cell {
-                    standing: Standing::Free(0),
-                    before: CellLink::none(),
-                    after: CellLink::none(),
-                };
-                if self.cells.push(cell).is_err() {
-                    return None;
-                }
-                Some(self.cells.len() - 1)
-            }
-        }
-    }
-
-    /// Which cell the next new one will be.
-    pub fn next_new(&self) -> usize {
-        match self.vacant {
-            Some(at) => at,
-            None => self.cells.len(),
-        }
+        Ok(Some(self.take()?))
     }
 
     /// Makes two cells each other's neighbors.
-    fn link(&mut self, before: Option<usize>, after: Option<usize>)
-        ensures unchanged { self.new ≡ self.old }
+    fn link(&mut self, before: CellLink, after: CellLink)
+        ensures same { SameCells self.old self.new }
+        ensures len { length self.new ≡ length self.old }
     {
-        self.link_behind(before, after);
-        self.link_before(after, before);
-    }
-
-    fn link_behind(&mut self, at: Option<usize>, after: Option<usize>)
-        ensures unchanged { self.new ≡ self.old }
-    {
-        if let Some(at) = at {
+        if let Some(at) = before.cell() {
             if at < self.cells.len() {
                 let cell = &mut self.cells[at];
-                cell.after = CellLink::to(after);
+                cell.after = after;
             }
         }
-    }
-
-    fn link_before(&mut self, at: Option<usize>, before: Option<usize>)
-        ensures unchanged { self.new ≡ self.old }
-    {
-        if let Some(at) = at {
+        if let Some(at) = after.cell() {
             if at < self.cells.len() {
                 let cell = &mut self.cells[at];
-                cell.before = CellLink::to(before);
+                cell.before = before;
             }
         }
     }
 
     /// The cells before a cell and behind it.
-    fn links(&self, at: usize) -> (Option<usize>, Option<usize>) {
-        if at >= self.cells.len() {
-            return (None, None);
+    fn links(&self, at: usize) -> (CellLink, CellLink) {
+        match self.cells.get(at) {
+            Some(cell) => (cell.before, cell.after),
+            None => (CellLink::none(), CellLink::none()),
         }
-        let cell = &self.cells[at];
-        (cell.before.cell(), cell.after.cell())
+    }
+
+    /// Links a cell in behind another.
+    fn link_behind(&mut self, at: usize, new: usize)
+        ensures same { SameCells self.old self.new }
+        ensures len { length self.new ≡ length self.old }
+    {
+        let (_, after) = self.links(at);
+        let link = CellLink::to(Some(new));
+        self.link(CellLink::to(Some(at)), link);
+        self.link(link, after);
     }
 
     /// Takes a cell out from between its neighbors: it may be used again.
     pub fn unlink(&mut self, at: usize)
-        ensures { Forgets self.old self.new }
+        ensures same { SameCells self.old self.new }
     {
         if at >= self.cells.len() {
             return;
@@ -212,16 +217,15 @@ impl Cells {
         let (before, after) = self.links(at);
         self.link(before, after);
         let cell = &mut self.cells[at];
-        cell.standing = Standing::Free(0);
-        cell.after = CellLink::to(self.vacant);
-        self.vacant = Some(at);
+        cell.after = self.vacant;
+        self.vacant = CellLink::to(Some(at));
     }
 
     /// Tells the slot of the free range in a cell.
     pub fn set_free(&mut self, at: usize, slot: usize)
-        ensures { Forgets self.old self.new }
+        ensures same { SameCells self.old self.new }
     {
-        if at < self.cells.len() {
+        if at < self.cells.len() && self.peek(at).is_none() {
             let cell = &mut self.cells[at];
             cell.standing = Standing::Free(slot);
         }
@@ -229,10 +233,10 @@ impl Cells {
 
     /// What stands beside the range in a cell, which is from `base` to `end`.
     pub fn beside(&self, at: usize, base: u64, end: u64) -> Beside
-        ensures left { result.left ≡ Side.Allocated → (k : ℕ) × (x : Extent)
-            × (known_at self.now k ≡ Some x) × (end_of x ≡ base) }
-        ensures right { result.right ≡ Side.Allocated → (k : ℕ) × (x : Extent)
-            × (known_at self.now k ≡ Some x) × (x.base ≡ end) }
+        ensures left { result.left ≡ Side.Allocated → (k : ℕ) × (h : Holding)
+            × (allocated_at self.now k ≡ Some h) × (end_of h.range ≡ base) }
+        ensures right { result.right ≡ Side.Allocated → (k : ℕ) × (h : Holding)
+            × (allocated_at self.now k ≡ Some h) × (h.range.base ≡ end) }
     {
         let (before, after) = self.links(at);
         Beside {
@@ -241,11 +245,11 @@ impl Cells {
         }
     }
 
-    fn ending_at(&self, at: Option<usize>, end: u64) -> Side
-        ensures { result ≡ Side.Allocated → (k : ℕ) × (x : Extent)
-            × (known_at self.now k ≡ Some x) × (end_of x ≡ end) }
+    fn ending_at(&self, at: CellLink, end: u64) -> Side
+        ensures { result ≡ Side.Allocated → (k : ℕ) × (h : Holding)
+            × (allocated_at self.now k ≡ Some h) × (end_of h.range ≡ end) }
     {
-        let Some(at) = at else {
+        let Some(at) = at.cell() else {
             return Side::Unknown;
         };
         if at >= self.cells.len() {
@@ -259,11 +263,11 @@ impl Cells {
         }
     }
 
-    fn beginning_at(&self, at: Option<usize>, base: u64) -> Side
-        ensures { result ≡ Side.Allocated → (k : ℕ) × (x : Extent)
-            × (known_at self.now k ≡ Some x) × (x.base ≡ base) }
+    fn beginning_at(&self, at: CellLink, base: u64) -> Side
+        ensures { result ≡ Side.Allocated → (k : ℕ) × (h : Holding)
+            × (allocated_at self.now k ≡ Some h) × (h.range.base ≡ base) }
     {
-        let Some(at) = at else {
+        let Some(at) = at.cell() else {
             return Side::Unknown;
         };
         if at >= self.cells.len() {
@@ -277,90 +281,107 @@ impl Cells {
         }
     }
 
-    /// A piece of the free range in a cell is allocated. The low rest, if there is one, keeps the
-    /// cell, and the piece has a new one behind it; then comes the cell of the high rest, which is
-    /// the answer.
-    pub fn carve(&mut self, at: usize, piece: Range, rests: Sides) -> Option<usize>
-        requires { (k : ℕ) (x : Extent) → known_at self.old k ≡ Some x → x.base ≢ piece.base }
-        ensures { Learns piece self.old self.new }
+    /// A cell for a piece of the free range in a cell, with nothing allocated in it: the same one,
+    /// unless a rest before the piece keeps it.
+    pub fn place_of(&mut self, origin: Origin) -> Result<usize, AllocError>
+        ensures vacant { IfOk result (λ k. (k < length self.new)
+            × (allocated_at self.new k ≡ None)) }
+        ensures same { SameCells self.old self.new }
     {
-        let mut place = at;
-        if rests.left {
-            let (_, after) = self.links(at);
-            place = self.add(Some(at), after)?;
+        let Some(whole) = origin.cell else {
+            return self.take();
+        };
+        if !origin.rests.left && whole < self.cells.len() && self.peek(whole).is_none() {
+            return Ok(whole);
         }
-        let mut rest = None;
-        if rests.right {
-            let (_, after) = self.links(place);
-            rest = self.add(Some(place), after);
+        let new = self.take()?;
+        self.link_behind(whole, new);
+        Ok(new)
+    }
+
+    /// A cell for the rest behind a piece, where free ranges have cells, if there is such a rest,
+    /// and memory.
+    pub fn place_behind(&mut self, piece: usize, origin: Origin) -> Option<usize>
+        ensures same { SameCells self.old self.new }
+        ensures len { length self.old ≤ length self.new }
+    {
+        if origin.cell.is_none() || !origin.rests.right {
+            return None;
         }
-        self.allocate(place, piece);
-        rest
+        let Ok(new) = self.take() else {
+            return None;
+        };
+        self.link_behind(piece, new);
+        Some(new)
     }
 
     /// A range is allocated in a cell.
-    fn allocate(&mut self, at: usize, range: Range)
-        requires { (k : ℕ) (x : Extent) → known_at self.old k ≡ Some x → x.base ≢ range.base }
-        ensures { Learns range self.old self.new }
+    pub fn allocate(&mut self, at: usize, range: HeldRange)
+        requires within { at < length self.old }
+        ensures { CellBecomes self.old self.new at (Some range) }
+    {
+        let cell = &mut self.cells[at];
+        cell.standing = Standing::Allocated(range);
+    }
+
+    /// What is allocated in a cell is so no more.
+    pub fn release(&mut self, at: usize)
+        ensures { CellBecomes self.old self.new at None }
     {
         if at < self.cells.len() {
             let cell = &mut self.cells[at];
-            cell.standing = Standing::Allocated(range);
-        }
-    }
-
-    /// Whether the range at a base is allocated in a cell.
-    fn is_allocated(&self, at: usize, base: u64) -> bool
-        ensures { IsTrue result → (x : Extent) × (known_at self.now at ≡ Some x)
-            × (x.base ≡ base) }
-    {
-        if at >= self.cells.len() {
-            return false;
-        }
-        let cell = &self.cells[at];
-        match cell.standing {
-            Standing::Free(_) => false,
-            Standing::Allocated(range) => range.base() == base,
-        }
-    }
-
-    /// The range at a base, which may stand in this cell, is allocated no more. Where it doesn't
-    /// stand there, all is forgotten.
-    pub fn free(&mut self, at: usize, base: u64)
-        ensures { ForgetsAt base self.old self.new }
-    {
-        if self.is_allocated(at, base) {
-            let cell = &mut self.cells[at];
             cell.standing = Standing::Free(0);
-        } else {
-            self.forget();
         }
-    }
-
-    /// Forgets all.
-    pub fn forget(&mut self)
-        ensures { self.new ≡ [] }
-    {
-        self.cells.clear();
-        self.vacant = None;
     }
 
     /// Joins the range in a cell with those that are free beside it, and answers their cell.
     pub fn join(&mut self, at: usize, sides: Sides) -> usize
-        ensures { Forgets self.old self.new }
+        ensures same { SameCells self.old self.new }
     {
         let (before, after) = self.links(at);
-        if let Some(after) = after {
+        if let Some(after) = after.cell() {
             if sides.right {
                 self.unlink(after);
             }
         }
-        match before {
+        match before.cell() {
             Some(before) if sides.left => {
                 self.unlink(at);
                 before
             }
             _ => at,
+        }
+    }
+
+    /// The next cell of a cell's chain.
+    pub fn next(&self, at: usize) -> CellLink {
+        match self.cells.get(at) {
+            Some(cell) => cell.next,
+            None => CellLink::none(),
+        }
+    }
+
+    /// Another cell is the next of a cell's chain.
+    pub fn set_next(&mut self, at: usize, next: CellLink)
+        ensures same { SameCells self.old self.new }
+    {
+        if at < self.cells.len() {
+            let cell = &mut self.cells[at];
+            cell.next = next;
+        }
+    }
+}
+
+impl Cell {
+    /// One with nothing in it, and no neighbors.
+    fn new() -> Cell
+        ensures { result ≡ None }
+    {
+        Cell {
+            standing: Standing::Free(0),
+            before: CellLink::none(),
+            after: CellLink::none(),
+            next: CellLink::none(),
         }
     }
 }

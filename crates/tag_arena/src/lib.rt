@@ -47,6 +47,8 @@ mod arenas;
 mod cell_links;
 mod cell_notes;
 mod cells;
+mod chained;
+mod chains;
 mod cuts;
 mod earliest;
 mod entries;

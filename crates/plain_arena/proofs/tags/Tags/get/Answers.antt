@@ -1,6 +1,6 @@
 use Rattle.std.proofs.Common.{sym, ap, ◌∙◌}
 use Rattle.std.specs.FinMap as finmap
-use Rattle.tag_arena.proofs.Lookups.{get_length}
+use Rattle.plain_arena.proofs.Lookups.{get_length}
 use Rattle.plain_arena.proofs.tags.Tags.get.Goals as goal
 
 pub returns : goal.returns

@@ -1,7 +1,7 @@
 use Rattle.std.proofs.Common.{◌≡◌, ap, ◌∙◌, arith, None}
 use Rattle.std.specs.Ordering.{nat_cmp}
 use Rattle.std.specs.FinMap as finmap
-use Rattle.tag_arena.proofs.Lookups.{one_put}
+use Rattle.plain_arena.proofs.Lookups.{one_put}
 use Rattle.tag_arena.proofs.Allocations.{len_more}
 use Rattle.plain_arena.proofs.tags.Tags.insert.Goals as goal
 

@@ -1,7 +1,7 @@
 use Rattle.std.proofs.Common.{◌≡◌, ap, ◌∙◌, arith, Some}
 use Rattle.std.specs.Ordering.{nat_cmp}
 use Rattle.std.specs.FinMap as finmap
-use Rattle.tag_arena.proofs.Lookups.{one_taken}
+use Rattle.plain_arena.proofs.Lookups.{one_taken}
 use Rattle.tag_arena.proofs.Allocations.{len_less, some_allocated}
 use Rattle.plain_arena.proofs.tags.Tags.remove.Goals as goal
 

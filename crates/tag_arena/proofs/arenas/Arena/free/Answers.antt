@@ -103,7 +103,7 @@ give_back-whole-requires-clause-room g c =
     let s : Holding = c.unwrap-span.result in
     let lies = lies_in a p s c.span_at.result c.self.invariant.0.divided at spans c.unwrap-span.ensures in
     let new_is : c.new-deed.result ≡ p = c.new-deed.ensures ∙ c.into_deed.ensures ∙ sym seg_is in
-    let len : finmap.len c.remove.new.self + 1 ≡ finmap.len c.self.inside.tags = ap (λ m. finmap.len m + 1) c.remove.ensures ∙ len_less c.self.inside.tags p.range.base p at in
+    let len : finmap.len c.remove-cell.new.self + 1 ≡ finmap.len c.self.inside.tags = ap (λ m. finmap.len m + 1) c.remove-cell.ensures ∙ len_less c.self.inside.tags p.range.base p at in
     let room = c.self.invariant.1.room in
     omega (arith, len, room)
 
@@ -117,7 +117,7 @@ give_back-whole-requires-clause-ticks g c =
     let s : Holding = c.unwrap-span.result in
     let lies = lies_in a p s c.span_at.result c.self.invariant.0.divided at spans c.unwrap-span.ensures in
     let new_is : c.new-deed.result ≡ p = c.new-deed.ensures ∙ c.into_deed.ensures ∙ sym seg_is in
-    let len : finmap.len c.remove.new.self + 1 ≡ finmap.len c.self.inside.tags = ap (λ m. finmap.len m + 1) c.remove.ensures ∙ len_less c.self.inside.tags p.range.base p at in
+    let len : finmap.len c.remove-cell.new.self + 1 ≡ finmap.len c.self.inside.tags = ap (λ m. finmap.len m + 1) c.remove-cell.ensures ∙ len_less c.self.inside.tags p.range.base p at in
     let ticks = c.self.invariant.1.ticks in
     omega (arith, len, ticks)
 
@@ -131,12 +131,12 @@ invariant_of-self g c =
     let s : Holding = c.unwrap-span.result in
     let lies = lies_in a p s c.span_at.result c.self.invariant.0.divided at spans c.unwrap-span.ensures in
     let new_is : c.new-deed.result ≡ p = c.new-deed.ensures ∙ c.into_deed.ensures ∙ sym seg_is in
-    let len : finmap.len c.remove.new.self + 1 ≡ finmap.len c.self.inside.tags = ap (λ m. finmap.len m + 1) c.remove.ensures ∙ len_less c.self.inside.tags p.range.base p at in
+    let len : finmap.len c.remove-cell.new.self + 1 ≡ finmap.len c.self.inside.tags = ap (λ m. finmap.len m + 1) c.remove-cell.ensures ∙ len_less c.self.inside.tags p.range.base p at in
     let back = subst (λ o. ComesBack c.is_span-lent.result s c.new-deed.result a.free c.give_back-whole.new.self.ranges o) c.in_default-whole.is c.give_back-whole.ensures.returned in
     let merged : Holding = back.merged in
     let merges : Merges s p a.free merged back.mid = subst (λ (h : Holding). Merges s h a.free merged back.mid) new_is back.merges in
     let none = none_lent a p s lies merged (merged_has s p merged a.free back.mid merges) (not_lent a.imported s merged c.is_span-lent.result c.is_span-lent.ensures back.leaves.0) in
-    let tags : c.tell.new.tags ≡ finmap.remove a.allocated p.range.base = c.tell.ensures.tags ∙ (c.join-cell.ensures.unchanged ∙ c.remove.ensures) in
+    let tags : c.tell.new.tags ≡ finmap.remove a.allocated p.range.base = c.tell.ensures.tags ∙ (c.join-cell.ensures.unchanged ∙ c.remove-cell.ensures) in
     let after = freed_is a p s lies merged back.mid merges _ _ (ap (λ v. v.ranges) c.tell.ensures.free ∙ back.leaves.1) tags in (
       freed_is_sound a p s lies merged back.mid merges c.self.invariant.0 none _ after,
       backed_told c.self.inside.policy _ _ _ _ c.tell.ensures.free (c.tell.ensures.tags ∙ c.join-cell.ensures.unchanged) (backed_free c.self.inside.policy c.self.inside.free c.give_back-whole.new.self _ _ (comes_fewer _ _ _ _ _ _ back) c.give_back-whole.ensures.setup c.give_back-whole.ensures.ticks len c.self.invariant.1),
@@ -177,7 +177,7 @@ invariant_of-self-2 g c =
     let s : Holding = c.unwrap-span.result in
     let lies = lies_in a p s c.span_at.result c.self.invariant.0.divided at spans c.unwrap-span.ensures in
     let new_is : c.new-deed.result ≡ p = c.new-deed.ensures ∙ c.into_deed.ensures ∙ sym seg_is in
-    let len : finmap.len c.remove.new.self + 1 ≡ finmap.len c.self.inside.tags = ap (λ m. finmap.len m + 1) c.remove.ensures ∙ len_less c.self.inside.tags p.range.base p at in
+    let len : finmap.len c.remove-cell.new.self + 1 ≡ finmap.len c.self.inside.tags = ap (λ m. finmap.len m + 1) c.remove-cell.ensures ∙ len_less c.self.inside.tags p.range.base p at in
     let back = subst (λ o. ComesBack c.is_span-lent.result s c.new-deed.result a.free c.give_back-whole.new.self.ranges o) c.in-Some-whole.is c.give_back-whole.ensures.returned in
     let merged : Holding = back.merged in
     let left : List Holding = c.give_back-whole.new.self.ranges in
@@ -185,7 +185,7 @@ invariant_of-self-2 g c =
     let o = c.take-import.ensures.items in
     let k : ℕ = o.0 in
     let found : (k < length a.imported) × HoldsAt (λ t. t.holding ≡ merged) a.imported k = (o.1, λ d. ap (λ (t : Tag). t.holding) (o.2 d) ∙ (c.take-import.ensures.span ∙ sym back.leaves.1)) in
-    let tags : c.vacate.new.self ≡ finmap.remove a.allocated p.range.base = c.vacate.ensures.unchanged ∙ (c.join-cell.ensures.unchanged ∙ c.remove.ensures) in
+    let tags : c.vacate.new.self ≡ finmap.remove a.allocated p.range.base = c.vacate.ensures.unchanged ∙ (c.join-cell.ensures.unchanged ∙ c.remove-cell.ensures) in
     let after = returned_is a p s lies merged left merges k found.0 found.1 _ _ o.3 tags in (
       returned_is_sound a p s lies merged left merges k found.0 found.1 c.self.invariant.0 _ after,
       backed_told c.self.inside.policy _ _ _ _ refl (c.vacate.ensures.unchanged ∙ c.join-cell.ensures.unchanged) (backed_free c.self.inside.policy c.self.inside.free c.give_back-whole.new.self _ _ (comes_fewer _ _ _ _ _ _ back) c.give_back-whole.ensures.setup c.give_back-whole.ensures.ticks len c.self.invariant.1),
@@ -205,7 +205,7 @@ returns-in_default-whole g c =
     let merged : Holding = back.merged in
     let merges : Merges s p a.free merged back.mid = subst (λ (h : Holding). Merges s h a.free merged back.mid) new_is back.merges in
     let none = none_lent a p s lies merged (merged_has s p merged a.free back.mid merges) (not_lent a.imported s merged c.is_span-lent.result c.is_span-lent.ensures back.leaves.0) in
-    let tags : c.tell.new.tags ≡ finmap.remove a.allocated p.range.base = c.tell.ensures.tags ∙ (c.join-cell.ensures.unchanged ∙ c.remove.ensures) in
+    let tags : c.tell.new.tags ≡ finmap.remove a.allocated p.range.base = c.tell.ensures.tags ∙ (c.join-cell.ensures.unchanged ∙ c.remove-cell.ensures) in
     let after = freed_is a p s lies merged back.mid merges _ _ (ap (λ v. v.ranges) c.tell.ensures.free ∙ back.leaves.1) tags in
     let tagged : IsTagged c.args.self.now c.args.segment = search rules in
     let id : c.self.inside.id ≡ c.args.self.now.id = ap (λ (s : ArenaState). s.id) c.self.view_is in
@@ -249,7 +249,7 @@ returns g c =
     let o = c.take-import.ensures.items in
     let k : ℕ = o.0 in
     let found : (k < length a.imported) × HoldsAt (λ t. t.holding ≡ merged) a.imported k = (o.1, λ d. ap (λ (t : Tag). t.holding) (o.2 d) ∙ (c.take-import.ensures.span ∙ sym back.leaves.1)) in
-    let tags : c.vacate.new.self ≡ finmap.remove a.allocated p.range.base = c.vacate.ensures.unchanged ∙ (c.join-cell.ensures.unchanged ∙ c.remove.ensures) in
+    let tags : c.vacate.new.self ≡ finmap.remove a.allocated p.range.base = c.vacate.ensures.unchanged ∙ (c.join-cell.ensures.unchanged ∙ c.remove-cell.ensures) in
     let after = returned_is a p s lies merged left merges k found.0 found.1 _ _ o.3 tags in
     let back_is = back.leaves.2 in
     let import : Tag = c.take-import.result in

@@ -1,0 +1,103 @@
+//! Cells on their chains.
+ghost use Rattle.std.specs.Prelude.{◌≡◌, ℕ, MatchOption};
+ghost use Rattle.tag_arena.specs.Cells.{IsAt, SameCells};
+
+use crate::cell_links::CellLink;
+use crate::cells::Cells;
+use crate::chains::Chains;
+use std::alloc::{AllocError, Global};
+
+/// The cell where a range is allocated at a base, if it is on its chain.
+pub fn on_chain(cells: &Cells, chains: &Chains, base: u64) -> Option<usize> {
+    let mut link = chains.head(base);
+    for _ in 0..cells.len() {
+        let at = link.cell()?;
+        if cells.begins_at(at, base) {
+            return Some(at);
+        }
+        link = cells.next(at);
+    }
+    None
+}
+
+/// The cell where a range is allocated at a base, by a look at each.
+fn by_each(cells: &Cells, base: u64) -> Option<usize>
+    ensures { MatchOption result ((k : ℕ) → ¬ IsAt base k cells.now)
+        (λ k. IsAt base k cells.now) }
+{
+    for at in 0..cells.len() {
+        if cells.begins_at(at, base) {
+            return Some(at);
+        }
+    }
+    None
+}
+
+/// The cell where a range is allocated at a base: the one that is likely, or the one on its chain,
+/// or else by a look at each.
+pub fn cell_at(cells: &Cells, chains: &Chains, likely: usize, base: u64) -> Option<usize>
+    ensures { MatchOption result ((k : ℕ) → ¬ IsAt base k cells.now)
+        (λ k. IsAt base k cells.now) }
+{
+    if cells.begins_at(likely, base) {
+        return Some(likely);
+    }
+    if let Some(at) = on_chain(cells, chains, base) {
+        if cells.begins_at(at, base) {
+            return Some(at);
+        }
+    }
+    by_each(cells, base)
+}
+
+/// Puts a cell on its chain.
+pub fn put_on(cells: &mut Cells, chains: &mut Chains, at: usize, base: u64)
+    ensures same { SameCells cells.old cells.new }
+{
+    cells.set_next(at, chains.head(base));
+    chains.set_head(base, CellLink::to(Some(at)));
+}
+
+/// Takes a cell off its chain.
+pub fn take_off(cells: &mut Cells, chains: &mut Chains, at: usize, base: u64)
+    ensures same { SameCells cells.old cells.new }
+{
+    let own = CellLink::to(Some(at));
+    let mut link = chains.head(base);
+    if link == own {
+        chains.set_head(base, cells.next(at));
+        return;
+    }
+    for _ in 0..cells.len() {
+        let Some(before) = link.cell() else {
+            return;
+        };
+        link = cells.next(before);
+        if link == own {
+            cells.set_next(before, cells.next(at));
+            return;
+        }
+    }
+}
+
+/// Makes room for one more cell on the chains: where there are as many as chains, these are
+/// doubled, and each cell comes to its own anew.
+pub fn widen(
+    alloc: Global,
+    cells: &mut Cells,
+    chains: &mut Chains,
+    count: usize,
+) -> Result<(), AllocError>
+    ensures same { SameCells cells.old cells.new }
+{
+    if count < chains.len() {
+        return Ok(());
+    }
+    chains.double(alloc)?;
+    for at in 0..cells.len() {
+        if let Some(range) = cells.peek(at) {
+            put_on(cells, chains, at, range.base());
+        }
+    }
+    Ok(())
+}

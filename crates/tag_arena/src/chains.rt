@@ -1,0 +1,66 @@
+//! Which cell an allocated range may be in, by its base: chains of cells, hashed (boundary tags by
+//! a hashed table of their bases: Magazines and Vmem, 2001). It is for speed alone: no contract
+//! sees a chain, and who follows one looks at the cells themselves.
+
+use crate::cell_links::CellLink;
+use std::alloc::{AllocError, Global};
+
+/// An odd number whose products spread (2 ^ 64 by the golden ratio: Knuth's multiplicative
+/// hashing).
+const SPREAD: u64 = 0x9E37_79B9_7F4A_7C15;
+
+/// How many chains there are at first. Their number is doubled from then on.
+const FIRST_CHAINS: usize = 64;
+
+/// The first cell of each chain.
+#[derive(Drop)]
+pub struct Chains {
+    heads: Vec<CellLink>,
+}
+
+impl Chains {
+    /// No chain.
+    pub fn new(alloc: Global) -> Chains {
+        Chains {
+            heads: Vec::new(alloc),
+        }
+    }
+
+    /// How many chains there are.
+    pub fn len(&self) -> usize {
+        self.heads.len()
+    }
+
+    /// The chain of the ranges at a base.
+    fn chain_of(&self, base: u64) -> usize {
+        let spread = base.wrapping_mul(SPREAD) >> 32;
+        spread as usize & self.heads.len().saturating_sub(1)
+    }
+
+    /// The first cell of the chain of a base.
+    pub fn head(&self, base: u64) -> CellLink {
+        match self.heads.get(self.chain_of(base)) {
+            Some(head) => *head,
+            None => CellLink::none(),
+        }
+    }
+
+    /// Another cell is the first of the chain of a base.
+    pub fn set_head(&mut self, base: u64, cell: CellLink) {
+        let chain = self.chain_of(base);
+        if chain < self.heads.len() {
+            self.heads[chain] = cell;
+        }
+    }
+
+    /// Twice as many chains, with no cell on any. Out of memory, all stays as it is.
+    pub fn double(&mut self, alloc: Global) -> Result<(), AllocError> {
+        let Some(count) = self.heads.len().checked_mul(2) else {
+            return Err(AllocError);
+        };
+        let mut heads = Vec::new(alloc);
+        heads.resize(count.max(FIRST_CHAINS), CellLink::none())?;
+        self.heads = heads;
+        Ok(())
+    }
+}
