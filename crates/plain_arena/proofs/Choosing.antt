@@ -1,6 +1,5 @@
 -- What a scan of all free ranges has found is the policy's choice.
-use Rattle.std.proofs.Common.{◌≡◌, ℕ, ◌+◌, ◌%◌, ◌^◌, ◌<◌, ◌≤◌, refl, sym, subst, inl, List, length, HoldsAt, Contains, All, Option, Some, None, arith}
-use Rattle.std.proofs.lemmas.List.Elements.{All-contains}
+use Rattle.std.proofs.Common.{◌≡◌, ℕ, ◌%◌, ◌<◌, ◌≤◌, refl, sym, subst, inl, List, length, HoldsAt, Contains, All, Option, Some, None, arith}
 use Rattle.std.specs.Int.{next_multiple_of}
 use Rattle.deed_core.specs.Extent.{IsRange}
 use Rattle.deed_core.specs.Holding.{Holding}

@@ -1,5 +1,5 @@
 -- What a scan has found, carved.
-use Rattle.std.proofs.Common.{◌≡◌, ℕ, ◌+◌, ◌%◌, ◌<◌, refl, sym, subst, ap, ◌∙◌, arith}
+use Rattle.std.proofs.Common.{◌≡◌, ℕ, ◌%◌, refl, sym, subst, ap, ◌∙◌, arith}
 use Rattle.deed_core.specs.Request.{IsGood, rounding_of}
 use Rattle.deed_core.specs.declared.requests.Request.{Request}
 use Rattle.plain_arena.specs.declared.choices.Found.{Found}

@@ -80,7 +80,7 @@ pub fn take_off(cells: &mut Cells, chains: &mut Chains, at: usize, base: u64)
     }
 }
 
-/// Makes room for one more cell on the chains: where there are as many as chains, these are
+/// Makes room for one more cell on the chains: where there are half as many as chains, these are
 /// doubled, and each cell comes to its own anew.
 pub fn widen(
     alloc: Global,
@@ -90,7 +90,7 @@ pub fn widen(
 ) -> Result<(), AllocError>
     ensures same { SameCells cells.old cells.new }
 {
-    if count < chains.len() {
+    if count < chains.len() / 2 {
         return Ok(());
     }
     chains.double(alloc)?;

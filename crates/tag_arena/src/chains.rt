@@ -31,10 +31,10 @@ impl Chains {
         self.heads.len()
     }
 
-    /// The chain of the ranges at a base.
+    /// The chain of the ranges at a base, by the upper bits of a product.
     fn chain_of(&self, base: u64) -> usize {
         let spread = base.wrapping_mul(SPREAD) >> 32;
-        spread as usize & self.heads.len().saturating_sub(1)
+        (spread.wrapping_mul(self.heads.len() as u64) >> 32) as usize
     }
 
     /// The first cell of the chain of a base.

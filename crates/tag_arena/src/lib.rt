@@ -16,14 +16,16 @@
 //!
 //! * `slots` has each deed in a slot of its own, with the time at which it became free;
 //! * `rising` has the ranges by base, with their lengths as weights, under `next`;
-//! * `sizes` has them by length and base, under `best` and `instant`;
+//! * `sizes` has them by length and base, under `best` and `instant`, from the first call on that
+//!   needs it;
 //! * `lists` has them by power-of-two list, linked from the newest to the oldest, under `instant`.
 //!
-//! Round it `Arena` has the allocated ranges by their bases in a hashed map, `Tags`, and the owned
-//! and the imported spans, each in the order of their ends, in `Spans`; a contract sees spans in
-//! order of coming. Under `best` and `instant` each range, free or allocated, has a cell (`Cells`,
-//! in `Tags`), linked with those of the ranges beside it: so a release finds its free neighbors,
-//! which `next` finds in `rising`.
+//! Round it `Arena` has the owned and the imported spans, each in the order of their ends, in
+//! `Spans`; a contract sees spans in order of coming. `Tags` has the allocated ranges: each stands
+//! in a cell of its own (`Cells`), which is found by the base on a hashed chain (`Chains`). Under
+//! `best` and `instant` a free range has a cell too, and each is linked with those of the ranges
+//! beside it: so a release finds its free neighbors, which `next` finds in `rising`. Chains and
+//! links are for speed alone: who follows one looks at the range itself.
 //!
 //! What it costs: a call seeks in each index, by a search for a row of up to 64 ranges and one in
 //! the row. Each change of an index moves up to 158 entries, and a search by weight up to 63; by
@@ -31,14 +33,15 @@
 //! `instant` looks at 64 heads at most. `next`, and a request with an `align` or a `nocross` of its
 //! own, pass by the rows that have no room with one look at each; `Arena::probes` tells how many
 //! ranges the last grant tried. Other calls look at more: `Arena::report` at each slot that a free
-//! range ever had, `Arena::remove_owned` at each owned span below the one that it takes, and a
-//! carve, a new span or an import that makes a map larger, at each range. A
-//! request with a window of its own, from `min` to `max`, may try many ranges that don't serve it,
-//! and one on another grid than the last may weigh many anew. An index takes some 100 bytes for
-//! each range, free or allocated, cells some 80 to 140, and the lists 32 to 64, beside 1,024
-//! of each arena: a carve and a new span make room for what they add, and for each allocated range
-//! to become free, before they change anything. So `Arena::free` and `Arena::remove_owned` take no
-//! memory.
+//! range ever had, `Arena::remove_owned` at each owned span below the one that it takes, a carve, a
+//! new span or an import that makes a table larger at each range, and the first call that needs
+//! `sizes` at each free range: under `instant` one with options, or for which no list serves, or
+//! `Arena::remove_owned`. A request with a window of its own, from `min` to `max`, may try many
+//! ranges that don't serve it, and one on another grid than the last may weigh many anew. An index
+//! takes some 100 bytes for each range, free or allocated, whether `sizes` is kept yet or not,
+//! cells and chains some 60 to 120, and the lists 32 to 64, beside 1,024 of each arena: a carve and
+//! a new span make room for what they add, and for each allocated range to become free, before they
+//! change anything. So `Arena::free` and `Arena::remove_owned` take no memory.
 //!
 //! Its rules are those of "Magazines and Vmem" (2001), where no other source is named.
 #![tactic(auto)]
