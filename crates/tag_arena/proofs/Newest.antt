@@ -14,6 +14,10 @@ use Rattle.tag_arena.specs.FreeTags.{FreeTag, range_of, since_of, tag_at, tags_b
 use Rattle.tag_arena.specs.Linked.{IsNewestFrom}
 use Rattle.tag_arena.proofs.Aging.{in_tags_by_age, from_tags_by_age, rises_by_age}
 use Rattle.tag_arena.proofs.Fitting.{tag_of_free}
+use Rattle.tag_arena.proofs.Indexing.{tag_of_range}
+use Rattle.tag_arena.specs.Place.{Serves, ServesIn}
+use Rattle.deed_core.specs.Request.{rounding_of}
+use Rattle.deed_core.specs.declared.requests.Request.{Request}
 
 next_power : (p : ℕ) → 2 ^ (p + 1) ≡ 2 * 2 ^ p
 next_power p = ap (λ k. 2 ^ k) (add-one p) ∙ omega (arith, pow-suc 2 p)
@@ -108,3 +112,17 @@ module _ (quantum units list clock : ℕ) (tags : List (Option FreeTag)) (power 
               let old = (first.3 r.0 u r.1 (omega (arith, p, back, its))).1 (p ∙ sym back) in
               omega (arith, old, later, here);
         }
+
+-- where each tag is on a lower list than that of so many units, no range serves
+pub none_as_long : (clock p : ℕ) (tags : List (Option FreeTag)) → AreTags clock tags → ((k : ℕ) (t : FreeTag) → tag_at tags k ≡ Some t → t.power < p)
+    → (quantum : ℕ) (q : Request) → 2 ^ p ≤ rounding_of quantum q.size → (base : ℕ) → Serves quantum q (ranges_by_age tags) base → ⊥
+none_as_long clock p tags are lower quantum q long base serves =
+    let w = tag_of_range tags (λ r. ServesIn quantum q r base) serves in
+    let high = (are w.0 w.1 w.2).high in
+    let low = lower w.0 w.1 w.2 in
+    let s = w.3 in
+    let power : 2 ^ (w.1.power + 1) ≤ 2 ^ p = pow_mono {i = w.1.power + 1} {j = p} (omega (arith, low)) in
+    let twice = next_power w.1.power in
+    let from = s.from in
+    let to = s.to in
+    omega (arith, high, power, twice, long, from, to)

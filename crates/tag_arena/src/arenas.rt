@@ -465,7 +465,8 @@ impl<D: Deed> Arena<D> {
         Ok(Some(Segment::new(import.source(), Route::Direct, whole.into_deed())))
     }
 
-    /// Takes out the lowest owned span that is wholly free. It takes no memory.
+    /// Takes out the lowest owned span that is wholly free. It takes no memory. Under `instant` the
+    /// order of sizes is kept from then on.
     pub fn remove_owned(&mut self) -> Option<D>
         // What it does.
         ensures removed { RemoveOf self.old (option_map D.holding result) self.new }

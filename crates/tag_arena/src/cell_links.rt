@@ -4,7 +4,7 @@
 const NONE: u32 = u32::MAX;
 
 /// The number of a cell, or none. It is for speed alone, so no contract sees it. A cell behind the
-/// first 4,294,967,295 counts as none.
+/// first 4,294,967,295 counts as none: a range in one is found by a look at each cell.
 #[derive(Clone, Copy, PartialEq, Eq, Debug)]
 pub struct CellLink {
     number: u32,

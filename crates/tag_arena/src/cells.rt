@@ -139,6 +139,13 @@ impl Cells {
         }
     }
 
+    /// Makes room for two new cells: so `take` isn't refused twice. Out of memory, all stays.
+    pub fn reserve(&mut self) -> Result<(), AllocError>
+        ensures same { SameCells self.old self.new }
+    {
+        self.cells.reserve(2)
+    }
+
     /// A cell with nothing allocated in it, which was used before or is new.
     pub fn take(&mut self) -> Result<usize, AllocError>
         ensures vacant { IfOk result (λ k. (k < length self.new)
@@ -207,11 +214,12 @@ impl Cells {
         self.link(link, after);
     }
 
-    /// Takes a cell out from between its neighbors: it may be used again.
+    /// Takes a cell with nothing allocated in it out from between its neighbors: it may be used
+    /// again.
     pub fn unlink(&mut self, at: usize)
         ensures same { SameCells self.old self.new }
     {
-        if at >= self.cells.len() {
+        if at >= self.cells.len() || self.peek(at).is_some() {
             return;
         }
         let (before, after) = self.links(at);

@@ -1,5 +1,5 @@
 //! Cells on their chains.
-ghost use Rattle.std.specs.Prelude.{◌≡◌, ℕ, MatchOption};
+ghost use Rattle.std.specs.Prelude.{◌≡◌, ℕ, IfSome, MatchOption};
 ghost use Rattle.tag_arena.specs.Cells.{IsAt, SameCells};
 
 use crate::cell_links::CellLink;
@@ -8,7 +8,9 @@ use crate::chains::Chains;
 use std::alloc::{AllocError, Global};
 
 /// The cell where a range is allocated at a base, if it is on its chain.
-pub fn on_chain(cells: &Cells, chains: &Chains, base: u64) -> Option<usize> {
+pub fn on_chain(cells: &Cells, chains: &Chains, base: u64) -> Option<usize>
+    ensures { IfSome result (λ k. IsAt base k cells.now) }
+{
     let mut link = chains.head(base);
     for _ in 0..cells.len() {
         let at = link.cell()?;
@@ -43,9 +45,7 @@ pub fn cell_at(cells: &Cells, chains: &Chains, likely: usize, base: u64) -> Opti
         return Some(likely);
     }
     if let Some(at) = on_chain(cells, chains, base) {
-        if cells.begins_at(at, base) {
-            return Some(at);
-        }
+        return Some(at);
     }
     by_each(cells, base)
 }
@@ -80,8 +80,9 @@ pub fn take_off(cells: &mut Cells, chains: &mut Chains, at: usize, base: u64)
     }
 }
 
-/// Makes room for one more cell on the chains: where there are half as many as chains, these are
-/// doubled, and each cell comes to its own anew.
+/// Makes room for one more range, with a rest behind it: two cells, and one more on the chains.
+/// Where there are half as many cells on them as chains, these are doubled, and each cell comes to
+/// its own anew. Out of memory, no range is lost, and none found more slowly.
 pub fn widen(
     alloc: Global,
     cells: &mut Cells,
@@ -90,6 +91,7 @@ pub fn widen(
 ) -> Result<(), AllocError>
     ensures same { SameCells cells.old cells.new }
 {
+    cells.reserve()?;
     if count < chains.len() / 2 {
         return Ok(());
     }

@@ -266,7 +266,7 @@ impl<D: Deed> FreeIndex<D> {
     /// is kept from the first such call on: that one looks at each free range. Under `next` there
     /// is no room for it.
     pub fn best(&mut self, quantum: u64, request: &Request, probes: &mut Probes) -> Option<Fit>
-        requires is_kept { keeps_sizes self.old.policy ≡ true }
+        requires asked { keeps_sizes self.old.policy ≡ true }
         requires quantum { IsPowerOfTwo quantum }
         requires good { IsGood quantum request.now }
         requires apart { AllPairs Apart self.old.ranges }
@@ -279,10 +279,11 @@ impl<D: Deed> FreeIndex<D> {
     }
 
     /// As from power-of-two lists: for a request without constraints the newest range of the least
-    /// list whose every member has room, and else, or where there is no such list, the best. It is
-    /// for `instant`, which alone has the lists.
+    /// list whose every member has room, and else, or where there is no such list, the best; but
+    /// where the lists show that none is long enough, the order of sizes isn't asked. It is for
+    /// `instant`, which alone has the lists.
     pub fn instant(&mut self, quantum: u64, request: &Request, probes: &mut Probes) -> Option<Fit>
-        requires is_kept { self.old.policy ≡ Instant }
+        requires asked { self.old.policy ≡ Instant }
         requires quantum { IsPowerOfTwo quantum }
         requires good { IsGood quantum request.now }
         requires aligned { All (λ r. r.range.base % quantum ≡ 0) self.old.ranges }
@@ -302,6 +303,9 @@ impl<D: Deed> FreeIndex<D> {
             return self.best(quantum, request, probes);
         };
         let Some(newest) = newest(&self.slots, &self.lists, quantum, units) else {
+            if self.lists.newest_from(units.ilog2()).is_none() {
+                return None;
+            }
             return self.best(quantum, request, probes);
         };
         probes.look();

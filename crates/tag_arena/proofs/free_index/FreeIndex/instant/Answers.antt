@@ -1,11 +1,21 @@
-use Rattle.std.proofs.Common.{◌^◌, ◌<◌, All, Contains, inr, ap, subst, arith}
+use Rattle.std.proofs.Common.{◌≡◌, ℕ, refl, is_some, true, false, Option, None, Some, ◌∙◌, ◌^◌, ◌<◌, All, Contains, inr, sym, ap, subst, arith}
 use Rattle.std.proofs.lemmas.List.Elements.{All-contains}
 use Rattle.deed_core.specs.Extent.{IsRange}
 use Rattle.deed_core.specs.Request.{IsPlain, rounding_of}
 use Rattle.tag_arena.specs.Choice.{NoListServes, IsInstant}
+use Rattle.tag_arena.specs.FreeRanges.{keeps_lists}
+use Rattle.tag_arena.specs.FreeTags.{ArePowers}
+use Rattle.tag_arena.specs.Linked.{IsNewestFrom}
+use Rattle.tag_arena.specs.Place.{Serves}
 use Rattle.tag_arena.proofs.Choosing.{serves_at_base}
+use Rattle.tag_arena.proofs.Newest.{none_as_long}
 use Rattle.tag_arena.proofs.Lasting.{all_ranges}
 use Rattle.tag_arena.proofs.free_index.FreeIndex.instant.Goals as goal
+
+-- what isn't some is none
+none_there : (o : Option ℕ) → is_some o ≡ false → o ≡ None
+none_there None not = refl
+none_there (Some k) not = absurd (let never : true ≡ false = not in cc)
 
 pub returns-in_default-clause-choice : goal.returns-in_default-clause-choice
 returns-in_default-clause-choice g c =
@@ -55,6 +65,28 @@ returns-in_default-clause-one g c = λ by zero_before.
 
 pub returns-in_default-newest-clause-one : goal.returns-in_default-newest-clause-one
 returns-in_default-newest-clause-one g c = λ by zero_before.
+    let none = subst (λ l. NoListServes c.args.quantum c.in-Some.units l) (ap (λ v. v.ranges) c.self.view_is) c.in_default-newest.ensures in
+    let units = c.in-Some.ensures.1 in
+    let x = by.1.1 in
+    absurd (none by.1.0 x.list (x.index, x.within, x.here by.1.0) x.on_list (omega (arith, x.large, units)))
+
+pub returns-then-is_none-clause-choice : goal.returns-then-is_none-clause-choice
+returns-then-is_none-clause-choice g c =
+    let tags = c.self.inside.slots.tags in
+    let powers : ArePowers tags = λ k t here. (c.self.invariant.tags k t here).power in
+    let linked = c.self.invariant.lists_meet.linked (c.self.invariant.lists_meet.kept_is ∙ ap keeps_lists (ap (λ v. v.policy) c.self.view_is ∙ c.requires.asked)) in
+    let lower = subst (IsNewestFrom c.ilog2.result tags) (none_there c.newest_from.result c.if-is_none.ensures) (c.newest_from.ensures tags linked powers) in
+    let none = subst (λ l. NoListServes c.args.quantum c.in-Some.units l) (ap (λ v. v.ranges) c.self.view_is) c.in_default-newest.ensures in
+    let units = c.in-Some.ensures.1 in
+    let low = c.ilog2.ensures.power_le in
+    inr (
+      (λ plain r i h on serves. none r i h on (omega (arith, serves, units))),
+      (λ base serves. none_as_long c.self.inside.clock c.ilog2.result tags c.self.invariant.tags lower c.args.quantum c.args.request.now (omega (arith, low, units)) base
+          (subst (λ l. Serves c.args.quantum c.args.request.now l base) (sym (ap (λ v. v.ranges) c.self.view_is)) serves)),
+    )
+
+pub returns-then-is_none-clause-one : goal.returns-then-is_none-clause-one
+returns-then-is_none-clause-one g c = λ by zero_before.
     let none = subst (λ l. NoListServes c.args.quantum c.in-Some.units l) (ap (λ v. v.ranges) c.self.view_is) c.in_default-newest.ensures in
     let units = c.in-Some.ensures.1 in
     let x = by.1.1 in
