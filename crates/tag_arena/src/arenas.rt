@@ -33,7 +33,7 @@ use crate::returns::GivenBack;
 use crate::searches::Fit;
 use crate::span_searches::{is_span, overlaps, span_at};
 use crate::spans::{Import, Spans};
-use crate::tags::Tags;
+use crate::tags::{Placed, Tags};
 use crate::whole_spans::lowest_whole;
 use deed_core::{Deed, Range, Request, Route, Segment, Stored};
 use std::alloc::{AllocError, Global};
@@ -308,9 +308,9 @@ impl<D: Deed> Arena<D> {
         reserve_free(self.alloc, &mut self.free, &self.tags, 2)?;
         let piece = HeldRange::new(found.range.root(), piece_of(found.range, found.base, len));
         let origin = origin_in(found, len, self.free.cell(found.slot));
-        let rest = self.tags.insert(piece, origin)?;
+        let Placed { cell, rest } = self.tags.insert(piece, origin)?;
         let Ok(Carved { low, piece, high }) = self.free.carve(found, len) else {
-            let cell = self.tags.remove(piece);
+            let cell = self.tags.remove(piece, cell);
             let whole = self.tags.join(cell, origin.rests);
             tell(&mut self.free, &mut self.tags, whole, Some(found.slot));
             return Err(AllocError);
@@ -389,7 +389,7 @@ impl<D: Deed> Arena<D> {
                 right: first.end() < whole.end(),
             },
         };
-        let Ok(cell) = self.tags.insert(first, origin) else {
+        let Ok(Placed { cell, rest: behind }) = self.tags.insert(first, origin) else {
             self.tags.vacate(origin.cell);
             return Err(span);
         };
@@ -397,14 +397,14 @@ impl<D: Deed> Arena<D> {
         let (deed, rest) = match cut_first(span, len) {
             Ok(parts) => parts,
             Err(span) => {
-                let cell = self.tags.remove(first);
+                let cell = self.tags.remove(first, cell);
                 let whole = self.tags.join(cell, origin.rests);
                 self.tags.vacate(whole);
                 return Err(span);
             }
         };
         let slot = self.free.insert_rest(rest);
-        tell(&mut self.free, &mut self.tags, cell, slot);
+        tell(&mut self.free, &mut self.tags, behind, slot);
         self.imported.put(Import::new(source, whole));
         self.rover = first.end();
         Ok(Segment::new(self.id, Route::Direct, deed.into_deed()))
@@ -452,7 +452,7 @@ impl<D: Deed> Arena<D> {
         let span = span_at(&self.owned, &self.imported, tagged.base()).unwrap();
         let lent = is_span(&self.imported, span);
         let beside = self.tags.beside(cell, tagged.base(), tagged.end());
-        let cell = self.tags.remove(tagged);
+        let cell = self.tags.remove(tagged, cell);
         let deed = Stored::new(segment.into_deed());
         let GivenBack { whole, slot, sides } = self.free.give_back(span, lent, deed, beside);
         let cell = self.tags.join(cell, sides);

@@ -139,6 +139,13 @@ impl Cells {
         }
     }
 
+    /// Whether it is a cell with nothing allocated in it.
+    fn is_vacant(&self, at: usize) -> bool
+        ensures { IsTrue result ↔ (at < length self.now) × (allocated_at self.now at ≡ None) }
+    {
+        at < self.cells.len() && self.peek(at).is_none()
+    }
+
     /// Makes room for two new cells: so `take` isn't refused twice. Out of memory, all stays.
     pub fn reserve(&mut self) -> Result<(), AllocError>
         ensures same { SameCells self.old self.new }
@@ -154,7 +161,7 @@ impl Cells {
         ensures len { length self.old ≤ length self.new }
     {
         if let Some(at) = self.vacant.cell() {
-            if at < self.cells.len() && self.peek(at).is_none() {
+            if self.is_vacant(at) {
                 let cell = &mut self.cells[at];
                 self.vacant = cell.after;
                 *cell = Cell::new();
@@ -219,7 +226,7 @@ impl Cells {
     pub fn unlink(&mut self, at: usize)
         ensures same { SameCells self.old self.new }
     {
-        if at >= self.cells.len() || self.peek(at).is_some() {
+        if !self.is_vacant(at) {
             return;
         }
         let (before, after) = self.links(at);
@@ -233,7 +240,7 @@ impl Cells {
     pub fn set_free(&mut self, at: usize, slot: usize)
         ensures same { SameCells self.old self.new }
     {
-        if at < self.cells.len() && self.peek(at).is_none() {
+        if self.is_vacant(at) {
             let cell = &mut self.cells[at];
             cell.standing = Standing::Free(slot);
         }
@@ -299,7 +306,7 @@ impl Cells {
         let Some(whole) = origin.cell else {
             return self.take();
         };
-        if !origin.rests.left && whole < self.cells.len() && self.peek(whole).is_none() {
+        if !origin.rests.left && self.is_vacant(whole) {
             return Ok(whole);
         }
         let new = self.take()?;

@@ -20,6 +20,13 @@ pub struct Found {
     pub cell: usize,
 }
 
+/// The cell of a range that was put in, and that of the rest behind it, if there is one.
+#[derive(Clone, Copy, Debug)]
+pub struct Placed {
+    pub cell: usize,
+    pub rest: Option<usize>,
+}
+
 /// Each allocated range in a cell of its own, how many they are, and the cell last gone to.
 #[derive(Drop)]
 pub struct Tags {
@@ -133,8 +140,8 @@ impl Tags {
         }
     }
 
-    /// Puts in a range at whose base none stands, and answers the cell of the rest behind it.
-    pub fn insert(&mut self, range: HeldRange, origin: Origin) -> Result<Option<usize>, AllocError>
+    /// Puts in a range at whose base none stands.
+    pub fn insert(&mut self, range: HeldRange, origin: Origin) -> Result<Placed, AllocError>
         requires absent { finmap.get self.old range.range.base ≡ None }
         requires room { finmap.len self.old + 1 < 2 ^ 64 }
         ensures ok { OnOk result (self.new ≡ finmap.insert self.old range.range.base range) }
@@ -146,16 +153,17 @@ impl Tags {
         self.cells.allocate(at, range);
         put_on(&mut self.cells, &mut self.chains, at, range.base());
         self.count += 1;
-        Ok(rest)
+        Ok(Placed { cell: at, rest })
     }
 
-    /// Takes out a range that stands, and answers its cell, where free ranges have cells.
-    pub fn remove(&mut self, range: HeldRange) -> Option<usize>
+    /// Takes out a range that stands, whose cell may be the one that is likely. The answer is its
+    /// cell, where free ranges have cells.
+    pub fn remove(&mut self, range: HeldRange, likely: usize) -> Option<usize>
         requires { finmap.get self.old range.range.base ≡ Some range }
         ensures { self.new ≡ finmap.remove self.old range.range.base }
     {
         let base = range.base();
-        let Some(at) = cell_at(&self.cells, &self.chains, self.near, base) else {
+        let Some(at) = cell_at(&self.cells, &self.chains, likely, base) else {
             unreachable!()
         };
         take_off(&mut self.cells, &mut self.chains, at, base);

@@ -37,7 +37,7 @@ carve-requires-clause-apart g c =
     subst (λ (xs : List Holding). AllPairs Apart xs) (sym (ap (λ v. v.ranges) c.reserve_free.ensures.rest)) c.self.invariant.0.divided.whole.free_apart
 
 pub remove-cell-requires : goal.remove-cell-requires
-remove-cell-requires g c = stands _ _ _ _ c.in_ok-rest.ensures.ok
+remove-cell-requires g c = stands _ _ _ _ c.in_ok-cell.ensures.ok
 
 pub invariant_of-self-in_default : goal.invariant_of-self-in_default
 invariant_of-self-in_default g c =
@@ -48,7 +48,7 @@ invariant_of-self-in_default g c =
     let piece_is = tagged_is _ (part f.range f.base n) _ _ c.new-piece.ensures c.root.ensures c.piece_of.ensures in
     let absent = carve_absent a at.0 f.range (part f.range f.base n) at.1 in
     let absent_here = subst (λ (h : Holding). finmap.get c.self.inside.tags h.range.base ≡ None) (sym piece_is) absent in
-    let tags : c.tell.new.tags ≡ c.self.inside.tags = c.tell.ensures.tags ∙ (c.join-whole.ensures.unchanged ∙ undone c.self.inside.tags c.insert.new.self c.remove-cell.new.self c.new-piece.result.range.base c.new-piece.result absent_here c.in_ok-rest.ensures.ok c.remove-cell.ensures) in
+    let tags : c.tell.new.tags ≡ c.self.inside.tags = c.tell.ensures.tags ∙ (c.join-whole.ensures.unchanged ∙ undone c.self.inside.tags c.insert.new.self c.remove-cell.new.self c.new-piece.result.range.base c.new-piece.result absent_here c.in_ok-cell.ensures.ok c.remove-cell.ensures) in
     let kept = c.tell.ensures.free ∙ c.in_default.ensures.unchanged in
     let free : c.tell.new.free.ranges ≡ c.self.inside.free.ranges = ap (λ v. v.ranges) kept ∙ ap (λ v. v.ranges) c.reserve_free.ensures.rest in
     let len = ap finmap.len tags in (
@@ -65,7 +65,7 @@ returns-in_default-clause-unchanged g c =
     let piece_is = tagged_is _ (part f.range f.base n) _ _ c.new-piece.ensures c.root.ensures c.piece_of.ensures in
     let absent = carve_absent a at.0 f.range (part f.range f.base n) at.1 in
     let absent_here = subst (λ (h : Holding). finmap.get c.self.inside.tags h.range.base ≡ None) (sym piece_is) absent in
-    let tags : c.tell.new.tags ≡ c.self.inside.tags = c.tell.ensures.tags ∙ (c.join-whole.ensures.unchanged ∙ undone c.self.inside.tags c.insert.new.self c.remove-cell.new.self c.new-piece.result.range.base c.new-piece.result absent_here c.in_ok-rest.ensures.ok c.remove-cell.ensures) in
+    let tags : c.tell.new.tags ≡ c.self.inside.tags = c.tell.ensures.tags ∙ (c.join-whole.ensures.unchanged ∙ undone c.self.inside.tags c.insert.new.self c.remove-cell.new.self c.new-piece.result.range.base c.new-piece.result absent_here c.in_ok-cell.ensures.ok c.remove-cell.ensures) in
     let kept = c.tell.ensures.free ∙ c.in_default.ensures.unchanged in
     let free : c.tell.new.free.ranges ≡ c.self.inside.free.ranges = ap (λ v. v.ranges) kept ∙ ap (λ v. v.ranges) c.reserve_free.ensures.rest in
     as_it_was a _ _ free tags ∙ c.self.view_is
@@ -81,7 +81,7 @@ invariant_of-self-2 g c =
     let deed_is : c.in-Ok.field-0.piece ≡ part f.range f.base n = c.in-Ok.ensures.piece in
     let out : CarvesOut f.range (part f.range f.base n) a.free c.carve.new.self.ranges = subst (λ (h : Holding). CarvesOut f.range h a.free c.carve.new.self.ranges) deed_is (subst (λ (xs : List Holding). CarvesOut f.range c.in-Ok.field-0.piece xs c.carve.new.self.ranges) (ap (λ v. v.ranges) c.reserve_free.ensures.rest) c.in-Ok.ensures.carved) in
     let free : CarvesOut f.range (part f.range f.base n) a.free c.tell-3.new.free.ranges = subst (λ v. CarvesOut f.range (part f.range f.base n) a.free v.ranges) (sym (c.tell-3.ensures.free ∙ c.tell-2.ensures.free)) out in
-    let tags : c.insert.new.self ≡ finmap.insert c.self.inside.tags f.base (part f.range f.base n) = c.in_ok-rest.ensures.ok ∙ ap (λ (h : Holding). finmap.insert c.self.inside.tags h.range.base h) piece_is in
+    let tags : c.insert.new.self ≡ finmap.insert c.self.inside.tags f.base (part f.range f.base n) = c.in_ok-cell.ensures.ok ∙ ap (λ (h : Holding). finmap.insert c.self.inside.tags h.range.base h) piece_is in
     let after = carve_done a f.range (part f.range f.base n) _ _ free ((c.tell-3.ensures.tags ∙ c.tell-2.ensures.tags) ∙ tags) in
     let len = ap finmap.len tags ∙ len_more c.self.inside.tags f.base (part f.range f.base n) absent in (
       carve_sound a at.0 f.range (part f.range f.base n) at.1 (none_whole a c.self.invariant.0 f.range) _ after,
@@ -97,6 +97,6 @@ returns-clause-carved g c =
     let deed_is : c.in-Ok.field-0.piece ≡ part f.range f.base n = c.in-Ok.ensures.piece in
     let out : CarvesOut f.range (part f.range f.base n) a.free c.carve.new.self.ranges = subst (λ (h : Holding). CarvesOut f.range h a.free c.carve.new.self.ranges) deed_is (subst (λ (xs : List Holding). CarvesOut f.range c.in-Ok.field-0.piece xs c.carve.new.self.ranges) (ap (λ v. v.ranges) c.reserve_free.ensures.rest) c.in-Ok.ensures.carved) in
     let free : CarvesOut f.range (part f.range f.base n) a.free c.tell-3.new.free.ranges = subst (λ v. CarvesOut f.range (part f.range f.base n) a.free v.ranges) (sym (c.tell-3.ensures.free ∙ c.tell-2.ensures.free)) out in
-    let tags : c.insert.new.self ≡ finmap.insert c.self.inside.tags f.base (part f.range f.base n) = c.in_ok-rest.ensures.ok ∙ ap (λ (h : Holding). finmap.insert c.self.inside.tags h.range.base h) piece_is in
+    let tags : c.insert.new.self ≡ finmap.insert c.self.inside.tags f.base (part f.range f.base n) = c.in_ok-cell.ensures.ok ∙ ap (λ (h : Holding). finmap.insert c.self.inside.tags h.range.base h) piece_is in
     let after = carve_done a f.range (part f.range f.base n) _ _ free ((c.tell-3.ensures.tags ∙ c.tell-2.ensures.tags) ∙ tags) in
     after ∙ ap (λ (s : ArenaState). after_carve s f.range (part f.range f.base n)) c.self.view_is
