@@ -1,5 +1,5 @@
 -- The allocated ranges of an arena, in their cells.
-use Rattle.std.specs.Prelude.{◌≡◌, ◌≢◌, ℕ, List, [], ◌∷◌, Option, Some, None, slice_index_or}
+use Rattle.std.specs.Prelude.{◌≡◌, ◌≢◌, ◌<◌, ℕ, length, List, [], ◌∷◌, Option, Some, None, slice_index_or}
 use Rattle.std.specs.Ordering.{nat_cmp}
 use Rattle.std.specs.FinMap.{FinMap, empty, insert}
 use Rattle.deed_core.specs.Holding.{Holding}
@@ -18,6 +18,10 @@ allocated_at cells k = slice_index_or cells k None
 -- what is allocated in a cell begins at a base
 abbrev pub IsAt : ℕ → ℕ → List (Option Holding) → Type 0
 IsAt base k cells = (h : Holding) × (allocated_at cells k ≡ Some h) × (h.range.base ≡ base)
+
+-- there is such a cell, with nothing allocated in it
+abbrev pub IsVacant : ℕ → List (Option Holding) → Type 0
+IsVacant k cells = (k < length cells) × (allocated_at cells k ≡ None)
 
 -- no two allocated ranges begin at one base
 abbrev pub AreOnce : List (Option Holding) → Type 0

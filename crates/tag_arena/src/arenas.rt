@@ -308,7 +308,7 @@ impl<D: Deed> Arena<D> {
         reserve_free(self.alloc, &mut self.free, &self.tags, 2)?;
         let piece = HeldRange::new(found.range.root(), piece_of(found.range, found.base, len));
         let origin = origin_in(found, len, self.free.cell(found.slot));
-        let Placed { cell, rest } = self.tags.insert(piece, origin)?;
+        let Placed { cell, behind } = self.tags.insert(piece, origin)?;
         let Ok(Carved { low, piece, high }) = self.free.carve(found, len) else {
             let cell = self.tags.remove(piece, cell);
             let whole = self.tags.join(cell, origin.rests);
@@ -316,7 +316,7 @@ impl<D: Deed> Arena<D> {
             return Err(AllocError);
         };
         tell(&mut self.free, &mut self.tags, origin.cell, low);
-        tell(&mut self.free, &mut self.tags, rest, high);
+        tell(&mut self.free, &mut self.tags, behind, high);
         self.rover = found.base + len;
         Ok(Segment::new(self.id, Route::Direct, piece.into_deed()))
     }
@@ -389,7 +389,7 @@ impl<D: Deed> Arena<D> {
                 right: first.end() < whole.end(),
             },
         };
-        let Ok(Placed { cell, rest: behind }) = self.tags.insert(first, origin) else {
+        let Ok(Placed { cell, behind }) = self.tags.insert(first, origin) else {
             self.tags.vacate(origin.cell);
             return Err(span);
         };

@@ -8,7 +8,7 @@
 ghost use Rattle.std.specs.Prelude.{◌≡◌, ℕ, ◌<◌, ◌≤◌, [], None, Some, IfOk, IsTrue, ◌↔◌, length};
 ghost use Rattle.deed_core.specs.Extent.{end_of};
 ghost use Rattle.deed_core.specs.Holding.{Holding};
-ghost use Rattle.tag_arena.specs.Cells.{allocated_at, CellBecomes, IsAt, SameCells};
+ghost use Rattle.tag_arena.specs.Cells.{allocated_at, CellBecomes, IsAt, IsVacant, SameCells};
 
 use crate::cell_links::CellLink;
 use crate::held_ranges::HeldRange;
@@ -82,7 +82,7 @@ pub struct Cells {
     linked: bool,
     cells: Vec<Cell>,
     /// The first cell that may be used again; each of these has the next one as `after`.
-    vacant: CellLink,
+    unused: CellLink,
 }
 
 impl Model for Cells {
@@ -102,7 +102,7 @@ impl Cells {
         Cells {
             linked,
             cells: Vec::new(alloc),
-            vacant: CellLink::none(),
+            unused: CellLink::none(),
         }
     }
 
@@ -139,9 +139,9 @@ impl Cells {
         }
     }
 
-    /// Whether it is a cell with nothing allocated in it.
+    /// Whether there is such a cell, with nothing allocated in it.
     fn is_vacant(&self, at: usize) -> bool
-        ensures { IsTrue result ↔ (at < length self.now) × (allocated_at self.now at ≡ None) }
+        ensures { IsTrue result ↔ IsVacant at self.now }
     {
         at < self.cells.len() && self.peek(at).is_none()
     }
@@ -155,15 +155,14 @@ impl Cells {
 
     /// A cell with nothing allocated in it, which was used before or is new.
     pub fn take(&mut self) -> Result<usize, AllocError>
-        ensures vacant { IfOk result (λ k. (k < length self.new)
-            × (allocated_at self.new k ≡ None)) }
+        ensures vacant { IfOk result (λ k. IsVacant k self.new) }
         ensures same { SameCells self.old self.new }
         ensures len { length self.old ≤ length self.new }
     {
-        if let Some(at) = self.vacant.cell() {
+        if let Some(at) = self.unused.cell() {
             if self.is_vacant(at) {
                 let cell = &mut self.cells[at];
-                self.vacant = cell.after;
+                self.unused = cell.after;
                 *cell = Cell::new();
                 return Ok(at);
             }
@@ -232,8 +231,8 @@ impl Cells {
         let (before, after) = self.links(at);
         self.link(before, after);
         let cell = &mut self.cells[at];
-        cell.after = self.vacant;
-        self.vacant = CellLink::to(Some(at));
+        cell.after = self.unused;
+        self.unused = CellLink::to(Some(at));
     }
 
     /// Tells the slot of the free range in a cell.
@@ -299,8 +298,7 @@ impl Cells {
     /// A cell for a piece of the free range in a cell, with nothing allocated in it: the same one,
     /// unless a rest before the piece keeps it.
     pub fn place_of(&mut self, origin: Origin) -> Result<usize, AllocError>
-        ensures vacant { IfOk result (λ k. (k < length self.new)
-            × (allocated_at self.new k ≡ None)) }
+        ensures vacant { IfOk result (λ k. IsVacant k self.new) }
         ensures same { SameCells self.old self.new }
     {
         let Some(whole) = origin.cell else {

@@ -89,11 +89,12 @@ impl<D: Deed> FreeIndex<D> {
         }
     }
 
-    /// Makes room for `room` free ranges in all, and for `ticks` more to become free. Of all calls
-    /// this one alone takes memory, and a carve what its deed's splits take.
+    /// Makes room for `room` free ranges in all, and for `ticks` more to become free: an eighth
+    /// more where there is memory, so that rows lie together. Of all calls this one alone takes
+    /// memory, and a carve what its deed's splits take.
     pub fn reserve(&mut self, alloc: Global, room: usize, ticks: usize) -> Result<(), AllocError>
         requires apart { AllPairs Apart self.old.ranges }
-        ensures room { OnOk result (self.new.room ≡ max room self.old.room) }
+        ensures room { OnOk result (room ≤ self.new.room) }
         ensures ticks { OnOk result (ticks ≤ self.new.ticks) }
         ensures grows { (self.old.room ≤ self.new.room) × (self.old.ticks ≤ self.new.ticks) }
         ensures rest { self.new ≡ record self.old {
@@ -104,7 +105,13 @@ impl<D: Deed> FreeIndex<D> {
         if u64::MAX - self.clock < ticks as u64 {
             return Err(AllocError);
         }
-        self.widen(alloc, room)
+        if room <= self.room {
+            return Ok(());
+        }
+        let Ok(()) = self.widen(alloc, room.saturating_add(room / 8)) else {
+            return self.widen(alloc, room);
+        };
+        Ok(())
     }
 
     /// Makes room for `room` free ranges in all.

@@ -20,11 +20,11 @@ pub struct Found {
     pub cell: usize,
 }
 
-/// The cell of a range that was put in, and that of the rest behind it, if there is one.
+/// The cell of a range that was put in, and that of the rest behind it, if that has one.
 #[derive(Clone, Copy, Debug)]
 pub struct Placed {
     pub cell: usize,
-    pub rest: Option<usize>,
+    pub behind: Option<usize>,
 }
 
 /// Each allocated range in a cell of its own, how many they are, and the cell last gone to.
@@ -74,8 +74,7 @@ impl Tags {
         self.count
     }
 
-    /// Goes to a base. It is for speed alone: the calls for the same base that follow need no
-    /// search.
+    /// Goes to a base. It is for speed alone: a `get` at the same base needs no search then.
     pub fn go_to(&mut self, base: u64)
         ensures unchanged { self.new ≡ self.old }
     {
@@ -149,11 +148,11 @@ impl Tags {
     {
         widen(self.alloc, &mut self.cells, &mut self.chains, self.count)?;
         let at = self.cells.place_of(origin)?;
-        let rest = self.cells.place_behind(at, origin);
+        let behind = self.cells.place_behind(at, origin);
         self.cells.allocate(at, range);
         put_on(&mut self.cells, &mut self.chains, at, range.base());
         self.count += 1;
-        Ok(Placed { cell: at, rest })
+        Ok(Placed { cell: at, behind })
     }
 
     /// Takes out a range that stands, whose cell may be the one that is likely. The answer is its

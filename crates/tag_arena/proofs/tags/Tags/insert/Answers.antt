@@ -61,13 +61,13 @@ returns-in_err-at-clause-unchanged c =
 pub invariant_of-self-2 : goal.invariant_of-self-2
 invariant_of-self-2 c =
     let absent = ap (λ m. finmap.get m c.args.range.range.base) c.self.view_is ∙ c.requires.absent in
-    stays c.self.inside.cells c.widen.new.cells c.place_of.new.self c.place_behind-rest.new.self c.allocate.new.self c.put_on.new.cells c.in_ok-at.at c.args.range
-    c.self.invariant.1 absent c.widen.ensures.same c.in_ok-at.ensures.same c.in_ok-at.ensures.vacant.1 c.place_behind-rest.ensures.same c.allocate.ensures c.put_on.ensures.same
+    stays c.self.inside.cells c.widen.new.cells c.place_of.new.self c.place_behind-behind.new.self c.allocate.new.self c.put_on.new.cells c.in_ok-at.at c.args.range
+    c.self.invariant.1 absent c.widen.ensures.same c.in_ok-at.ensures.same c.in_ok-at.ensures.vacant.1 c.place_behind-behind.ensures.same c.allocate.ensures c.put_on.ensures.same
     c.self.inside.count c.self.invariant.0
 
 pub returns-clause-ok : goal.returns-clause-ok
 returns-clause-ok c =
     let absent = ap (λ m. finmap.get m c.args.range.range.base) c.self.view_is ∙ c.requires.absent in
-    one_more c.self.inside.cells c.widen.new.cells c.place_of.new.self c.place_behind-rest.new.self c.allocate.new.self c.put_on.new.cells c.in_ok-at.at c.args.range
-    c.self.invariant.1 absent c.widen.ensures.same c.in_ok-at.ensures.same c.in_ok-at.ensures.vacant.1 c.place_behind-rest.ensures.same c.allocate.ensures c.put_on.ensures.same
+    one_more c.self.inside.cells c.widen.new.cells c.place_of.new.self c.place_behind-behind.new.self c.allocate.new.self c.put_on.new.cells c.in_ok-at.at c.args.range
+    c.self.invariant.1 absent c.widen.ensures.same c.in_ok-at.ensures.same c.in_ok-at.ensures.vacant.1 c.place_behind-behind.ensures.same c.allocate.ensures c.put_on.ensures.same
     ∙ ap (λ m. finmap.insert m c.args.range.range.base c.args.range) c.self.view_is
