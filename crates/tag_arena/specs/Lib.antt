@@ -1,4 +1,5 @@
 pub mod Layout
+pub mod SlotNumbers
 pub mod Linked
 pub mod Boundaries
 pub mod Place

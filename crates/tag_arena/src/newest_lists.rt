@@ -4,6 +4,7 @@ ghost use Rattle.std.specs.Prelude.{◌≡◌, ◌<◌, ◌≤◌, ℕ, List, []
 ghost use Rattle.tag_arena.specs.FreeTags.{FreeTag, tag_at, SlotBecomes, IsTimed, ArePowers};
 ghost use Rattle.tag_arena.specs.Linked.{IsLinked, IsNewestFrom, lists_room};
 
+use crate::slot_links::{MOST_SLOTS, SlotLink};
 use crate::slots::SlotTag;
 use std::alloc::{AllocError, Global};
 use std::marker::Model;
@@ -14,8 +15,8 @@ const LISTS: usize = 64;
 /// The slots beside a slot on its list.
 #[derive(Clone, Copy, Debug)]
 pub struct Link {
-    pub newer: Option<usize>,
-    pub older: Option<usize>,
+    pub newer: SlotLink,
+    pub older: SlotLink,
 }
 
 /// The lists, with nothing on them where they aren't kept.
@@ -29,14 +30,15 @@ pub struct NewestLists {
 }
 
 impl Model for NewestLists {
-    ghost use Rattle.std.specs.Prelude.{◌≡◌, length};
+    ghost use Rattle.std.specs.Prelude.{◌≡◌, ◌≤◌, length};
+    ghost use Rattle.tag_arena.specs.declared.slot_links.TheConstants.{MOST_SLOTS};
     ghost use Rattle.tag_arena.specs.Linked.{ListsState};
 
     ghost Value = { ListsState };
 
     ghost view = { λ l. record { kept = l.kept; newest = l.newest; links = l.links.items } };
 
-    ghost invariant = { λ l. length l.newest ≡ 64 };
+    ghost invariant = { λ l. (length l.newest ≡ 64) × (length l.links.items ≤ MOST_SLOTS) };
 }
 
 impl NewestLists {
@@ -54,7 +56,8 @@ impl NewestLists {
         }
     }
 
-    /// Makes room for links of the slots below `room`, where the lists are kept.
+    /// Makes room for links of the slots below `room`, where the lists are kept. Where there are
+    /// more than `MOST_SLOTS`, that is refused: a link has 32 bits for the number of a slot.
     pub fn reserve(&mut self, room: usize) -> Result<(), AllocError>
         ensures ok { OnOk result (self.old.kept ≡ true → room ≤ lists_room self.new) }
         ensures linked { (tags : List (Option FreeTag)) → IsLinked self.old tags
@@ -65,9 +68,12 @@ impl NewestLists {
         if !self.kept || room <= self.links.len() {
             return Ok(());
         }
+        if room > MOST_SLOTS {
+            return Err(AllocError);
+        }
         let alone = Link {
-            newer: None,
-            older: None,
+            newer: SlotLink::none(),
+            older: SlotLink::none(),
         };
         self.links.resize(room, alone)
     }
@@ -91,11 +97,11 @@ impl NewestLists {
         let list = tag.power() as usize;
         let newest = self.newest[list];
         self.links[slot] = Link {
-            newer: None,
-            older: newest,
+            newer: SlotLink::none(),
+            older: SlotLink::to(newest),
         };
         if let Some(older) = newest {
-            self.links[older].newer = Some(slot);
+            self.links[older].newer = SlotLink::to(Some(slot));
         }
         self.newest[list] = Some(slot);
     }
@@ -115,11 +121,11 @@ impl NewestLists {
             return;
         }
         let Link { newer, older } = self.links[slot];
-        match newer {
+        match newer.slot() {
             Some(newer) => self.links[newer].older = older,
-            None => self.newest[tag.power() as usize] = older,
+            None => self.newest[tag.power() as usize] = older.slot(),
         }
-        if let Some(older) = older {
+        if let Some(older) = older.slot() {
             self.links[older].newer = newer;
         }
     }

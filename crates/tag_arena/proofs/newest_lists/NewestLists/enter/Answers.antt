@@ -19,19 +19,21 @@ returns-clause-linked c = λ kept old new linked timed vacant later becomes.
     let now = c.match-newest.self-inside in
     let l2 : ListsState = record { kept = now.kept; newest = set now.newest c.power-list.result (Some slot); links = now.links.items } in
     let listed : now.newest ≡ s.newest → set now.newest c.power-list.result (Some slot) ≡ set s.newest power (Some slot) = λ e. ap (λ ns. set ns c.power-list.result (Some slot)) e ∙ ap (λ p. set s.newest p (Some slot)) c.power-list.ensures in
+    let put : Link = record { newer = c.none.result; older = c.to.result } in
+    let put_is : put ≡ own (newest_of l power) = ap (λ n. record { newer = n; older = c.to.result }) c.none.ensures ∙ ap own (c.to.ensures ∙ sym seen) in
     elim c.match-newest.branch [
       | in-Some w ↦
           let h = w.in-Some.older in
           let head : newest_of l power ≡ Some h = seen ∙ w.in-Some.is in
-          let links1 = set s.links.items slot (own (get_or s.newest c.power-list.result None)) in
-          let within : h < length links1 = subst (IsWithin (length links1)) head (head_within old new slot c.args.tag l x c.self.invariant c.requires.power room (length links1) (length-set s.links.items slot (own (get_or s.newest c.power-list.result None))) (newest_of l power) (x.heads power c.requires.power)) in
-          let wired = wired_newer links1 h (Some slot) w.index_mut-in-Some.result.now within w.index_mut-in-Some.ensures.value in
-          entered old new slot c.args.tag l x c.self.invariant c.requires.power room l2 (listed (ap (λ v. v.newest) w.self-inside-is))
-          (ap (λ v. v.links.items) w.self-inside-is ∙ (wired ∙ (ap (λ o. relink_newer (set s.links.items slot (own o)) (Some h) (Some slot)) (sym seen) ∙ ap (λ o. relink_newer (set s.links.items slot (own (newest_of l power))) o (Some slot)) (sym head))))
+          let links1 = set s.links.items slot put in
+          let within : h < length links1 = subst (IsWithin (length links1)) head (head_within old new slot c.args.tag l x c.self.invariant.0 c.requires.power room (length links1) (length-set s.links.items slot put) (newest_of l power) (x.heads power c.requires.power)) in
+          let wired = wired_newer links1 h w.to-in-Some.result w.index_mut-in-Some.result.now within w.index_mut-in-Some.ensures.value in
+          entered old new slot c.args.tag l x c.self.invariant.0 c.requires.power room l2 (listed (ap (λ v. v.newest) w.self-inside-is))
+          (ap (λ v. v.links.items) w.self-inside-is ∙ (wired ∙ (ap (relink_newer links1 (Some h)) w.to-in-Some.ensures ∙ (ap (λ v. relink_newer (set s.links.items slot v) (Some h) (Some slot)) put_is ∙ ap (λ o. relink_newer (set s.links.items slot (own (newest_of l power))) o (Some slot)) (sym head)))))
           timed vacant later becomes
       | in_default w ↦
           let head : newest_of l power ≡ None = seen ∙ w.in_default.is in
-          entered old new slot c.args.tag l x c.self.invariant c.requires.power room l2 (listed (ap (λ v. v.newest) w.self-inside-is))
-          (ap (λ v. v.links.items) w.self-inside-is ∙ (ap (λ o. set s.links.items slot (own o)) (sym seen) ∙ ap (λ o. relink_newer (set s.links.items slot (own (newest_of l power))) o (Some slot)) (sym head)))
+          entered old new slot c.args.tag l x c.self.invariant.0 c.requires.power room l2 (listed (ap (λ v. v.newest) w.self-inside-is))
+          (ap (λ v. v.links.items) w.self-inside-is ∙ (ap (set s.links.items slot) put_is ∙ ap (λ o. relink_newer (set s.links.items slot (own (newest_of l power))) o (Some slot)) (sym head)))
           timed vacant later becomes
     ]
