@@ -2,6 +2,7 @@ pub mod Receipts
 pub mod Entry
 pub mod Account
 pub mod Shelf
+pub mod Places
 pub mod History
 pub mod BookState
 pub mod Answers

@@ -2,15 +2,16 @@
 ghost use Rattle.std.specs.Prelude.{◌≡◌, ◌≢◌, ◌+◌, ◌*◌, ◌<◌, ◌≤◌, ◌==◌, List, [], ◌∷◌, ◌++◌};
 ghost use Rattle.std.specs.Prelude.{length, All, OnOk, OnErr, IfErr, IfSome, IfNone, Some, None};
 ghost use Rattle.std.specs.Prelude.{slice_get, position, sum_by, nat_lt, option_map};
-ghost use Rattle.std.specs.List.{find, remove};
+ghost use Rattle.std.specs.List.{find};
 ghost use Rattle.lease_terms.specs.declared.values.TheConstants.{LAST_CLIENT};
 ghost use Rattle.lease_book.specs.Receipts.{IsEarned};
-ghost use Rattle.lease_book.specs.Account.{Account, number_of};
+ghost use Rattle.lease_book.specs.Account.{Account, number_of, without_first};
 ghost use Rattle.lease_book.specs.BookState.{units_of_lease};
+ghost use Rattle.lease_book.specs.Places.{is_asked};
 ghost use Rattle.lease_book.specs.Shelf.{IsEmptyBefore};
 ghost use Rattle.lease_book.specs.declared.books.TheConstants.{MOST_LEASES};
 
-use crate::leases::{Held, Leases};
+use crate::leases::{Held, Leases, Which};
 use crate::receipts::{Kept, KeptReply, Terms};
 use crate::reports::ClientReport;
 use deed_core::{Deed, Segment};
@@ -169,15 +170,16 @@ impl<D: Deed> Accounts<D> {
         self.leases[index].add(held)
     }
 
-    /// Takes a lease out.
-    pub(crate) fn take(&mut self, index: usize, lease: usize) -> Held<D>
-        requires within { index < length self.old }
-        requires stands { IfSome (slice_get self.old index) (λ a. lease < length a.leases) }
+    /// Takes the first lease out that is asked for.
+    pub(crate) fn take(&mut self, index: usize, which: Which) -> Option<Held<D>>
+        requires { index < length self.old }
         ensures lease { IfSome (slice_get self.old index)
-            (λ a. slice_get a.leases lease ≡ Some result) }
-        ensures rest { self.new ≡ update_at self.old index (with_leases (λ ls. remove ls lease)) }
+            (λ a. find (is_asked which) a.leases ≡ result) }
+        ensures rest { self.new ≡ update_at self.old index
+            (with_leases (without_first (is_asked which))) }
+        ensures unchanged { IfNone result (self.new ≡ self.old) }
     {
-        self.leases[index].take(lease)
+        self.leases[index].take(which)
     }
 
     /// The index of a client that has a lease. The search goes on where the one before ended.

@@ -18,7 +18,7 @@ ghost use Rattle.lease_book.specs.declared.books.TheConstants.{MOST_LEASES};
 
 use crate::accounts::{Accounts, Standing};
 use crate::answers::{Answer, HelloFault, Look, NotLeased};
-use crate::leases::Held;
+use crate::leases::{Held, Which};
 use crate::receipts::{Kept, KeptReply, Receipt, Terms};
 use crate::reports::ClientReport;
 use deed_core::{Deed, Request, Segment};
@@ -218,15 +218,13 @@ impl<D: Deed> Book<D> {
         // For its clause: the base is in its range.
         let _ = base.get();
         let index = self.admit(id)?;
-        let leases = self.accounts.leases(index);
-        let Some(lease) = leases.position(id, arena, base) else {
+        let Some(held) = self.accounts.take(index, Which::At(id, arena, base)) else {
             let reply = KeptReply::Refused(Refusal::NotYours);
             let kept = self.accounts.keep(index, id, reply, None);
             return Err(Answer::Refused(self.receipt(id, kept)));
         };
-        let segment = self.accounts.take(index, lease).into_segment();
         let kept = self.accounts.keep(index, id, KeptReply::Released, None);
-        Ok((self.receipt(id, kept), segment))
+        Ok((self.receipt(id, kept), held.into_segment()))
     }
 
     /// Whether a lease of an older incarnation of the client stands: `sweep` gives one just then.
@@ -250,8 +248,9 @@ impl<D: Deed> Book<D> {
         ensures unchanged { IfNone result (self.new ≡ self.old) }
     {
         let (index, standing) = self.account(client)?;
-        let lease = self.accounts.leases(index).older(standing.incarnation)?;
-        Some(self.accounts.take(index, lease).ended(client))
+        let older = Which::Before(standing.incarnation);
+        let held = self.accounts.take(index, older)?;
+        Some(held.ended(client))
     }
 
     /// Ends a lease, whichever, at a system's end, and gives it with the request that was granted
@@ -264,7 +263,8 @@ impl<D: Deed> Book<D> {
     {
         let index = self.accounts.first_leased()?;
         let client = self.accounts.client(index);
-        Some(self.accounts.take(index, 0).ended(client))
+        let held = self.accounts.take(index, Which::Any)?;
+        Some(held.ended(client))
     }
 
     /// The units of the arena that are leased.

@@ -1,13 +1,15 @@
 //! The leases of one client, in order of grant.
-ghost use Rattle.std.specs.Prelude.{◌≡◌, ◌+◌, ◌*◌, ◌^◌, ◌<◌, ◌≤◌, [], ◌∷◌, ◌++◌, length, OnOk};
-ghost use Rattle.std.specs.Prelude.{OnErr, IfOk, IfErr, Some, slice_get, position, sum_by, All};
-ghost use Rattle.std.specs.List.{list_any, remove};
+ghost use Rattle.std.specs.Prelude.{◌≡◌, ◌*◌, ◌<◌, ◌≤◌, [], ◌∷◌, ◌++◌, length, OnOk, OnErr};
+ghost use Rattle.std.specs.Prelude.{IfErr, IfNone, sum_by, All};
+ghost use Rattle.std.specs.List.{find, list_any};
 ghost use Rattle.lease_terms.specs.declared.values.TheConstants.{LARGEST};
-ghost use Rattle.lease_book.specs.Account.{Lease, is_lease, is_of, is_older, lease_of};
-ghost use Rattle.lease_book.specs.Account.{granted_request};
+ghost use Rattle.lease_book.specs.Account.{Lease, is_lease, is_older, lease_of};
+ghost use Rattle.lease_book.specs.Account.{granted_request, without_first};
 ghost use Rattle.lease_book.specs.BookState.{units_of_lease};
+ghost use Rattle.lease_book.specs.Places.{is_asked};
 ghost use Rattle.lease_book.specs.declared.books.TheConstants.{MOST_LEASES};
 
+use crate::places::Places;
 use deed_core::{Deed, Segment};
 use lease_terms::{ClientId, Ordinal, Quantity, RequestId};
 use std::alloc::Global;
@@ -44,14 +46,24 @@ impl<D: Deed> Held<D> {
         }
     }
 
-    /// Whether it is of the request's incarnation and of this arena.
-    fn is_of(&self, id: RequestId, arena: u32) -> bool
-        ensures { result ≡ is_of id.incarnation arena self.now }
+    /// Where its segment begins.
+    pub(crate) fn base(&self) -> u64
+        ensures { result ≡ self.now.segment.holding.range.base }
     {
-        id.incarnation.get() == self.incarnation.get() && arena == self.segment.arena()
+        self.segment.range().base()
     }
 
-    fn is_older(&self, incarnation: Ordinal) -> bool
+    /// Whether it is of the request's incarnation with this arena and base.
+    pub(crate) fn is_lease(&self, id: RequestId, arena: u32, base: Quantity) -> bool
+        ensures { result ≡ is_lease id.incarnation arena base self.now }
+    {
+        id.incarnation.get() == self.incarnation.get()
+            && arena == self.segment.arena()
+            && base.get() == self.base()
+    }
+
+    /// Whether it is of an incarnation before this one.
+    pub(crate) fn is_older(&self, incarnation: Ordinal) -> bool
         ensures { result ≡ is_older incarnation self.now }
     {
         self.incarnation.get() < incarnation.get()
@@ -86,7 +98,8 @@ impl<D: Deed> Held<D> {
         (id, segment)
     }
 
-    fn units(&self, arena: u32) -> u64
+    /// The units of it that are the arena's.
+    pub(crate) fn units(&self, arena: u32) -> u64
         ensures value { result ≡ units_of_lease arena self.now }
         ensures bound { result ≤ LARGEST }
     {
@@ -98,83 +111,37 @@ impl<D: Deed> Held<D> {
     }
 }
 
-/// A lease in a box, so that in a list those after one that is taken out move down by a few bytes
-/// each. Beside the box stands the base: a search for a lease reads the bases, which lie close
-/// together, and looks into a box only where its base is the one that is asked for.
-struct BoxedLease<D: Deed> {
-    base: u64,
-    held: Box<Held<D>>,
-}
-
-impl<D: Deed> Model for BoxedLease<D> {
-    ghost use Rattle.std.specs.Prelude.{◌≡◌, box_value};
-    ghost use Rattle.lease_book.specs.Account.{Lease};
-
-    ghost Value = { Lease };
-
-    ghost view = { λ b. box_value b.held };
-
-    ghost invariant = { λ b. b.base ≡ (box_value b.held).segment.holding.range.base };
-}
-
-impl<D: Deed> BoxedLease<D> {
-    /// `Err` is out of memory.
-    fn new(alloc: Global, held: Held<D>) -> Result<BoxedLease<D>, Segment<D>>
-        ensures value { IfOk result (λ boxed. boxed ≡ held) }
-        ensures handed_back { IfErr result (λ s. s ≡ held.segment) }
-    {
-        let base = held.segment.range().base();
-        match Box::new(alloc, held) {
-            Ok(held) => Ok(BoxedLease { base, held }),
-            Err(failed) => Err(failed.value.into_segment()),
-        }
-    }
-
-    fn is_lease(&self, id: RequestId, arena: u32, base: Quantity) -> bool
-        ensures { result ≡ is_lease id.incarnation arena base self.now }
-    {
-        self.base == base.get() && self.held.is_of(id, arena)
-    }
-
-    fn is_older(&self, incarnation: Ordinal) -> bool
-        ensures { result ≡ is_older incarnation self.now }
-    {
-        self.held.is_older(incarnation)
-    }
-
-    fn units(&self, arena: u32) -> u64
-        ensures value { result ≡ units_of_lease arena self.now }
-        ensures bound { result ≤ LARGEST }
-    {
-        self.held.units(arena)
-    }
-
-    /// The lease out of its box.
-    fn into_held(self) -> Held<D>
-        ensures { result ≡ self }
-    {
-        let BoxedLease { base: _, held } = self;
-        Box::into_inner(held)
-    }
+/// Which of a client's leases is asked for.
+#[derive(Clone, Copy, Debug)]
+pub(crate) enum Which {
+    /// The one of the request's incarnation with an arena and a base.
+    At(RequestId, u32, Quantity),
+    /// One of an incarnation before this one.
+    Before(Ordinal),
+    /// Whichever.
+    Any,
 }
 
 /// The leases of one client. None is of an incarnation before `least`: so whether one is older
 /// needs no search while the client goes on in one incarnation.
 pub(crate) struct Leases<D: Deed> {
-    held: Vec<BoxedLease<D>>,
+    places: Places<D>,
+    count: usize,
     least: u64,
 }
 
 impl<D: Deed> Model for Leases<D> {
-    ghost use Rattle.std.specs.Prelude.{List};
+    ghost use Rattle.std.specs.Prelude.{◌≡◌, List, length};
     ghost use Rattle.lease_book.specs.Account.{Lease};
+    ghost use Rattle.lease_book.specs.Places.{leases_in};
     ghost use Rattle.lease_book.specs.Shelf.{NoneBefore};
 
     ghost Value = { List Lease };
 
-    ghost view = { λ l. l.held.items };
+    ghost view = { λ l. leases_in l.places.places };
 
-    ghost invariant = { λ l. NoneBefore l.least l.held.items };
+    ghost invariant = { λ l. (l.count ≡ length (leases_in l.places.places))
+        × NoneBefore l.least (leases_in l.places.places) };
 }
 
 impl<D: Deed> Leases<D> {
@@ -182,7 +149,8 @@ impl<D: Deed> Leases<D> {
         ensures { result ≡ [] }
     {
         Leases {
-            held: Vec::new(alloc),
+            places: Places::new(alloc),
+            count: 0,
             least: 0,
         }
     }
@@ -190,44 +158,43 @@ impl<D: Deed> Leases<D> {
     pub(crate) fn len(&self) -> usize
         ensures { result ≡ length self.now }
     {
-        self.held.len()
+        self.count
     }
 
     /// Adds a lease. `Err` is out of memory.
     pub(crate) fn add(&mut self, held: Held<D>) -> Result<(), Segment<D>>
+        requires { length self.old < MOST_LEASES }
         ensures ok { OnOk result (self.new ≡ self.old ++ held ∷ []) }
         ensures unchanged { OnErr result (self.new ≡ self.old) }
         ensures handed_back { IfErr result (λ s. s ≡ held.segment) }
     {
-        let Ok(()) = self.held.reserve(1) else {
-            return Err(held.into_segment());
-        };
-        let least = self.least_with(held.incarnation);
-        let boxed = BoxedLease::new(*self.held.allocator(), held)?;
-        self.held.push_reserved(boxed);
-        self.least = least;
+        if self.places.is_full() {
+            let Ok(()) = self.places.renew(self.count) else {
+                return Err(held.into_segment());
+            };
+        }
+        self.least = self.least_with(held.incarnation);
+        self.places.push(held);
+        self.count += 1;
         Ok(())
     }
 
-    /// Where the first lease of the request's incarnation with this arena and base stands.
-    pub(crate) fn position(&self, id: RequestId, arena: u32, base: Quantity) -> Option<usize>
-        ensures { result ≡ position (is_lease id.incarnation arena base) self.now }
+    /// Takes the first lease out that is asked for.
+    pub(crate) fn take(&mut self, which: Which) -> Option<Held<D>>
+        ensures lease { find (is_asked which) self.old ≡ result }
+        ensures rest { self.new ≡ without_first (is_asked which) self.old }
+        ensures unchanged { IfNone result (self.new ≡ self.old) }
     {
-        first_lease(&self.held, id, arena, base)
+        let held = self.places.take(which)?;
+        self.count -= 1;
+        Some(held)
     }
 
-    /// Where the first lease of an incarnation before this one stands.
-    pub(crate) fn older(&self, incarnation: Ordinal) -> Option<usize>
-        ensures { result ≡ position (is_older incarnation) self.now }
-    {
-        first_older(&self.held, incarnation)
-    }
-
-    /// Whether there is one.
+    /// Whether there is one of an incarnation before this one.
     pub(crate) fn has_older(&self, incarnation: Ordinal) -> bool
         ensures { result ≡ list_any (is_older incarnation) self.now }
     {
-        self.least < incarnation.get() && any_older(&self.held, incarnation)
+        self.least < incarnation.get() && self.places.has_older(incarnation)
     }
 
     // What no lease's incarnation is below, nor this one.
@@ -238,19 +205,10 @@ impl<D: Deed> Leases<D> {
         if incarnation.get() <= self.least {
             return incarnation.get();
         }
-        match self.older(incarnation) {
-            Some(_) => self.least,
-            None => incarnation.get(),
+        if self.places.has_older(incarnation) {
+            return self.least;
         }
-    }
-
-    /// Takes the lease at an index out.
-    pub(crate) fn take(&mut self, index: usize) -> Held<D>
-        requires { index < length self.old }
-        ensures lease { slice_get self.old index ≡ Some result }
-        ensures rest { self.new ≡ remove self.old index }
-    {
-        self.held.remove(index).into_held()
+        incarnation.get()
     }
 
     /// The units of the arena that are leased.
@@ -259,11 +217,7 @@ impl<D: Deed> Leases<D> {
         ensures value { result ≡ sum_by (units_of_lease arena) self.now }
         ensures bound { result ≤ MOST_LEASES * LARGEST }
     {
-        let mut units: u128 = 0;
-        for held in &self.held {
-            units += held.units(arena) as u128;
-        }
-        units
+        self.places.units(arena)
     }
 
     /// Ends an empty list.
@@ -271,32 +225,10 @@ impl<D: Deed> Leases<D> {
         requires { self ≡ [] }
     {
         let Leases {
-            held,
+            places,
+            count: _count,
             least: _least,
         } = self;
-        held.destroy_empty();
+        places.close();
     }
-}
-
-fn first_lease<D: Deed>(
-    held: &[BoxedLease<D>],
-    id: RequestId,
-    arena: u32,
-    base: Quantity,
-) -> Option<usize>
-    ensures { result ≡ position (is_lease id.incarnation arena base) held.now }
-{
-    held.iter().position(|one| one.is_lease(id, arena, base))
-}
-
-fn first_older<D: Deed>(held: &[BoxedLease<D>], incarnation: Ordinal) -> Option<usize>
-    ensures { result ≡ position (is_older incarnation) held.now }
-{
-    held.iter().position(|one| one.is_older(incarnation))
-}
-
-fn any_older<D: Deed>(held: &[BoxedLease<D>], incarnation: Ordinal) -> bool
-    ensures { result ≡ list_any (is_older incarnation) held.now }
-{
-    held.iter().any(|one| one.is_older(incarnation))
 }

@@ -26,6 +26,7 @@ mod answers;
 mod books;
 mod laws;
 mod leases;
+mod places;
 mod receipts;
 mod reports;
 

@@ -1,0 +1,277 @@
+//! The places of a client's leases, in order of grant. A place stays empty when its lease is taken
+//! out, until all leases get new places. So neither does a search look at each lease, nor are those
+//! behind one that is taken out moved. A search goes along the places of a chain, the last of them
+//! first (chained hashing; which lease goes on which chain is our own choice).
+ghost use Rattle.std.specs.Prelude.{◌≡◌, ◌+◌, ◌*◌, ◌<◌, ◌≤◌, [], ◌∷◌, ◌++◌, length, Some, None};
+ghost use Rattle.std.specs.Prelude.{IfOk, OnOk, OnErr, IfNone, position, sum_by, is_some, nat_le};
+ghost use Rattle.std.specs.List.{find, list_any};
+ghost use Rattle.lease_terms.specs.declared.values.TheConstants.{LARGEST};
+ghost use Rattle.lease_book.specs.Account.{Lease, is_lease, is_older, without_first};
+ghost use Rattle.lease_book.specs.BookState.{units_of_lease};
+ghost use Rattle.lease_book.specs.Places.{leases_in, is_asked, holds, chain_of};
+ghost use Rattle.lease_book.specs.declared.books.TheConstants.{MOST_LEASES};
+
+use crate::books::MOST_LEASES;
+use crate::leases::{Held, Which};
+use deed_core::Deed;
+use lease_terms::{Ordinal, Quantity, RequestId};
+use std::alloc::{AllocError, Global};
+use std::marker::Model;
+use std::mem;
+
+/// An odd number whose products spread (2 ^ 64 by the golden ratio: Knuth's multiplicative
+/// hashing).
+const SPREAD: u64 = 0x9E37_79B9_7F4A_7C15;
+
+/// As many chains there may be: four for each lease of a client, and the first eight.
+const MOST_CHAINS: usize = 4 * MOST_LEASES + 8;
+
+/// The place of a lease, or of one that was taken out.
+struct Place<D: Deed> {
+    held: Option<Held<D>>,
+    /// The number of its chain.
+    chain: u16,
+    /// An index that the places before it on its chain stand before.
+    before: u16,
+}
+
+impl<D: Deed> Model for Place<D> {
+    ghost use Rattle.lease_book.specs.Places.{PlaceState};
+
+    ghost Value = { PlaceState };
+
+    ghost view = { λ p. record { lease = p.held; chain = p.chain; before = p.before } };
+}
+
+impl<D: Deed> Place<D> {
+    fn is_lease(&self, id: RequestId, arena: u32, base: Quantity) -> bool
+        ensures { result ≡ holds (is_lease id.incarnation arena base) self.now.lease }
+    {
+        match &self.held {
+            Some(held) => held.is_lease(id, arena, base),
+            None => false,
+        }
+    }
+
+    fn is_older(&self, incarnation: Ordinal) -> bool
+        ensures { result ≡ holds (is_older incarnation) self.now.lease }
+    {
+        match &self.held {
+            Some(held) => held.is_older(incarnation),
+            None => false,
+        }
+    }
+
+    fn units(&self, arena: u32) -> u64
+        ensures some { (l : Lease) → self.now.lease ≡ Some l → result ≡ units_of_lease arena l }
+        ensures none { self.now.lease ≡ None → result ≡ 0 }
+        ensures bound { result ≤ LARGEST }
+    {
+        match &self.held {
+            Some(held) => held.units(arena),
+            None => 0,
+        }
+    }
+
+    fn into_held(self) -> Option<Held<D>>
+        ensures { result ≡ self.lease }
+    {
+        let Place {
+            held,
+            chain: _,
+            before: _,
+        } = self;
+        held
+    }
+}
+
+/// Places in order of grant, with their chains.
+pub(crate) struct Places<D: Deed> {
+    places: Vec<Place<D>>,
+    ends: Vec<u16>,
+}
+
+impl<D: Deed> Model for Places<D> {
+    ghost use Rattle.std.specs.Prelude.{◌*◌, ◌≤◌, length, vec_capacity};
+    ghost use Rattle.lease_book.specs.Places.{PlacesState, IsChained};
+    ghost use Rattle.lease_book.specs.declared.places.TheConstants.{MOST_CHAINS};
+
+    ghost Value = { PlacesState };
+
+    ghost view = { λ p. record { places = p.places.items; ends = p.ends.items } };
+
+    ghost invariant = { λ p.
+        IsChained (record { places = p.places.items; ends = p.ends.items })
+        × (length p.ends.items ≤ MOST_CHAINS)
+        × (length p.ends.items ≤ 2 * vec_capacity p.places) };
+}
+
+impl<D: Deed> Places<D> {
+    /// No place, nor room for one.
+    pub(crate) fn new(alloc: Global) -> Places<D>
+        ensures { result ≡ record { places = []; ends = [] } }
+    {
+        Places {
+            places: Vec::new(alloc),
+            ends: Vec::new(alloc),
+        }
+    }
+
+    /// No place yet, with room for so many leases and as many again.
+    fn with_room(alloc: Global, count: usize) -> Result<Places<D>, AllocError>
+        requires { count ≤ MOST_LEASES }
+        ensures places { IfOk result (λ p. p.places ≡ []) }
+        ensures chains { IfOk result (λ p. length p.ends ≡ 4 * count + 8) }
+    {
+        let mut ends = Vec::new(alloc);
+        ends.resize(4 * count + 8, 0)?;
+        let places = Vec::with_capacity(alloc, 2 * count + 4)?;
+        Ok(Places { places, ends })
+    }
+
+    /// Whether there is no room for another.
+    pub(crate) fn is_full(&self) -> bool
+        ensures { result ≡ nat_le (length self.now.ends) (2 * length self.now.places) }
+    {
+        self.ends.len() <= 2 * self.places.len()
+    }
+
+    /// Puts the leases in new places, with room for more. Out of memory, all stays as it is.
+    pub(crate) fn renew(&mut self, count: usize) -> Result<(), AllocError>
+        requires count { count ≡ length (leases_in self.old.places) }
+        requires few { count ≤ MOST_LEASES }
+        ensures leases { leases_in self.new.places ≡ leases_in self.old.places }
+        ensures room { OnOk result (2 * length self.new.places < length self.new.ends) }
+    {
+        let fresh = Places::with_room(*self.places.allocator(), count)?;
+        let Places { places, ends: _ } = mem::replace(self, fresh);
+        self.move_in(places);
+        Ok(())
+    }
+
+    // Moves the leases out of places into new ones.
+    fn move_in(&mut self, places: Vec<Place<D>>)
+        requires { 2 * (length self.old.places + length (leases_in places.items))
+            < length self.old.ends }
+        ensures leases { leases_in self.new.places
+            ≡ leases_in self.old.places ++ leases_in places.items }
+        ensures room { 2 * length self.new.places < length self.new.ends }
+    {
+        let mut rest = places.into_iter();
+        while let Some(place) = rest.next() {
+            if let Some(held) = place.into_held() {
+                self.push(held);
+            }
+        }
+        rest.destroy_empty();
+    }
+
+    /// Adds a lease.
+    pub(crate) fn push(&mut self, held: Held<D>)
+        requires { 2 * length self.old.places < length self.old.ends }
+        ensures leases { leases_in self.new.places ≡ leases_in self.old.places ++ held ∷ [] }
+        ensures places { length self.new.places ≡ length self.old.places + 1 }
+        ensures chains { length self.new.ends ≡ length self.old.ends }
+    {
+        let chain = chain_of(held.base(), self.ends.len());
+        self.places.push_reserved(Place {
+            held: Some(held),
+            chain: chain as u16,
+            before: self.ends[chain],
+        });
+        self.ends[chain] = self.places.len() as u16;
+    }
+
+    /// Takes the first lease out that is asked for.
+    pub(crate) fn take(&mut self, which: Which) -> Option<Held<D>>
+        ensures lease { find (is_asked which) (leases_in self.old.places) ≡ result }
+        ensures rest { leases_in self.new.places
+            ≡ without_first (is_asked which) (leases_in self.old.places) }
+        ensures unchanged { IfNone result (self.new ≡ self.old) }
+    {
+        let at = match which {
+            Which::At(id, arena, base) => self.position(id, arena, base)?,
+            Which::Before(incarnation) => first_older(&self.places, incarnation)?,
+            Which::Any => first_held(&self.places)?,
+        };
+        self.places[at].held.take()
+    }
+
+    // Where the first lease of the request's incarnation with this arena and base stands.
+    fn position(&self, id: RequestId, arena: u32, base: Quantity) -> Option<usize>
+        ensures { result ≡ position (λ p. holds (is_lease id.incarnation arena base) p.lease)
+            self.now.places }
+    {
+        let chain = chain_of(base.get(), self.ends.len());
+        let mut end = *self.ends.get(chain)? as usize;
+        let mut found = None;
+        while 0 < end {
+            let at = end - 1;
+            let place = &self.places[at];
+            if place.is_lease(id, arena, base) {
+                found = Some(at);
+            }
+            end = if place.chain as usize == chain {
+                at.min(place.before as usize)
+            } else {
+                at
+            };
+        }
+        found
+    }
+
+    /// Whether a lease of an incarnation before this one stands there.
+    pub(crate) fn has_older(&self, incarnation: Ordinal) -> bool
+        ensures { result ≡ list_any (is_older incarnation) (leases_in self.now.places) }
+    {
+        first_older(&self.places, incarnation).is_some()
+    }
+
+    /// The units of the arena that are leased.
+    pub(crate) fn units(&self, arena: u32) -> u128
+        ensures { result ≡ sum_by (units_of_lease arena) (leases_in self.now.places) }
+    {
+        let mut units: u128 = 0;
+        for place in &self.places {
+            units += place.units(arena) as u128;
+        }
+        units
+    }
+
+    /// Ends places without leases.
+    pub(crate) fn close(self)
+        requires { leases_in self.places ≡ [] }
+    {
+        let Places { places, ends: _ } = self;
+        let mut rest = places.into_iter();
+        while let Some(place) = rest.next() {
+            match place.into_held() {
+                None => {}
+                Some(_) => unreachable!(),
+            }
+        }
+        rest.destroy_empty();
+    }
+}
+
+fn first_older<D: Deed>(places: &[Place<D>], incarnation: Ordinal) -> Option<usize>
+    ensures { result ≡ position (λ p. holds (is_older incarnation) p.lease) places.now }
+{
+    places.iter().position(|one| one.is_older(incarnation))
+}
+
+fn first_held<D: Deed>(places: &[Place<D>]) -> Option<usize>
+    ensures { result ≡ position (λ p. is_some p.lease) places.now }
+{
+    places.iter().position(|one| one.held.is_some())
+}
+
+/// The chain of the leases at a base, of so many, by the upper bits of a product.
+fn chain_of(base: u64, chains: usize) -> usize
+    requires { chains ≤ MOST_CHAINS }
+    ensures value { result ≡ chain_of base chains }
+    ensures within { 0 < chains → result < chains }
+{
+    let spread = base.wrapping_mul(SPREAD) >> 32;
+    ((spread * chains as u64) >> 32) as usize
+}
