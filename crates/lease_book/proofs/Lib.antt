@@ -11,3 +11,4 @@ pub mod LeaseLemmas
 pub mod ClientLemmas
 pub mod LawLemmas
 pub mod LawProofs
+pub mod LeasesIn

@@ -63,9 +63,8 @@ impl<D: Deed> Place<D> {
     }
 
     fn units(&self, arena: u32) -> u64
-        ensures some { (l : Lease) → self.now.lease ≡ Some l → result ≡ units_of_lease arena l }
-        ensures none { self.now.lease ≡ None → result ≡ 0 }
-        ensures bound { result ≤ LARGEST }
+        ensures value { result ≡ sum_by (units_of_lease arena) (leases_in (self.now ∷ [])) }
+        ensures bound { result ≤ length (leases_in (self.now ∷ [])) * LARGEST }
     {
         match &self.held {
             Some(held) => held.units(arena),
@@ -224,12 +223,13 @@ impl<D: Deed> Places<D> {
     pub(crate) fn has_older(&self, incarnation: Ordinal) -> bool
         ensures { result ≡ list_any (is_older incarnation) (leases_in self.now.places) }
     {
-        first_older(&self.places, incarnation).is_some()
+        any_older(&self.places, incarnation)
     }
 
     /// The units of the arena that are leased.
     pub(crate) fn units(&self, arena: u32) -> u128
-        ensures { result ≡ sum_by (units_of_lease arena) (leases_in self.now.places) }
+        ensures value { result ≡ sum_by (units_of_lease arena) (leases_in self.now.places) }
+        ensures bound { result ≤ length (leases_in self.now.places) * LARGEST }
     {
         let mut units: u128 = 0;
         for place in &self.places {
@@ -258,6 +258,12 @@ fn first_older<D: Deed>(places: &[Place<D>], incarnation: Ordinal) -> Option<usi
     ensures { result ≡ position (λ p. holds (is_older incarnation) p.lease) places.now }
 {
     places.iter().position(|one| one.is_older(incarnation))
+}
+
+fn any_older<D: Deed>(places: &[Place<D>], incarnation: Ordinal) -> bool
+    ensures { result ≡ list_any (λ p. holds (is_older incarnation) p.lease) places.now }
+{
+    places.iter().any(|one| one.is_older(incarnation))
 }
 
 fn first_held<D: Deed>(places: &[Place<D>]) -> Option<usize>

@@ -8,4 +8,4 @@ pub returns-else-self-get : goal.returns-else-self-get
 returns-else-self-get g c =
     le-ltb c.self.inside.least c.get.result c.if-self-get.false
     ∙ sym (none_before c.args.incarnation c.self.inside.least c.args.self.now (subst (λ i. i ≤ c.self.inside.least) c.get.ensures.value c.if-self-get.false)
-    (subst (NoneBefore c.self.inside.least) c.self.view_is c.self.invariant))
+    (subst (NoneBefore c.self.inside.least) c.self.view_is c.self.invariant.1))
