@@ -1,6 +1,7 @@
 pub mod EachLemmas
 pub mod Pigeons
 pub mod PlaceLemmas
+pub mod PlacesLemmas
 pub mod ShelfLemmas
 pub mod WeightLemmas
 pub mod HistoryLemmas

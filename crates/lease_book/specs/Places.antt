@@ -43,10 +43,14 @@ abbrev pub EndsBefore : (chain end : ℕ) → List PlaceState → Type 0
 EndsBefore chain end places = (k : ℕ) (p : PlaceState)
     → slice_get places k ≡ Some p → p.chain ≡ chain → k < end
 
--- each lease is on the chain of its base, and the chains lead to all their places
+-- each lease is on the chain of its base, and the chains, which end among the places, lead to all
+-- their places
 pub record IsChained (s : PlacesState) : Type 0 where
   pub own : (k : ℕ) (p : PlaceState) (l : Lease) → slice_get s.places k ≡ Some p
       → p.lease ≡ Some l → p.chain ≡ chain_of l.segment.holding.range.base (length s.ends)
+  pub within : (k : ℕ) (p : PlaceState) → slice_get s.places k ≡ Some p
+      → p.chain < length s.ends
+  pub inside : (chain end : ℕ) → slice_get s.ends chain ≡ Some end → end ≤ length s.places
   pub ends : (chain end : ℕ) → slice_get s.ends chain ≡ Some end
       → EndsBefore chain end s.places
   pub before : (k : ℕ) (p : PlaceState) → slice_get s.places k ≡ Some p

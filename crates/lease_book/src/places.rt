@@ -188,12 +188,19 @@ impl<D: Deed> Places<D> {
             ≡ without_first (is_asked which) (leases_in self.old.places) }
         ensures unchanged { IfNone result (self.new ≡ self.old) }
     {
-        let at = match which {
-            Which::At(id, arena, base) => self.position(id, arena, base)?,
-            Which::Before(incarnation) => first_older(&self.places, incarnation)?,
-            Which::Any => first_held(&self.places)?,
-        };
+        let at = self.place_of(which)?;
         self.places[at].held.take()
+    }
+
+    // Where the first lease stands that is asked for.
+    fn place_of(&self, which: Which) -> Option<usize>
+        ensures { result ≡ position (λ p. holds (is_asked which) p.lease) self.now.places }
+    {
+        match which {
+            Which::At(id, arena, base) => self.position(id, arena, base),
+            Which::Before(incarnation) => first_older(&self.places, incarnation),
+            Which::Any => first_held(&self.places),
+        }
     }
 
     // Where the first lease of the request's incarnation with this arena and base stands.
