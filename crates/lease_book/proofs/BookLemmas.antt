@@ -1,20 +1,20 @@
 -- What a call changes, entered in the book's history.
 use Rattle.std.proofs.Common.{◌≡◌, ℕ, zero, suc, ◌+◌, ◌<◌, ◌≤◌, Bool, true, false, cond, ◌||◌, nat_eq, List, [], ◌∷◌, ◌++◌, length, map, sum_by, Option, Some, None, IfSome, IfNone, is_some, slice_get, refl, sym, ap, subst, ◌∙◌, arith}
-use Rattle.std.specs.List.{find, remove, AllByRecursion}
+use Rattle.std.specs.List.{find, AllByRecursion}
 use Rattle.std.specs.Option.{option_map}
-use Rattle.std.proofs.lemmas.List.Sums.{sum_by_push, sum_by-remove}
-use Rattle.std.proofs.lemmas.Bool.{eqb-true}
+use Rattle.std.proofs.lemmas.List.Sums.{sum_by_push}
+use Rattle.std.proofs.lemmas.Bool.{eqb-true, ltb-true}
 use Rattle.deed_core.specs.Tag.{Tag}
 use Rattle.deed_core.specs.Weights.{Gains, Loses}
 use Rattle.lease_book.specs.declared.books.TheConstants.{MOST_LEASES}
 use Rattle.lease_book.specs.Receipts.{Kept, ReceiptState, IsEarned}
 use Rattle.lease_book.specs.Entry.{Settlement, Entry, Hello, Settled, Swept, Grant, Return, Refuse, kept_settlement}
-use Rattle.lease_book.specs.Account.{Lease, Account, number_of, is_lease, without_first, lease_of, granted_request, leases_after}
+use Rattle.lease_book.specs.Account.{Lease, Account, number_of, is_lease, is_older, without_first, lease_of, granted_request, leases_after}
 use Rattle.lease_book.specs.Shelf.{account_with, update_at, standing_of, with_standing, with_leases}
 use Rattle.lease_book.specs.History.{incarnation, clients_of, kept_of, account, IsProper}
 use Rattle.lease_book.specs.BookState.{BookState, HasHistory, Enters, nobody, account_or_nobody, account_in, segments, segments_of_accounts, leased_segments}
 use Rattle.lease_book.specs.Answers.{receipt, IsNew}
-use Rattle.lease_book.specs.Calls.{IsFound, IsGranted, IsRefused, IsReleased, IsEnded}
+use Rattle.lease_book.specs.Calls.{IsFound, IsGranted, IsRefused, IsReleased, IsEnded, IsSwept}
 use Rattle.lease_book.specs.declared.accounts.Standing.{Standing}
 use Rattle.lease_terms.specs.declared.refusals.Refusal.{Refusal}
 use Rattle.lease_terms.specs.Requests.{RequestId}
@@ -25,11 +25,11 @@ use Rattle.deed_core.specs.Request.{Fits}
 use Rattle.lease_book.specs.declared.receipts.KeptReply.{KeptReply}
 use Rattle.lease_book.specs.declared.receipts.KeptReply.TheVariants.{Granted}
 use Rattle.lease_book.specs.declared.receipts.Terms.{Terms}
-use Rattle.std.proofs.lemmas.Option.{slice_get_within, get_or_from_slice_get}
 use Rattle.std.proofs.lemmas.List.{map-append}
 use Rattle.lease_book.proofs.HistoryLemmas.{has, account_is, account_unknown, find_known}
 use Rattle.lease_book.proofs.EntryLemmas.{entered, among, map_others, settled_others, settled_own, swept_others, swept_own, hello_others, hello_same, hello_above, changed_none, changed_twice}
-use Rattle.lease_book.proofs.PlaceLemmas.{IsFirst, is_lease_says, head_first}
+use Rattle.lease_book.proofs.PlaceLemmas.{find_passes, found_alike, is_lease_says, is_like, is_own, like_older}
+use Rattle.lease_book.proofs.LawLemmas.{without_loses}
 use Rattle.lease_book.proofs.WeightLemmas.{sum_by-segments, sum_by-segments_of_accounts}
 
 -- changes that do the same to the member at the index
@@ -40,14 +40,6 @@ changed_alike (y ∷ xs) zero x f g at same =
     let here : f y ≡ g y = ap f is ∙ same ∙ ap g (sym is) in
     λ j. here j ∷ xs
 changed_alike (y ∷ xs) (suc i) x f g at same = ap (λ ys. y ∷ ys) (changed_alike xs i x f g at same)
-
-find_passes : (test : Account → Bool) (xs : List Account) (a : Account) → find test xs ≡ Some a → test a ≡ true
-find_passes test [] a at = absurd (cc)
-find_passes test (x ∷ xs) a at = by (test x) refl at (find_passes test xs a)
-  where
-    by : (b : Bool) → test x ≡ b → cond b (Some x) (find test xs) ≡ Some a → (find test xs ≡ Some a → test a ≡ true) → test a ≡ true
-    by true is at rest = ap test (cc) ∙ is
-    by false is at rest = rest at
 
 -- where an account was found
 pub found_of : (book : BookState) (c place : ℕ) (s : Standing) → place < length book.accounts → find (λ a. nat_eq c a.client) book.accounts ≡ slice_get book.accounts place
@@ -62,7 +54,7 @@ found_of book c place s within found standing = by (slice_get book.accounts plac
           record {
             within = within;
             at = at ∙ ap Some is;
-            client = ap (λ (x : Account). x.client) (sym is) ∙ sym (eqb-true c a.client (find_passes (λ x. nat_eq c x.client) book.accounts a (found ∙ at)));
+            client = ap (λ (x : Account). x.client) (sym is) ∙ sym (eqb-true c a.client (find_passes (λ (x : Account). nat_eq c x.client) book.accounts a (found ∙ at)));
           },
           ap standing_of (sym is) ∙ of,
         )
@@ -102,15 +94,13 @@ gains_lease accounts i a x at f =
     sum_by-segments f (a.leases ++ x ∷ []) ∙ sum_by_push (λ (l : Lease). f l.segment) a.leases x ∙ ap (λ (n : ℕ). n + f x.segment) (sym (sum_by-segments f a.leases)) in
     omega (arith, change, more)
 
-pub loses_lease : (accounts : List Account) (i k : ℕ) (a : Account) (x : Lease) → slice_get accounts i ≡ Some a → slice_get a.leases k ≡ Some x
-    → Loses (segments_of_accounts accounts) (segments_of_accounts (update_at accounts i (with_leases (λ ls. remove ls k)))) x.segment
-loses_lease accounts i k a x at there f =
-    let change : sum_by f (segments_of_accounts (update_at accounts i (with_leases (λ ls. remove ls k)))) + sum_by f (segments a.leases) ≡ sum_by f (segments_of_accounts accounts) + sum_by f (segments (remove a.leases k)) =
-    leased_changed f accounts i a (with_leases (λ ls. remove ls k)) at in
-    let less : sum_by f (segments a.leases) ≡ sum_by f (segments (remove a.leases k)) + f x.segment =
-    sum_by-segments f a.leases ∙ sym (sum_by-remove (λ (l : Lease). f l.segment) a.leases k x (slice_get_within a.leases k x there))
-    ∙ ap (λ (y : Lease). sum_by (λ (l : Lease). f l.segment) (remove a.leases k) + f y.segment) (get_or_from_slice_get a.leases k x x there)
-    ∙ ap (λ (n : ℕ). n + f x.segment) (sym (sum_by-segments f (remove a.leases k))) in
+pub loses_lease : (test : Lease → Bool) (accounts : List Account) (i : ℕ) (a : Account) (x : Lease) → slice_get accounts i ≡ Some a → find test a.leases ≡ Some x
+    → Loses (segments_of_accounts accounts) (segments_of_accounts (update_at accounts i (with_leases (without_first test)))) x.segment
+loses_lease test accounts i a x at there f =
+    let change : sum_by f (segments_of_accounts (update_at accounts i (with_leases (without_first test)))) + sum_by f (segments a.leases) ≡ sum_by f (segments_of_accounts accounts) + sum_by f (segments (without_first test a.leases)) =
+    leased_changed f accounts i a (with_leases (without_first test)) at in
+    let less : sum_by f (segments (without_first test a.leases)) + f x.segment ≡ sum_by f (segments a.leases) =
+    ap (λ (n : ℕ). n + f x.segment) (sum_by-segments f (without_first test a.leases)) ∙ without_loses test a.leases x there (λ (l : Lease). f l.segment) ∙ sym (sum_by-segments f a.leases) in
     omega (arith, change, less)
 
 -- A settled number.
@@ -132,14 +122,12 @@ settles old new id index how found fresh told proper mark after = record {
 }
 
 -- a lease that ended
-pub ends : (old new : BookState) (c i arena base place k : ℕ) (l : Lease) → find (is_lease i arena base) (account_in c old).leases ≡ Some l → IsFound old c place → IsFirst (is_lease i arena base) (account_in c old).leases k → new.mark ≡ old.mark
-    → new.accounts ≡ update_at old.accounts place (with_leases (λ ls. remove ls k)) → Enters (Swept c i arena base) old new
-ends old new c i arena base place k l leased_there found first mark after = record {
+pub ends : (old new : BookState) (c i arena base place : ℕ) (l : Lease) → find (is_lease i arena base) (account_in c old).leases ≡ Some l → IsFound old c place → new.mark ≡ old.mark
+    → new.accounts ≡ update_at old.accounts place (with_leases (without_first (is_lease i arena base))) → Enters (Swept c i arena base) old new
+ends old new c i arena base place l leased_there found mark after = record {
   mark = mark;
   history = λ es h.
-      entered (Swept c i arena base) es old new c place (account_in c old) (with_leases (without_first (is_lease i arena base))) h found.at found.client refl (swept_others es c i arena base) (swept_own es c i arena base)
-      (after ∙ changed_alike old.accounts place (account_in c old) (with_leases (λ ls. remove ls k)) (with_leases (without_first (is_lease i arena base))) found.at
-      (ap (λ (ls : List Lease). with_leases (λ x. ls) (account_in c old)) (sym first.left)))
+      entered (Swept c i arena base) es old new c place (account_in c old) (with_leases (without_first (is_lease i arena base))) h found.at found.client refl (swept_others es c i arena base) (swept_own es c i arena base) after
       ((l, subst (λ (a : Account). find (is_lease i arena base) a.leases ≡ Some l) (account_is es old c h) leased_there), h.orderly);
 }
 
@@ -247,43 +235,37 @@ grants old now mid id index t terms k r found fresh told meets room is_kept is_r
       leases = λ f. ap (sum_by f) stands ∙ gains_lease old.accounts index (account_in id.client old) (lease_of id t) found.at f;
     }
 
-pub releases : (old now : BookState) (mid : List Account) (id : RequestId) (arena base index at : ℕ) (l : Lease) (k : Kept) (r : ReceiptState) → IsFound old id.client index
-    → IsNew (account_in id.client old) id → IsRequestId id → IsQuantity base
-    → IsFirst (is_lease id.incarnation arena base) (account_in id.client old).leases at → slice_get (account_in id.client old).leases at ≡ Some l
-    → k ≡ kept_settlement id.number (Return arena base) → r ≡ receipt old id k → now.mark ≡ old.mark → mid ≡ update_at old.accounts index (with_leases (λ ls. remove ls at))
+pub releases : (old now : BookState) (mid : List Account) (id : RequestId) (arena base index : ℕ) (l : Lease) (k : Kept) (r : ReceiptState) → IsFound old id.client index
+    → IsNew (account_in id.client old) id → IsRequestId id → IsQuantity base → find (is_lease id.incarnation arena base) (account_in id.client old).leases ≡ Some l
+    → k ≡ kept_settlement id.number (Return arena base) → r ≡ receipt old id k → now.mark ≡ old.mark → mid ≡ update_at old.accounts index (with_leases (without_first (is_lease id.incarnation arena base)))
     → now.accounts ≡ update_at mid index (with_standing (record { incarnation = id.incarnation; kept = Some k })) → IsReleased old now id arena base r l.segment
-releases old now mid id arena base index at l k r found fresh told in_range first here is_kept is_receipt mark taken_mid after =
+releases old now mid id arena base index l k r found fresh told in_range there is_kept is_receipt mark taken_mid after =
     let i : ℕ = id.incarnation in
     let a : Account = account_in id.client old in
     let s : Standing = record { incarnation = i; kept = Some (kept_settlement id.number (Return arena base)) } in
-    let passes : is_lease i arena base l ≡ true = subst (λ (o : Option Lease). IfSome o (λ x. is_lease i arena base x ≡ true)) here first.passes in
-    let says = is_lease_says i arena base l passes in
+    let says = is_lease_says i arena base l (find_passes (is_lease i arena base) a.leases l there) in
     let after' : now.accounts ≡ update_at mid index (with_standing s) = after ∙ ap (λ (y : Kept). update_at mid index (with_standing (record { incarnation = i; kept = Some y }))) is_kept in
-    let both : now.accounts ≡ update_at old.accounts index (λ b. with_standing s (with_leases (λ ls. remove ls at) b)) =
-    after' ∙ ap (λ (xs : List Account). update_at xs index (with_standing s)) taken_mid ∙ changed_twice old.accounts index (with_leases (λ ls. remove ls at)) (with_standing s) in
-    let entered_as : now.accounts ≡ update_at old.accounts index (settled_as id (Return arena base)) =
-    both ∙ changed_alike old.accounts index a (λ b. with_standing s (with_leases (λ ls. remove ls at) b)) (settled_as id (Return arena base)) found.at
-    (ap (λ (ls : List Lease). with_standing s (with_leases (λ x. ls) a)) (sym first.left)) in
-    let stands : leased_segments now ≡ segments_of_accounts (update_at old.accounts index (with_leases (λ ls. remove ls at))) = ap segments_of_accounts after' ∙ leased_standing mid index s ∙ ap segments_of_accounts taken_mid in
+    let both : now.accounts ≡ update_at old.accounts index (settled_as id (Return arena base)) =
+    after' ∙ ap (λ (xs : List Account). update_at xs index (with_standing s)) taken_mid ∙ changed_twice old.accounts index (with_leases (without_first (is_lease i arena base))) (with_standing s) in
+    let stands : leased_segments now ≡ segments_of_accounts (update_at old.accounts index (with_leases (without_first (is_lease i arena base)))) = ap segments_of_accounts after' ∙ leased_standing mid index s ∙ ap segments_of_accounts taken_mid in
     record {
       granted = l.number;
       new = fresh;
-      lease = first.found ∙ here ∙ ap (λ (m : ℕ). Some (record { incarnation = m; number = l.number; segment = l.segment })) (sym says.0);
+      lease = there ∙ ap (λ (m : ℕ). Some (record { incarnation = m; number = l.number; segment = l.segment })) (sym says.0);
       of_arena = sym says.1;
       at_base = sym says.2;
       receipt = is_receipt ∙ ap (receipt old id) is_kept;
-      entry = settles old now id index (Return arena base) found fresh told (in_range, (l, first.found ∙ here)) mark entered_as;
-      leases = λ f. loses_lease old.accounts index at a l found.at here f ∙ ap (λ (ts : List Tag). sum_by f ts + f l.segment) (sym stands);
+      entry = settles old now id index (Return arena base) found fresh told (in_range, (l, there)) mark both;
+      leases = λ f. loses_lease (is_lease i arena base) old.accounts index a l found.at there f ∙ ap (λ (ts : List Tag). sum_by f ts + f l.segment) (sym stands);
     }
 
 -- a lease that is the first with its incarnation, arena and base ended
-pub ends_lease : (old now : BookState) (c index at : ℕ) (l : Lease) → IsFound old c index → IsFirst (is_lease l.incarnation l.segment.arena l.segment.holding.range.base) (account_in c old).leases at
-    → slice_get (account_in c old).leases at ≡ Some l → now.mark ≡ old.mark → now.accounts ≡ update_at old.accounts index (with_leases (λ ls. remove ls at))
-    → IsEnded old now (record { client = c; incarnation = l.incarnation; number = l.number }) l.segment
-ends_lease old now c index at l found first here mark after = record {
-  lease = first.found ∙ here;
-  entry = ends old now c l.incarnation l.segment.arena l.segment.holding.range.base index at l (first.found ∙ here) found first mark after;
-  leases = λ f. loses_lease old.accounts index at (account_in c old) l found.at here f ∙ ap (λ (xs : List Account). sum_by f (segments_of_accounts xs) + f l.segment) (sym after);
+pub ends_lease : (old now : BookState) (c index : ℕ) (l : Lease) → IsFound old c index → find (is_like l) (account_in c old).leases ≡ Some l → now.mark ≡ old.mark
+    → now.accounts ≡ update_at old.accounts index (with_leases (without_first (is_like l))) → IsEnded old now (granted_request c l) l.segment
+ends_lease old now c index l found there mark after = record {
+  lease = there;
+  entry = ends old now c l.incarnation l.segment.arena l.segment.holding.range.base index l there found mark after;
+  leases = λ f. loses_lease (is_like l) old.accounts index (account_in c old) l found.at there f ∙ ap (λ (xs : List Account). sum_by f (segments_of_accounts xs) + f l.segment) (sym after);
 }
 
 -- a reply that grants a range, told of the segment with it
@@ -320,13 +302,6 @@ pub if_none : {X P : Type 0} (r : Option X) → P → IfNone r P
 if_none None holds = holds
 if_none (Some x) holds = tt
 
--- the lease that stands first is the first with its incarnation, arena and base
-pub first_lease : (ls : List Lease) (l : Lease) → slice_get ls 0 ≡ Some l → IsFirst (is_lease l.incarnation l.segment.arena l.segment.holding.range.base) ls 0
-first_lease [] l at = absurd (cc)
-first_lease (x ∷ ls) l at =
-    let is : x ≡ l = cc in
-    subst (λ (y : Lease). IsFirst (is_lease y.incarnation y.segment.arena y.segment.holding.range.base) (x ∷ ls) 0) is (head_first x ls)
-
 -- an entry that is entered gives the new book a history
 pub goes_on : (e : Entry) (old new : BookState) → Enters e old new → HasHistory old → HasHistory new
 goes_on e old new enters had = (e ∷ had.0, enters.history had.0 had.1)
@@ -359,34 +334,56 @@ module _ (before old : BookState) (is : before ≡ old) (id : RequestId) (index 
       let granted = grants before now mid id index t terms k r found_before fresh_before told meets room_before is_kept is_receipt refl leased_mid after in
       (goes_on (Settled id (Grant t terms)) before now granted.entry had, subst (λ (b : BookState). IsGranted b now id t terms r) is granted)
 
-  pub released_at : (mid accounts : List Account) (arena base at : ℕ) (l : Lease) (t : Tag) (k : Kept) (r : ReceiptState) → t ≡ l.segment → IsQuantity base
-      → IsFirst (is_lease id.incarnation arena base) (account_in id.client old).leases at
-      → IfSome (slice_get before.accounts index) (λ a. slice_get a.leases at ≡ Some l) → k ≡ kept_settlement id.number (Return arena base) → r ≡ receipt before id k
-      → mid ≡ update_at before.accounts index (with_leases (λ ls. remove ls at)) → accounts ≡ update_at mid index (with_standing (record { incarnation = id.incarnation; kept = Some k })) → HasHistory before
+  pub released_at : (mid accounts : List Account) (arena base : ℕ) (l : Lease) (t : Tag) (k : Kept) (r : ReceiptState) → t ≡ l.segment → IsQuantity base
+      → IfSome (slice_get before.accounts index) (λ a. find (is_lease id.incarnation arena base) a.leases ≡ Some l) → k ≡ kept_settlement id.number (Return arena base) → r ≡ receipt before id k
+      → mid ≡ update_at before.accounts index (with_leases (without_first (is_lease id.incarnation arena base)))
+      → accounts ≡ update_at mid index (with_standing (record { incarnation = id.incarnation; kept = Some k })) → HasHistory before
       → HasHistory (record { mark = before.mark; accounts = accounts }) × IsReleased old (record { mark = before.mark; accounts = accounts }) id arena base r t
-  released_at mid accounts arena base at l t k r of_lease in_range first there is_kept is_receipt taken_mid after had =
+  released_at mid accounts arena base l t k r of_lease in_range there is_kept is_receipt taken_mid after had =
       let now : BookState = record { mark = before.mark; accounts = accounts } in
-      let first_before : IsFirst (is_lease id.incarnation arena base) (account_in id.client before).leases at = subst (λ (b : BookState). IsFirst (is_lease id.incarnation arena base) (account_in id.client b).leases at) (sym is) first in
-      let here : slice_get (account_in id.client before).leases at ≡ Some l = of_found (λ (a : Account). slice_get a.leases at ≡ Some l) before id.client index found_before there in
-      let released = releases before now mid id arena base index at l k r found_before fresh_before told in_range first_before here is_kept is_receipt refl taken_mid after in (
+      let here = of_found (λ (a : Account). find (is_lease id.incarnation arena base) a.leases ≡ Some l) before id.client index found_before there in
+      let released = releases before now mid id arena base index l k r found_before fresh_before told in_range here is_kept is_receipt refl taken_mid after in (
         goes_on (Settled id (Return arena base)) before now released.entry had,
         subst (λ (x : Tag). IsReleased old now id arena base r x) (sym of_lease) (subst (λ (b : BookState). IsReleased b now id arena base r l.segment) is released),
       )
 
--- the leases of an account, where it was found
-pub leases_found : (before old : BookState) (c place : ℕ) (ls : List Lease) → before ≡ old → IsFound old c place → IfSome (slice_get before.accounts place) (λ a. a.leases ≡ ls) → (account_in c old).leases ≡ ls
-leases_found before old c place ls is found there =
-    of_found (λ (a : Account). a.leases ≡ ls) old c place found (subst (λ (b : BookState). IfSome (slice_get b.accounts place) (λ a. a.leases ≡ ls)) is there)
+-- what holds of an account, where it was found
+pub found_there : (P : Account → Type 0) (before old : BookState) (c place : ℕ) → before ≡ old → IsFound old c place → IfSome (slice_get before.accounts place) P → P (account_in c old)
+found_there P before old c place is found there = of_found P old c place found (subst (λ (b : BookState). IfSome (slice_get b.accounts place) P) is there)
 
-pub ended_at : (before old : BookState) (accounts : List Account) (c index at : ℕ) (l : Lease) (r : RequestId × Tag) → r ≡ (granted_request c l, l.segment) → before ≡ old → IsFound old c index
-    → IsFirst (is_lease l.incarnation l.segment.arena l.segment.holding.range.base) (account_in c old).leases at
-    → slice_get (account_in c old).leases at ≡ Some l → accounts ≡ update_at before.accounts index (with_leases (λ ls. remove ls at)) → HasHistory before
+pub leases_found : (before old : BookState) (c place : ℕ) (ls : List Lease) → before ≡ old → IsFound old c place → IfSome (slice_get before.accounts place) (λ a. a.leases ≡ ls) → (account_in c old).leases ≡ ls
+leases_found before old c place ls is found there = found_there (λ (a : Account). a.leases ≡ ls) before old c place is found there
+
+-- the first lease that passes a test ended, which all leases like it pass
+pub ended_at : (test : Lease → Bool) (before old : BookState) (accounts : List Account) (c index : ℕ) (l : Lease) (r : RequestId × Tag) → r ≡ (granted_request c l, l.segment) → before ≡ old → IsFound old c index
+    → IfSome (slice_get before.accounts index) (λ a. find test a.leases ≡ Some l) → ((x : Lease) → is_like l x ≡ true → test x ≡ true) → accounts ≡ update_at before.accounts index (with_leases (without_first test)) → HasHistory before
     → HasHistory (record { mark = before.mark; accounts = accounts }) × IsEnded old (record { mark = before.mark; accounts = accounts }) r.0 r.1
-ended_at before old accounts c index at l r gives is found first here after had =
+ended_at test before old accounts c index l r gives is found there like after had =
     let now : BookState = record { mark = before.mark; accounts = accounts } in
-    let ended = ends_lease old now c index at l found first here (ap (λ (b : BookState). b.mark) is) (after ∙ ap (λ (b : BookState). update_at b.accounts index (with_leases (λ ls. remove ls at))) is) in (
+    let alike = found_alike test (is_like l) (account_in c old).leases l (found_there (λ (a : Account). find test a.leases ≡ Some l) before old c index is found there) (is_own l) like in
+    let after' : accounts ≡ update_at old.accounts index (with_leases (without_first (is_like l))) =
+    after ∙ ap (λ (b : BookState). update_at b.accounts index (with_leases (without_first test))) is
+    ∙ changed_alike old.accounts index (account_in c old) (with_leases (without_first test)) (with_leases (without_first (is_like l))) found.at (ap (λ (ls : List Lease). with_leases (λ x. ls) (account_in c old)) (sym alike.1)) in
+    let ended = ends_lease old now c index l found alike.0 (ap (λ (b : BookState). b.mark) is) after' in (
       goes_on (Swept c l.incarnation l.segment.arena l.segment.holding.range.base) old now ended.entry (subst HasHistory is had),
       subst (λ (p : RequestId × Tag). IsEnded old now p.0 p.1) (sym gives) ended,
+    )
+
+-- the first lease of an older incarnation ended
+pub swept_at : (before old : BookState) (accounts : List Account) (c index : ℕ) (s : Standing) (l : Lease) (r : RequestId × Tag) → r ≡ (granted_request c l, l.segment) → before ≡ old → IsFound old c index
+    → standing_of (account_in c old) ≡ s → IfSome (slice_get before.accounts index) (λ a. find (is_older s.incarnation) a.leases ≡ Some l)
+    → accounts ≡ update_at before.accounts index (with_leases (without_first (is_older s.incarnation))) → HasHistory before
+    → HasHistory (record { mark = before.mark; accounts = accounts }) × IsSwept old (record { mark = before.mark; accounts = accounts }) c r.0 r.1
+swept_at before old accounts c index s l r gives is found current there after had =
+    let older : is_older s.incarnation l ≡ true =
+    find_passes (is_older s.incarnation) (account_in c old).leases l (found_there (λ (a : Account). find (is_older s.incarnation) a.leases ≡ Some l) before old c index is found there) in
+    let ended = ended_at (is_older s.incarnation) before old accounts c index l r gives is found there (λ x like. like_older s.incarnation l x older like) after had in (
+      ended.0,
+      record {
+        client = ap (λ (p : RequestId × Tag). p.0.client) gives;
+        older = omega (arith, ap (λ (p : RequestId × Tag). p.0.incarnation) gives, ap (λ (x : Standing). x.incarnation) current, ltb-true l.incarnation s.incarnation older);
+        ended = ended.1;
+      },
     )
 
 -- the client at an index is the one that is found there
@@ -398,22 +395,28 @@ found_client book index k within own at =
     let is : there.0 ≡ k = cc in
     subst (λ (c : ℕ). IsFound book c index) is there.1
 
--- any lease that stands first was ended
+-- any lease was ended
 pub taken_at : (before old : BookState) (mid accounts : List Account) (index k : ℕ) (l : Lease) (r : RequestId × Tag) → r ≡ (granted_request k l, l.segment) → before ≡ old → mid ≡ before.accounts
     → index < length before.accounts → IfSome (slice_get before.accounts index) (λ a. find (λ b. nat_eq a.client b.client) before.accounts ≡ Some a)
-    → option_map (λ (a : Account). a.client) (slice_get mid index) ≡ Some k → IfSome (slice_get mid index) (λ a. slice_get a.leases 0 ≡ Some l)
-    → accounts ≡ update_at mid index (with_leases (λ ls. remove ls 0)) → HasHistory before
+    → option_map (λ (a : Account). a.client) (slice_get mid index) ≡ Some k → IfSome (slice_get mid index) (λ a. find (λ x. true) a.leases ≡ Some l)
+    → accounts ≡ update_at mid index (with_leases (without_first (λ x. true))) → HasHistory before
     → HasHistory (record { mark = before.mark; accounts = accounts }) × IsEnded old (record { mark = before.mark; accounts = accounts }) r.0 r.1
 taken_at before old mid accounts index k l r gives is same within own client there after had =
     let found : IsFound before k index =
     found_client before index k within own (ap (λ (xs : List Account). option_map (λ (a : Account). a.client) (slice_get xs index)) (sym same) ∙ client) in
-    let found_old : IsFound old k index = subst (λ (b : BookState). IsFound b k index) is found in
-    let there_before : IfSome (slice_get before.accounts index) (λ a. slice_get a.leases 0 ≡ Some l) =
-    subst (λ (xs : List Account). IfSome (slice_get xs index) (λ a. slice_get a.leases 0 ≡ Some l)) same there in
-    let lease : slice_get (account_in k old).leases 0 ≡ Some l =
-    of_found (λ (a : Account). slice_get a.leases 0 ≡ Some l) old k index found_old (subst (λ (b : BookState). IfSome (slice_get b.accounts index) (λ a. slice_get a.leases 0 ≡ Some l)) is there_before) in
-    ended_at before old accounts k index 0 l r gives is found_old (first_lease (account_in k old).leases l lease) lease
-    (after ∙ ap (λ (xs : List Account). update_at xs index (with_leases (λ ls. remove ls 0))) same) had
+    ended_at (λ x. true) before old accounts k index l r gives is (subst (λ (b : BookState). IsFound b k index) is found)
+    (subst (λ (xs : List Account). IfSome (slice_get xs index) (λ a. find (λ x. true) a.leases ≡ Some l)) same there) (λ x like. refl)
+    (after ∙ ap (λ (xs : List Account). update_at xs index (with_leases (without_first (λ x. true)))) same) had
+
+-- where a client has a lease, one is found
+pub one_found : (accounts : List Account) (i : ℕ) → i < length accounts → IfSome (slice_get accounts i) (λ a. 0 < length a.leases) → IfSome (slice_get accounts i) (λ a. find (λ x. true) a.leases ≡ None) → ⊥
+one_found [] i within some none = omega arith
+one_found (a ∷ accounts) zero within some none = by a.leases some none
+  where
+    by : (ls : List Lease) → 0 < length ls → find (λ x. true) ls ≡ None → ⊥
+    by [] some none = omega arith
+    by (l ∷ ls) some none = cc
+one_found (a ∷ accounts) (suc i) within some none = one_found accounts i (omega arith) some none
 
 pub greeted_above : (before old : BookState) (accounts : List Account) (c i index : ℕ) → before ≡ old → IsFound old c index → IsClient c → IsOrdinal i → (account_in c old).incarnation < i
     → accounts ≡ update_at before.accounts index (with_standing (record { incarnation = i; kept = None })) → HasHistory before

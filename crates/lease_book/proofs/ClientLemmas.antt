@@ -20,6 +20,7 @@ use Rattle.lease_book.proofs.WeightLemmas.{sum_by-segments_of_accounts}
 use Rattle.lease_book.proofs.NumberLemmas.{last_outcome, outcome_entry}
 use Rattle.lease_book.proofs.EachLemmas.{each_push, all_of_each, each_is}
 use Rattle.lease_book.proofs.LeaseLemmas.{WasGranted, granted}
+use Rattle.lease_book.proofs.PlaceLemmas.{without_fewer}
 
 -- What an entry changes.
 
@@ -206,17 +207,9 @@ outcome_earned es id k orderly at =
 
 -- Leases are few.
 
-fewer : (test : Lease → Bool) (ls : List Lease) → length (without_first test ls) ≤ length ls
-fewer test [] = omega arith
-fewer test (l ∷ ls) = by (test l) (fewer test ls)
-  where
-    by : (b : Bool) → length (without_first test ls) ≤ length ls → length (cond b ls (l ∷ without_first test ls)) ≤ length (l ∷ ls)
-    by true rest = omega arith
-    by false rest = omega (arith, rest)
-
 few_after : (id : RequestId) (s : Settlement) (ls : List Lease) → IsProper ls id s → length ls ≤ MOST_LEASES → length (leases_after id s ls) ≤ MOST_LEASES
 few_after id (Grant t terms) ls is few = omega (arith, is.2, length-append ls (lease_of id t ∷ []))
-few_after id (Return arena base) ls is few = omega (arith, few, fewer (is_lease id.incarnation arena base) ls)
+few_after id (Return arena base) ls is few = omega (arith, few, without_fewer (is_lease id.incarnation arena base) ls)
 few_after id (Refuse why) ls is few = few
 
 few_leases : (es : List Entry) (c : ℕ) → AreOrderly es → length (leases_of c es) ≤ MOST_LEASES
@@ -230,7 +223,7 @@ few_leases (Settled id s ∷ older) c orderly = by (nat_eq c id.client) refl (fe
 few_leases (Swept d i a b ∷ older) c orderly = by (nat_eq c d) (few_leases older c orderly.1)
   where
     by : (t : Bool) → length (leases_of c older) ≤ MOST_LEASES → length (cond t (without_first (is_lease i a b) (leases_of c older)) (leases_of c older)) ≤ MOST_LEASES
-    by true few = omega (arith, few, fewer (is_lease i a b) (leases_of c older))
+    by true few = omega (arith, few, without_fewer (is_lease i a b) (leases_of c older))
     by false few = few
 
 incarnation_bound : (es : List Entry) (c : ℕ) → AreOrderly es → IsQuantity (incarnation c es)

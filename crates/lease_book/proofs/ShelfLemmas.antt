@@ -201,6 +201,11 @@ pub unleased_after : {T E : Type 0} (r : Result T E) (es : List (ℕ × Standing
 unleased_after (Ok t) es ls accounts i l m is at err = tt
 unleased_after (Err e) es ls accounts i l m is at err = ap (accounts_of es) (set_same ls i l m at err) ∙ is
 
+pub untaken_after : {T : Type 0} (r : Option T) (es : List (ℕ × Standing)) (ls : List (List Lease)) (accounts : List Account) (i : ℕ) (l m : List Lease)
+    → accounts_of es ls ≡ accounts → l ≡ get_or ls i l → IfNone r (m ≡ l) → IfNone r (accounts_of es (set ls i m) ≡ accounts)
+untaken_after (Some t) es ls accounts i l m is at none = tt
+untaken_after None es ls accounts i l m is at none = ap (accounts_of es) (set_same ls i l m at none) ∙ is
+
 -- a new client's account, with no leases, goes last
 pub opened_shelf : (es new_es : List (ℕ × Standing)) (ls new_ls : List (List Lease)) (l : List Lease) (c : ℕ) (s : Standing) → IsShelf es ls → IsClient c
     → new_es ≡ es ++ (c, s) ∷ [] → new_ls ≡ ls ++ l ∷ [] → l ≡ [] → IsDistinct nat_eq (keys_of new_es) → IsShelf new_es new_ls
@@ -303,12 +308,16 @@ empty_push (suc j) [] empty = (refl, by j)
     by (suc j) = tt
 empty_push (suc j) (l ∷ ls) empty = (empty.0, empty_push j ls empty.1)
 
--- where a list isn't empty the index is past the empty ones
-pub past_empty : (j i : ℕ) (ls : List (List Lease)) (l : List Lease) → i < length ls → l ≡ get_or ls i l → 0 < length l → IsEmptyBefore j ls → j ≤ i
-past_empty zero i ls l within at some empty = omega arith
-past_empty (suc j) i [] l within at some empty = absurd (omega arith)
-past_empty (suc j) zero (x ∷ ls) l within at some empty = absurd (omega (arith, some, ap length at, ap length empty.0))
-past_empty (suc j) (suc i) (x ∷ ls) l within at some empty = omega (arith, past_empty j i ls l (omega arith) at some empty.1)
+no_length : {X : Type 0} (xs : List X) → length xs ≤ 0 → xs ≡ []
+no_length [] short = refl
+no_length (x ∷ xs) short = absurd (omega arith)
+
+-- where a list gets no longer, an empty one stays so
+pub empty_shorter : (j i : ℕ) (ls : List (List Lease)) (l m : List Lease) → l ≡ get_or ls i l → length m ≤ length l → IsEmptyBefore j ls → IsEmptyBefore j (set ls i m)
+empty_shorter zero i ls l m at less empty = tt
+empty_shorter (suc j) i [] l m at less empty = tt
+empty_shorter (suc j) zero (x ∷ ls) l m at less empty = (no_length m (omega (arith, less, ap length at, ap length empty.0)), empty.1)
+empty_shorter (suc j) (suc i) (x ∷ ls) l m at less empty = (empty.0, empty_shorter j i ls l m at less empty.1)
 
 -- the first that isn't empty
 pub first_past : (i : ℕ) (ls : List (List Lease)) (l : List Lease) → i < length ls → l ≡ get_or ls i l → 0 < length l → IsEmptyBefore i ls
@@ -354,10 +363,6 @@ past_none (x ∷ xs) (suc i) at = omega (arith, past_none xs i at)
 empty_next : (i : ℕ) (ls : List (List Lease)) (l : List Lease) → l ≡ get_or ls i l → length l ≤ 0 → IsEmptyBefore i ls → IsEmptyBefore (suc i) ls
 empty_next i [] l at none empty = tt
 empty_next zero (x ∷ ls) l at none empty = (no_length x (omega (arith, none, ap length at)), tt)
-  where
-    no_length : (y : List Lease) → length y ≤ 0 → y ≡ []
-    no_length [] short = refl
-    no_length (z ∷ y) short = absurd (omega arith)
 empty_next (suc i) (x ∷ ls) l at none empty = (empty.0, empty_next i ls l at none empty.1)
 
 pub goes_past : (i : ℕ) (ls : List (List Lease)) (l : List Lease) → l ≡ get_or ls i l → length l ≤ 0 → IsEmptyBefore i ls → IsEmptyBefore (i + 1) ls

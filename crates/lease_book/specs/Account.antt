@@ -27,10 +27,6 @@ number_of (Some k) = k.number
 abbrev pub last_number : Account → ℕ
 last_number a = number_of a.kept
 
--- whether it is a lease of the incarnation and of this arena
-abbrev pub is_of : ℕ → ℕ → Lease → Bool
-is_of incarnation arena l = (incarnation == l.incarnation) && (arena == l.segment.arena)
-
 -- whether it is a lease of the incarnation with this arena and base
 abbrev pub is_lease : ℕ → ℕ → ℕ → Lease → Bool
 is_lease incarnation arena base l =

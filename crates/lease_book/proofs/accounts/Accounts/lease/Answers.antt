@@ -10,6 +10,11 @@ index_mut-requires g c =
     let within : c.args.index < length c.self.inside.leases.items = (within_parts _ _ _ _ c.self.view_is c.self.invariant.shelf.together c.requires.within).1 in
     omega arith
 
+pub add-requires : goal.add-requires
+add-requires g c =
+    let within : c.args.index < length c.self.inside.leases.items = (within_parts _ _ _ _ c.self.view_is c.self.invariant.shelf.together c.requires.within).1 in
+    leases_there (λ (l : List Lease). length l < MOST_LEASES) _ _ _ _ _ c.self.view_is c.self.invariant.shelf.together within c.index_mut.ensures.value c.requires.room
+
 pub invariant_of-self : goal.invariant_of-self
 invariant_of-self g c =
     let within : c.args.index < length c.self.inside.leases.items = (within_parts _ _ _ _ c.self.view_is c.self.invariant.shelf.together c.requires.within).1 in
