@@ -1,5 +1,5 @@
 -- Power-of-two lists with one tag more, and with one less.
-use Rattle.std.proofs.Common.{◌≡◌, ◌≢◌, ℕ, ◌<◌, ◌≤◌, refl, sym, ap, subst, ◌∙◌, ⊎_elim, List, [], length, get_or, set, Option, None, Some, arith}
+use Rattle.std.proofs.Common.{◌≡◌, ◌≢◌, ℕ, ◌<◌, ◌≤◌, refl, sym, ap, subst, ◌∙◌, ⊎_elim, List, [], length, get_or, set, Option, None, Some, IfSome, arith}
 use Rattle.std.proofs.lemmas.Bool.{cases_lt, cases_order}
 use Rattle.std.proofs.lemmas.List.{get_or-set_same, get_or-set_other, get_or_default, length-set}
 use Rattle.tag_arena.specs.declared.newest_lists.Link.{Link}
@@ -299,6 +299,10 @@ relink_newer links (Some o) x = set links o (record { newer = x; older = (link_a
 abbrev pub IsWithin : ℕ → Option ℕ → Type 0
 IsWithin n None = Unit {0}
 IsWithin n (Some k) = k < n
+
+pub within_more : (n most : ℕ) → n ≤ most → (o : Option ℕ) → IsWithin n o → IfSome o (λ i. i < most)
+within_more n most few None within = tt
+within_more n most few (Some k) within = omega (arith, few, within)
 
 module _ (links : List Link) (y : Option ℕ) where
   older_set : (n : ℕ) → n < length links → (link_at (relink_older links (Some n) y) n).older ≡ y

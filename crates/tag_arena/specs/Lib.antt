@@ -1,5 +1,5 @@
 pub mod Layout
-pub mod SlotNumbers
+pub mod ShortIndexes
 pub mod Linked
 pub mod Boundaries
 pub mod Place

@@ -10,7 +10,7 @@ ghost use Rattle.deed_core.specs.Extent.{end_of};
 ghost use Rattle.deed_core.specs.Holding.{Holding};
 ghost use Rattle.tag_arena.specs.Cells.{allocated_at, CellBecomes, IsAt, IsVacant, SameCells};
 
-use crate::cell_links::CellLink;
+use crate::short_indexes::ShortIndex;
 use crate::held_ranges::HeldRange;
 use std::alloc::{AllocError, Global};
 use std::marker::Model;
@@ -61,9 +61,9 @@ pub enum Standing {
 #[derive(Debug, Drop)]
 pub struct Cell {
     standing: Standing,
-    before: CellLink,
-    after: CellLink,
-    next: CellLink,
+    before: ShortIndex,
+    after: ShortIndex,
+    next: ShortIndex,
 }
 
 impl Model for Cell {
@@ -82,7 +82,7 @@ pub struct Cells {
     linked: bool,
     cells: Vec<Cell>,
     /// The first cell that may be used again; each of these has the next one as `after`.
-    unused: CellLink,
+    unused: ShortIndex,
 }
 
 impl Model for Cells {
@@ -102,7 +102,7 @@ impl Cells {
         Cells {
             linked,
             cells: Vec::new(alloc),
-            unused: CellLink::none(),
+            unused: ShortIndex::none(),
         }
     }
 
@@ -159,7 +159,7 @@ impl Cells {
         ensures same { SameCells self.old self.new }
         ensures len { length self.old ≤ length self.new }
     {
-        if let Some(at) = self.unused.cell() {
+        if let Some(at) = self.unused.get() {
             if self.is_vacant(at) {
                 let cell = &mut self.cells[at];
                 self.unused = cell.after;
@@ -183,17 +183,17 @@ impl Cells {
     }
 
     /// Makes two cells each other's neighbors.
-    fn link(&mut self, before: CellLink, after: CellLink)
+    fn link(&mut self, before: ShortIndex, after: ShortIndex)
         ensures same { SameCells self.old self.new }
         ensures len { length self.new ≡ length self.old }
     {
-        if let Some(at) = before.cell() {
+        if let Some(at) = before.get() {
             if at < self.cells.len() {
                 let cell = &mut self.cells[at];
                 cell.after = after;
             }
         }
-        if let Some(at) = after.cell() {
+        if let Some(at) = after.get() {
             if at < self.cells.len() {
                 let cell = &mut self.cells[at];
                 cell.before = before;
@@ -202,10 +202,10 @@ impl Cells {
     }
 
     /// The cells before a cell and behind it.
-    fn links(&self, at: usize) -> (CellLink, CellLink) {
+    fn links(&self, at: usize) -> (ShortIndex, ShortIndex) {
         match self.cells.get(at) {
             Some(cell) => (cell.before, cell.after),
-            None => (CellLink::none(), CellLink::none()),
+            None => (ShortIndex::none(), ShortIndex::none()),
         }
     }
 
@@ -215,8 +215,8 @@ impl Cells {
         ensures len { length self.new ≡ length self.old }
     {
         let (_, after) = self.links(at);
-        let link = CellLink::to(Some(new));
-        self.link(CellLink::to(Some(at)), link);
+        let link = ShortIndex::to(Some(new));
+        self.link(ShortIndex::to(Some(at)), link);
         self.link(link, after);
     }
 
@@ -232,7 +232,7 @@ impl Cells {
         self.link(before, after);
         let cell = &mut self.cells[at];
         cell.after = self.unused;
-        self.unused = CellLink::to(Some(at));
+        self.unused = ShortIndex::to(Some(at));
     }
 
     /// Tells the slot of the free range in a cell.
@@ -259,11 +259,11 @@ impl Cells {
         }
     }
 
-    fn ending_at(&self, at: CellLink, end: u64) -> Side
+    fn ending_at(&self, at: ShortIndex, end: u64) -> Side
         ensures { result ≡ Side.Allocated → (k : ℕ) × (h : Holding)
             × (allocated_at self.now k ≡ Some h) × (end_of h.range ≡ end) }
     {
-        let Some(at) = at.cell() else {
+        let Some(at) = at.get() else {
             return Side::Unknown;
         };
         if at >= self.cells.len() {
@@ -277,11 +277,11 @@ impl Cells {
         }
     }
 
-    fn beginning_at(&self, at: CellLink, base: u64) -> Side
+    fn beginning_at(&self, at: ShortIndex, base: u64) -> Side
         ensures { result ≡ Side.Allocated → (k : ℕ) × (h : Holding)
             × (allocated_at self.now k ≡ Some h) × (h.range.base ≡ base) }
     {
-        let Some(at) = at.cell() else {
+        let Some(at) = at.get() else {
             return Side::Unknown;
         };
         if at >= self.cells.len() {
@@ -352,12 +352,12 @@ impl Cells {
         ensures same { SameCells self.old self.new }
     {
         let (before, after) = self.links(at);
-        if let Some(after) = after.cell() {
+        if let Some(after) = after.get() {
             if sides.right {
                 self.unlink(after);
             }
         }
-        match before.cell() {
+        match before.get() {
             Some(before) if sides.left => {
                 self.unlink(at);
                 before
@@ -367,15 +367,15 @@ impl Cells {
     }
 
     /// The next cell of a cell's chain.
-    pub fn next(&self, at: usize) -> CellLink {
+    pub fn next(&self, at: usize) -> ShortIndex {
         match self.cells.get(at) {
             Some(cell) => cell.next,
-            None => CellLink::none(),
+            None => ShortIndex::none(),
         }
     }
 
     /// Another cell is the next of a cell's chain.
-    pub fn set_next(&mut self, at: usize, next: CellLink)
+    pub fn set_next(&mut self, at: usize, next: ShortIndex)
         ensures same { SameCells self.old self.new }
     {
         if at < self.cells.len() {
@@ -392,9 +392,9 @@ impl Cell {
     {
         Cell {
             standing: Standing::Free(0),
-            before: CellLink::none(),
-            after: CellLink::none(),
-            next: CellLink::none(),
+            before: ShortIndex::none(),
+            after: ShortIndex::none(),
+            next: ShortIndex::none(),
         }
     }
 }

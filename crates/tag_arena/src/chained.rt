@@ -2,7 +2,7 @@
 ghost use Rattle.std.specs.Prelude.{◌≡◌, ℕ, IfSome, MatchOption};
 ghost use Rattle.tag_arena.specs.Cells.{IsAt, SameCells};
 
-use crate::cell_links::CellLink;
+use crate::short_indexes::ShortIndex;
 use crate::cells::Cells;
 use crate::chains::Chains;
 use std::alloc::{AllocError, Global};
@@ -13,7 +13,7 @@ pub fn on_chain(cells: &Cells, chains: &Chains, base: u64) -> Option<usize>
 {
     let mut link = chains.head(base);
     for _ in 0..cells.len() {
-        let at = link.cell()?;
+        let at = link.get()?;
         if cells.begins_at(at, base) {
             return Some(at);
         }
@@ -55,25 +55,24 @@ pub fn put_on(cells: &mut Cells, chains: &mut Chains, at: usize, base: u64)
     ensures same { SameCells cells.old cells.new }
 {
     cells.set_next(at, chains.head(base));
-    chains.set_head(base, CellLink::to(Some(at)));
+    chains.set_head(base, ShortIndex::to(Some(at)));
 }
 
 /// Takes a cell off its chain.
 pub fn take_off(cells: &mut Cells, chains: &mut Chains, at: usize, base: u64)
     ensures same { SameCells cells.old cells.new }
 {
-    let own = CellLink::to(Some(at));
     let mut link = chains.head(base);
-    if link == own {
+    if link.get() == Some(at) {
         chains.set_head(base, cells.next(at));
         return;
     }
     for _ in 0..cells.len() {
-        let Some(before) = link.cell() else {
+        let Some(before) = link.get() else {
             return;
         };
         link = cells.next(before);
-        if link == own {
+        if link.get() == Some(at) {
             cells.set_next(before, cells.next(at));
             return;
         }

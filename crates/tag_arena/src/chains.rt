@@ -2,7 +2,7 @@
 //! a hashed table of their bases: Magazines and Vmem, 2001). It is for speed alone: no contract
 //! sees a chain, and who follows one looks at the cells themselves.
 
-use crate::cell_links::CellLink;
+use crate::short_indexes::ShortIndex;
 use std::alloc::{AllocError, Global};
 
 /// An odd number whose products spread (2 ^ 64 by the golden ratio: Knuth's multiplicative
@@ -15,7 +15,7 @@ const FIRST_CHAINS: usize = 64;
 /// The first cell of each chain.
 #[derive(Drop)]
 pub struct Chains {
-    heads: Vec<CellLink>,
+    heads: Vec<ShortIndex>,
 }
 
 impl Chains {
@@ -38,15 +38,15 @@ impl Chains {
     }
 
     /// The first cell of the chain of a base.
-    pub fn head(&self, base: u64) -> CellLink {
+    pub fn head(&self, base: u64) -> ShortIndex {
         match self.heads.get(self.chain_of(base)) {
             Some(head) => *head,
-            None => CellLink::none(),
+            None => ShortIndex::none(),
         }
     }
 
     /// Another cell is the first of the chain of a base.
-    pub fn set_head(&mut self, base: u64, cell: CellLink) {
+    pub fn set_head(&mut self, base: u64, cell: ShortIndex) {
         let chain = self.chain_of(base);
         if chain < self.heads.len() {
             self.heads[chain] = cell;
@@ -59,7 +59,7 @@ impl Chains {
             return Err(AllocError);
         };
         let mut heads = Vec::new(alloc);
-        heads.resize(count.max(FIRST_CHAINS), CellLink::none())?;
+        heads.resize(count.max(FIRST_CHAINS), ShortIndex::none())?;
         self.heads = heads;
         Ok(())
     }

@@ -1,6 +1,6 @@
 //! The free ranges of an arena, in orders and on lists, as its policy asks.
 ghost use Rattle.std.specs.Prelude.{◌≡◌, ◌≢◌, ◌+◌, ◌<◌, ◌≤◌, ◌++◌, ◌∷◌, [], All, Any, OnOk, OnErr};
-ghost use Rattle.std.specs.Prelude.{◌-◌, ◌%◌, ◌^◌, length, max, true, AllPairs, Contains, IfOk};
+ghost use Rattle.std.specs.Prelude.{◌-◌, ◌/◌, ◌%◌, ◌^◌, length, max, true, AllPairs, Contains, IfOk};
 ghost use Rattle.std.specs.Prelude.{IfSome, MatchOption, option_to_list};
 ghost use Rattle.std.specs.Int.{IsPowerOfTwo};
 ghost use Rattle.std.specs.Option.{option_map};
@@ -89,13 +89,14 @@ impl<D: Deed> FreeIndex<D> {
         }
     }
 
-    /// Makes room for `room` free ranges in all, and for `ticks` more to become free: an eighth
-    /// more where there is memory, so that rows lie together. Of all calls this one alone takes
-    /// memory, and a carve what its deed's splits take.
+    /// Makes room for `room` free ranges in all, and for `ticks` more to become free. Where it takes
+    /// memory, room is made for an eighth more ranges, if there is memory for them, so that rows
+    /// lie together. Of all calls this one alone takes memory, and a carve what its deed's splits
+    /// take.
     pub fn reserve(&mut self, alloc: Global, room: usize, ticks: usize) -> Result<(), AllocError>
-        requires apart { AllPairs Apart self.old.ranges }
         ensures room { OnOk result (room ≤ self.new.room) }
         ensures ticks { OnOk result (ticks ≤ self.new.ticks) }
+        ensures most { self.new.room ≤ max (room + room / 8) self.old.room }
         ensures grows { (self.old.room ≤ self.new.room) × (self.old.ticks ≤ self.new.ticks) }
         ensures rest { self.new ≡ record self.old {
           room = self.new.room;
@@ -116,13 +117,10 @@ impl<D: Deed> FreeIndex<D> {
 
     /// Makes room for `room` free ranges in all.
     fn widen(&mut self, alloc: Global, room: usize) -> Result<(), AllocError>
-        ensures ok { OnOk result (self.new.room ≡ max room self.old.room) }
-        ensures grows { self.old.room ≤ self.new.room }
-        ensures rest { self.new ≡ record self.old { room = self.new.room } }
+        requires { self.old.room < room }
+        ensures ok { OnOk result (self.new ≡ record self.old { room = room }) }
+        ensures unchanged { OnErr result (self.new ≡ self.old) }
     {
-        if room <= self.room {
-            return Ok(());
-        }
         self.lists.reserve(room)?;
         self.slots.reserve(room)?;
         self.rising.reserve(alloc, room, has_bases(self.policy))?;

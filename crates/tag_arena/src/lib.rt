@@ -47,7 +47,6 @@
 #![tactic(auto)]
 
 mod arenas;
-mod cell_links;
 mod cell_notes;
 mod cells;
 mod chained;
@@ -70,7 +69,7 @@ mod reaches;
 mod reserves;
 mod returns;
 mod searches;
-mod slot_links;
+mod short_indexes;
 mod slot_searches;
 mod slots;
 mod span_entries;

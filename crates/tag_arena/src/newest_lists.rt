@@ -4,7 +4,7 @@ ghost use Rattle.std.specs.Prelude.{◌≡◌, ◌<◌, ◌≤◌, ℕ, List, []
 ghost use Rattle.tag_arena.specs.FreeTags.{FreeTag, tag_at, SlotBecomes, IsTimed, ArePowers};
 ghost use Rattle.tag_arena.specs.Linked.{IsLinked, IsNewestFrom, lists_room};
 
-use crate::slot_links::{MOST_SLOTS, SlotLink};
+use crate::short_indexes::{MOST_INDEXES, ShortIndex};
 use crate::slots::SlotTag;
 use std::alloc::{AllocError, Global};
 use std::marker::Model;
@@ -15,8 +15,8 @@ const LISTS: usize = 64;
 /// The slots beside a slot on its list.
 #[derive(Clone, Copy, Debug)]
 pub struct Link {
-    pub newer: SlotLink,
-    pub older: SlotLink,
+    pub newer: ShortIndex,
+    pub older: ShortIndex,
 }
 
 /// The lists, with nothing on them where they aren't kept.
@@ -31,14 +31,14 @@ pub struct NewestLists {
 
 impl Model for NewestLists {
     ghost use Rattle.std.specs.Prelude.{◌≡◌, ◌≤◌, length};
-    ghost use Rattle.tag_arena.specs.declared.slot_links.TheConstants.{MOST_SLOTS};
+    ghost use Rattle.tag_arena.specs.declared.short_indexes.TheConstants.{MOST_INDEXES};
     ghost use Rattle.tag_arena.specs.Linked.{ListsState};
 
     ghost Value = { ListsState };
 
     ghost view = { λ l. record { kept = l.kept; newest = l.newest; links = l.links.items } };
 
-    ghost invariant = { λ l. (length l.newest ≡ 64) × (length l.links.items ≤ MOST_SLOTS) };
+    ghost invariant = { λ l. (length l.newest ≡ 64) × (length l.links.items ≤ MOST_INDEXES) };
 }
 
 impl NewestLists {
@@ -57,7 +57,7 @@ impl NewestLists {
     }
 
     /// Makes room for links of the slots below `room`, where the lists are kept. Where there are
-    /// more than `MOST_SLOTS`, that is refused: a link has 32 bits for the number of a slot.
+    /// more than `MOST_INDEXES`, that is refused.
     pub fn reserve(&mut self, room: usize) -> Result<(), AllocError>
         ensures ok { OnOk result (self.old.kept ≡ true → room ≤ lists_room self.new) }
         ensures linked { (tags : List (Option FreeTag)) → IsLinked self.old tags
@@ -68,12 +68,12 @@ impl NewestLists {
         if !self.kept || room <= self.links.len() {
             return Ok(());
         }
-        if room > MOST_SLOTS {
+        if room > MOST_INDEXES {
             return Err(AllocError);
         }
         let alone = Link {
-            newer: SlotLink::none(),
-            older: SlotLink::none(),
+            newer: ShortIndex::none(),
+            older: ShortIndex::none(),
         };
         self.links.resize(room, alone)
     }
@@ -97,11 +97,11 @@ impl NewestLists {
         let list = tag.power() as usize;
         let newest = self.newest[list];
         self.links[slot] = Link {
-            newer: SlotLink::none(),
-            older: SlotLink::to(newest),
+            newer: ShortIndex::none(),
+            older: ShortIndex::to(newest),
         };
         if let Some(older) = newest {
-            self.links[older].newer = SlotLink::to(Some(slot));
+            self.links[older].newer = ShortIndex::to(Some(slot));
         }
         self.newest[list] = Some(slot);
     }
@@ -121,11 +121,11 @@ impl NewestLists {
             return;
         }
         let Link { newer, older } = self.links[slot];
-        match newer.slot() {
+        match newer.get() {
             Some(newer) => self.links[newer].older = older,
-            None => self.newest[tag.power() as usize] = older.slot(),
+            None => self.newest[tag.power() as usize] = older.get(),
         }
-        if let Some(older) = older.slot() {
+        if let Some(older) = older.get() {
             self.links[older].newer = newer;
         }
     }

@@ -1,7 +1,6 @@
 //! Room for what an arena allocates, to become free again.
-ghost use Rattle.std.specs.Prelude.{◌≡◌, ◌+◌, ◌^◌, ◌≤◌, ◌<◌, AllPairs, OnOk, length};
+ghost use Rattle.std.specs.Prelude.{◌≡◌, ◌+◌, ◌^◌, ◌≤◌, ◌<◌, OnOk, length};
 ghost use Rattle.std.specs.FinMap as finmap;
-ghost use Rattle.deed_core.specs.Holding.{Apart};
 
 use crate::free_index::FreeIndex;
 use crate::tags::Tags;
@@ -15,7 +14,6 @@ pub fn reserve_free<D: Deed>(
     tags: &Tags,
     more: usize,
 ) -> Result<(), AllocError>
-    requires apart { AllPairs Apart free.old.ranges }
     ensures room { OnOk result
         (length free.new.ranges + finmap.len tags.now + more ≤ free.new.room) }
     ensures ticks { OnOk result (finmap.len tags.now + more < free.new.ticks) }

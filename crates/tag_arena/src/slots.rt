@@ -7,7 +7,7 @@ ghost use Rattle.tag_arena.specs.Cuts.{IsCut};
 ghost use Rattle.tag_arena.specs.FreeTags.{FreeTag, tag_at, SlotBecomes};
 ghost use Rattle.tag_arena.specs.Slotted.{taken_count, slot_units};
 
-use crate::cell_links::CellLink;
+use crate::short_indexes::ShortIndex;
 use crate::cuts::{Cut, cut_out};
 use crate::held_ranges::{HeldRange, held_range_of};
 use deed_core::{Deed, Range, Stored};
@@ -20,7 +20,7 @@ pub struct TimedDeed<D: Deed> {
     deed: Stored<D>,
     since: u64,
     power: u32,
-    cell: CellLink,
+    cell: ShortIndex,
 }
 
 impl<D: Deed> Model for TimedDeed<D> {
@@ -39,7 +39,7 @@ impl<D: Deed> TimedDeed<D> {
             deed,
             since,
             power,
-            cell: CellLink::none(),
+            cell: ShortIndex::none(),
         }
     }
 
@@ -364,7 +364,7 @@ impl<D: Deed> Slots<D> {
             return None;
         }
         match &self.slots[slot] {
-            Some(timed) => timed.cell.cell(),
+            Some(timed) => timed.cell.get(),
             None => None,
         }
     }
@@ -377,7 +377,7 @@ impl<D: Deed> Slots<D> {
             return;
         }
         if let Some(timed) = &mut self.slots[slot] {
-            timed.cell = CellLink::to(cell);
+            timed.cell = ShortIndex::to(cell);
         }
     }
 
