@@ -13,3 +13,4 @@ pub mod ClientLemmas
 pub mod LawLemmas
 pub mod LawProofs
 pub mod LeasesIn
+pub mod FirstLemmas

@@ -9,6 +9,7 @@ ghost use Rattle.lease_book.specs.BookState.{units_of_lease};
 ghost use Rattle.lease_book.specs.Places.{is_asked};
 ghost use Rattle.lease_book.specs.declared.books.TheConstants.{MOST_LEASES};
 
+use crate::lease_list::LeaseList;
 use crate::places::Places;
 use deed_core::{Deed, Segment};
 use lease_terms::{ClientId, Ordinal, Quantity, RequestId};
@@ -122,26 +123,31 @@ pub(crate) enum Which {
     Any,
 }
 
-/// The leases of one client. None is of an incarnation before `least`: so whether one is older
-/// needs no search while the client goes on in one incarnation.
+/// So many leases of a client stand in a list at most.
+const FEW_LEASES: usize = 64;
+
+/// The leases of one client: few in a list, more in places, and those in the list were granted
+/// before those. None is of an incarnation before `least`: so whether one is older needs no search
+/// while the client goes on in one incarnation.
 pub(crate) struct Leases<D: Deed> {
+    few: LeaseList<D>,
     places: Places<D>,
     count: usize,
     least: u64,
 }
 
 impl<D: Deed> Model for Leases<D> {
-    ghost use Rattle.std.specs.Prelude.{◌≡◌, List, length};
+    ghost use Rattle.std.specs.Prelude.{◌≡◌, ◌++◌, List, length};
     ghost use Rattle.lease_book.specs.Account.{Lease};
     ghost use Rattle.lease_book.specs.Places.{leases_in};
     ghost use Rattle.lease_book.specs.Shelf.{NoneBefore};
 
     ghost Value = { List Lease };
 
-    ghost view = { λ l. leases_in l.places.places };
+    ghost view = { λ l. l.few ++ leases_in l.places.places };
 
-    ghost invariant = { λ l. (l.count ≡ length (leases_in l.places.places))
-        × NoneBefore l.least (leases_in l.places.places) };
+    ghost invariant = { λ l. (l.count ≡ length (l.few ++ leases_in l.places.places))
+        × NoneBefore l.least (l.few ++ leases_in l.places.places) };
 }
 
 impl<D: Deed> Leases<D> {
@@ -149,6 +155,7 @@ impl<D: Deed> Leases<D> {
         ensures { result ≡ [] }
     {
         Leases {
+            few: LeaseList::new(alloc),
             places: Places::new(alloc),
             count: 0,
             least: 0,
@@ -168,13 +175,18 @@ impl<D: Deed> Leases<D> {
         ensures unchanged { OnErr result (self.new ≡ self.old) }
         ensures handed_back { IfErr result (λ s. s ≡ held.segment) }
     {
-        if self.places.is_full() {
-            let Ok(()) = self.places.renew(self.count) else {
-                return Err(held.into_segment());
-            };
+        let least = self.least_with(held.incarnation);
+        if self.count < FEW_LEASES && self.count == self.few.len() {
+            self.few.add(held)?;
+        } else {
+            if self.places.is_full() {
+                let Ok(()) = self.places.renew(&mut self.few, self.count) else {
+                    return Err(held.into_segment());
+                };
+            }
+            self.places.push(held);
         }
-        self.least = self.least_with(held.incarnation);
-        self.places.push(held);
+        self.least = least;
         self.count += 1;
         Ok(())
     }
@@ -185,7 +197,10 @@ impl<D: Deed> Leases<D> {
         ensures rest { self.new ≡ without_first (is_asked which) self.old }
         ensures unchanged { IfNone result (self.new ≡ self.old) }
     {
-        let held = self.places.take(which)?;
+        let held = match self.few.take(&which) {
+            Some(held) => held,
+            None => self.places.take(&which)?,
+        };
         self.count -= 1;
         Some(held)
     }
@@ -194,7 +209,14 @@ impl<D: Deed> Leases<D> {
     pub(crate) fn has_older(&self, incarnation: Ordinal) -> bool
         ensures { result ≡ list_any (is_older incarnation) self.now }
     {
-        self.least < incarnation.get() && self.places.has_older(incarnation)
+        self.least < incarnation.get() && self.any_older(incarnation)
+    }
+
+    // The same, by a look at each.
+    fn any_older(&self, incarnation: Ordinal) -> bool
+        ensures { result ≡ list_any (is_older incarnation) self.now }
+    {
+        self.few.has_older(incarnation) || self.places.has_older(incarnation)
     }
 
     // What no lease's incarnation is below, nor this one.
@@ -205,7 +227,7 @@ impl<D: Deed> Leases<D> {
         if incarnation.get() <= self.least {
             return incarnation.get();
         }
-        if self.places.has_older(incarnation) {
+        if self.any_older(incarnation) {
             return self.least;
         }
         incarnation.get()
@@ -217,7 +239,7 @@ impl<D: Deed> Leases<D> {
         ensures value { result ≡ sum_by (units_of_lease arena) self.now }
         ensures bound { result ≤ MOST_LEASES * LARGEST }
     {
-        self.places.units(arena)
+        self.few.units(arena) + self.places.units(arena)
     }
 
     /// Ends an empty list.
@@ -225,10 +247,12 @@ impl<D: Deed> Leases<D> {
         requires { self ≡ [] }
     {
         let Leases {
+            few,
             places,
             count: _count,
             least: _least,
         } = self;
+        few.close();
         places.close();
     }
 }

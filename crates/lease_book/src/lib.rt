@@ -25,6 +25,7 @@ mod accounts;
 mod answers;
 mod books;
 mod laws;
+mod lease_list;
 mod leases;
 mod places;
 mod receipts;

@@ -12,6 +12,7 @@ ghost use Rattle.lease_book.specs.Places.{leases_in, is_asked, holds, chain_of};
 ghost use Rattle.lease_book.specs.declared.books.TheConstants.{MOST_LEASES};
 
 use crate::books::MOST_LEASES;
+use crate::lease_list::LeaseList;
 use crate::leases::{Held, Which};
 use deed_core::Deed;
 use lease_terms::{Ordinal, Quantity, RequestId};
@@ -135,14 +136,20 @@ impl<D: Deed> Places<D> {
         self.ends.len() <= 2 * self.places.len()
     }
 
-    /// Puts the leases in new places, with room for more. Out of memory, all stays as it is.
-    pub(crate) fn renew(&mut self, count: usize) -> Result<(), AllocError>
-        requires count { count ≡ length (leases_in self.old.places) }
-        requires few { count ≤ MOST_LEASES }
-        ensures leases { leases_in self.new.places ≡ leases_in self.old.places }
+    /// Puts the leases of a list, and those in places behind them, in new places with room for
+    /// more. Out of memory, all stays as it is.
+    pub(crate) fn renew(&mut self, few: &mut LeaseList<D>, count: usize) -> Result<(), AllocError>
+        requires count { count ≡ length few.old + length (leases_in self.old.places) }
+        requires at_most { count ≤ MOST_LEASES }
+        ensures list { OnOk result (few.new ≡ []) }
+        ensures leases { OnOk result
+            (leases_in self.new.places ≡ few.old ++ leases_in self.old.places) }
         ensures room { OnOk result (2 * length self.new.places < length self.new.ends) }
+        ensures unchanged { OnErr result ((self.new ≡ self.old) × (few.new ≡ few.old)) }
     {
-        let fresh = Places::with_room(*self.places.allocator(), count)?;
+        let mut fresh = Places::with_room(*self.places.allocator(), count)?;
+        let list = mem::replace(few, LeaseList::new(few.allocator()));
+        list.move_to(&mut fresh);
         let Places { places, ends: _ } = mem::replace(self, fresh);
         self.move_in(places);
         Ok(())
@@ -182,10 +189,10 @@ impl<D: Deed> Places<D> {
     }
 
     /// Takes the first lease out that is asked for.
-    pub(crate) fn take(&mut self, which: Which) -> Option<Held<D>>
-        ensures lease { find (is_asked which) (leases_in self.old.places) ≡ result }
+    pub(crate) fn take(&mut self, which: &Which) -> Option<Held<D>>
+        ensures lease { find (is_asked which.now) (leases_in self.old.places) ≡ result }
         ensures rest { leases_in self.new.places
-            ≡ without_first (is_asked which) (leases_in self.old.places) }
+            ≡ without_first (is_asked which.now) (leases_in self.old.places) }
         ensures unchanged { IfNone result (self.new ≡ self.old) }
     {
         let at = self.place_of(which)?;
@@ -193,10 +200,10 @@ impl<D: Deed> Places<D> {
     }
 
     // Where the first lease stands that is asked for.
-    fn place_of(&self, which: Which) -> Option<usize>
-        ensures { result ≡ position (λ p. holds (is_asked which) p.lease) self.now.places }
+    fn place_of(&self, which: &Which) -> Option<usize>
+        ensures { result ≡ position (λ p. holds (is_asked which.now) p.lease) self.now.places }
     {
-        match which {
+        match *which {
             Which::At(id, arena, base) => self.position(id, arena, base),
             Which::Before(incarnation) => first_older(&self.places, incarnation),
             Which::Any => first_held(&self.places),
