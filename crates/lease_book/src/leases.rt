@@ -6,7 +6,7 @@ ghost use Rattle.lease_terms.specs.declared.values.TheConstants.{LARGEST};
 ghost use Rattle.lease_book.specs.Account.{Lease, is_lease, is_older, lease_of};
 ghost use Rattle.lease_book.specs.Account.{granted_request, without_first};
 ghost use Rattle.lease_book.specs.BookState.{units_of_lease};
-ghost use Rattle.lease_book.specs.Places.{is_asked};
+ghost use Rattle.lease_book.specs.Places.{is_asked, leases_in};
 ghost use Rattle.lease_book.specs.declared.books.TheConstants.{MOST_LEASES};
 
 use crate::lease_list::LeaseList;
@@ -176,16 +176,7 @@ impl<D: Deed> Leases<D> {
         ensures handed_back { IfErr result (λ s. s ≡ held.segment) }
     {
         let least = self.least_with(held.incarnation);
-        if self.count < FEW_LEASES && self.count == self.few.len() {
-            self.few.add(held)?;
-        } else {
-            if self.places.is_full() {
-                let Ok(()) = self.places.renew(&mut self.few, self.count) else {
-                    return Err(held.into_segment());
-                };
-            }
-            self.places.push(held);
-        }
+        put_in(&mut self.few, &mut self.places, self.count, held)?;
         self.least = least;
         self.count += 1;
         Ok(())
@@ -197,10 +188,7 @@ impl<D: Deed> Leases<D> {
         ensures rest { self.new ≡ without_first (is_asked which) self.old }
         ensures unchanged { IfNone result (self.new ≡ self.old) }
     {
-        let held = match self.few.take(&which) {
-            Some(held) => held,
-            None => self.places.take(&which)?,
-        };
+        let held = take_out(&mut self.few, &mut self.places, &which)?;
         self.count -= 1;
         Some(held)
     }
@@ -254,5 +242,49 @@ impl<D: Deed> Leases<D> {
         } = self;
         few.close();
         places.close();
+    }
+}
+
+/// Adds a lease to few in a list, or to many in places. `Err` is out of memory.
+fn put_in<D: Deed>(
+    few: &mut LeaseList<D>,
+    places: &mut Places<D>,
+    count: usize,
+    held: Held<D>,
+) -> Result<(), Segment<D>>
+    requires count { count ≡ length (few.old ++ leases_in places.old.places) }
+    requires room { count < MOST_LEASES }
+    ensures ok { OnOk result (few.new ++ leases_in places.new.places
+        ≡ (few.old ++ leases_in places.old.places) ++ held ∷ []) }
+    ensures unchanged { OnErr result ((few.new ≡ few.old) × (places.new ≡ places.old)) }
+    ensures handed_back { IfErr result (λ s. s ≡ held.segment) }
+{
+    if count < FEW_LEASES && count == few.len() {
+        return few.add(held);
+    }
+    if places.is_full() {
+        let Ok(()) = places.renew(few, count) else {
+            return Err(held.into_segment());
+        };
+    }
+    places.push(held);
+    Ok(())
+}
+
+/// Takes the first lease out that is asked for.
+fn take_out<D: Deed>(
+    few: &mut LeaseList<D>,
+    places: &mut Places<D>,
+    which: &Which,
+) -> Option<Held<D>>
+    ensures lease { let leases = few.old ++ leases_in places.old.places in
+        find (is_asked which.now) leases ≡ result }
+    ensures rest { let leases = few.old ++ leases_in places.old.places in
+        few.new ++ leases_in places.new.places ≡ without_first (is_asked which.now) leases }
+    ensures unchanged { IfNone result ((few.new ≡ few.old) × (places.new ≡ places.old)) }
+{
+    match few.take(which) {
+        Some(held) => Some(held),
+        None => places.take(which),
     }
 }

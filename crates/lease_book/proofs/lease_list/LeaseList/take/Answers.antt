@@ -1,5 +1,6 @@
 use Rattle.std.proofs.Common.{◌≡◌, List, Some, get_or, sym, ap, ◌∙◌}
 use Rattle.std.specs.List.{find, remove}
+use Rattle.std.proofs.lemmas.Option.{slice_get-get_or}
 use Rattle.lease_book.specs.Account.{Lease, without_first}
 use Rattle.lease_book.specs.Places.{is_asked}
 use Rattle.lease_book.proofs.PlaceLemmas.{position-some}
@@ -19,7 +20,7 @@ pub returns-clause-lease : goal.returns-clause-lease
 returns-clause-lease g c =
     let first = first_of (is_asked c.args.which.now) c.args.self.now c.in_ok-index.index (sym c.index_of.ensures ∙ c.in_ok-index.was) in
     let within = (position-some (is_asked c.args.which.now) c.args.self.now c.in_ok-index.index (sym c.index_of.ensures ∙ c.in_ok-index.was)).1 in
-    first.found ∙ slice_get_at c.args.self.now c.in_ok-index.index c.remove.result within ∙ ap Some (sym (c.remove.ensures.value ∙ ap (λ (xs : List Lease). get_or xs c.in_ok-index.index c.remove.result) c.self.view_is)) ∙ ap Some (sym c.into_held.ensures)
+    first.found ∙ slice_get-get_or c.args.self.now c.in_ok-index.index c.remove.result within ∙ ap Some (sym (c.remove.ensures.value ∙ ap (λ (xs : List Lease). get_or xs c.in_ok-index.index c.remove.result) c.self.view_is)) ∙ ap Some (sym c.into_held.ensures)
 
 pub returns-clause-rest : goal.returns-clause-rest
 returns-clause-rest g c =
