@@ -16,9 +16,14 @@
 //! together, ranges of numbers).
 //!
 //! What it costs: a look-up of a client takes the same time however many there are, and so does a
-//! grant or a refusal. A release and a sweep look at the leases of one client, at most
-//! `MOST_LEASES`, and `units` at all leases. Ending all leases one by one looks at each client
-//! once. A book keeps a few words for each client that ever said hello and for each lease.
+//! refusal. A release reads through its client's leases where they are few; of more than 64 it
+//! looks at those on one chain, which are few unless bases are chosen to meet there. A grant takes
+//! the same time too, but that now and then all leases of its client get new places: one is moved
+//! for each grant, on average. A sweep, and `can_sweep` after a greater hello, look at the places
+//! of one client, of which there are about twice as many as leases, and `units` at all. Ending all
+//! leases one by one looks at each client once. A book keeps a few words for each client that ever
+//! said hello. A lease takes some 80 bytes while its client has few, and 70 to 140 in places, which
+//! stay until all are renewed.
 #![tactic(auto)]
 
 mod accounts;
