@@ -1,8 +1,8 @@
 -- The places of a client's leases: one more, one emptied, and a search along a chain.
-use Rattle.std.proofs.Common.{◌≡◌, ℕ, zero, suc, ◌+◌, ◌-◌, ◌<◌, ◌≤◌, ◌⊎◌, inl, inr, Bool, true, false, cond, not, nat_lt, List, [], ◌∷◌, ◌++◌, length, take, Option, Some, None, slice_get, get_or, position, min, refl, sym, ap, subst, ◌∙◌, arith, one-add}
+use Rattle.std.proofs.Common.{◌≡◌, ℕ, zero, suc, ◌+◌, ◌-◌, ◌<◌, ◌≤◌, ◌⊎◌, inl, inr, Bool, true, false, cond, not, nat_lt, List, [], ◌∷◌, ◌++◌, length, take, Option, Some, None, IfNone, slice_get, get_or, position, min, refl, sym, ap, subst, ◌∙◌, arith, one-add}
 use Rattle.std.specs.List.{find, position_or_len, cons_option}
 use Rattle.std.proofs.Math.ListN.{set}
-use Rattle.std.proofs.Math.Nat.{min-le_left}
+use Rattle.std.proofs.Math.Nat.{min-le_left, min-le_right}
 use Rattle.std.proofs.lemmas.Bool.{ltb-true, ltb-false, cases_order}
 use Rattle.std.proofs.lemmas.List.{length-append, length-set}
 use Rattle.std.proofs.lemmas.Option.{slice_get_within, slice_get_read}
@@ -32,6 +32,11 @@ at_set [] i y p at = absurd (cc)
 at_set (x ∷ xs) zero y p at = cc
 at_set (x ∷ xs) (suc i) y p at = at_set xs i y p at
 
+pub set_same : {X : Type 0} (xs : List X) (i : ℕ) (y : X) → slice_get xs i ≡ Some y → set xs i y ≡ xs
+set_same [] i y at = absurd (cc)
+set_same {X} (x ∷ xs) zero y at = let is : x ≡ y = cc in ap (λ (z : X). z ∷ xs) (sym is)
+set_same {X} (x ∷ xs) (suc i) y at = ap (λ (zs : List X). x ∷ zs) (set_same xs i y at)
+
 pub of_take : {X : Type 0} (n : ℕ) (xs : List X) (k : ℕ) (p : X) → slice_get (take n xs) k ≡ Some p → (k < n) × (slice_get xs k ≡ Some p)
 of_take zero xs k p at = absurd (cc)
 of_take (suc n) [] k p at = absurd (cc)
@@ -44,10 +49,10 @@ in_take (suc n) [] k p below at = absurd (cc)
 in_take (suc n) (x ∷ xs) zero p below at = at
 in_take (suc n) (x ∷ xs) (suc k) p below at = in_take n xs k p (omega arith) at
 
--- a place behind another on its chain stands before its index
-pub goes_before : (s : PlacesState) → IsChained s → (k j : ℕ) (p q : PlaceState) → slice_get s.places k ≡ Some p → slice_get s.places j ≡ Some q
-    → j < k → q.chain ≡ p.chain → j < p.before
-goes_before s chained k j p q at other below same = chained.before k p at j q (in_take k s.places j q below other) same
+-- a lease behind a place on its chain stands before its index
+pub goes_before : (s : PlacesState) → IsChained s → (k j : ℕ) (p q : PlaceState) (l : Lease) → slice_get s.places k ≡ Some p → slice_get s.places j ≡ Some q
+    → j < k → q.lease ≡ Some l → q.chain ≡ p.chain → j < p.before
+goes_before s chained k j p q l at other below has same = chained.before k p at j q l (in_take k s.places j q below other) has same
 
 -- one more lease is put at the end of its chain
 pub chained_push : (places : List PlaceState) (ends : List ℕ) (chain before : ℕ) (l : Lease) → IsChained (record { places = places; ends = ends })
@@ -73,11 +78,11 @@ chained_push places ends chain before l chained is end =
         | inl old ↦ let low = chained.inside c e old in omega (arith, low, more)
         | inr here ↦ omega (arith, here.1, more)
       ];
-      ends = λ c e at k p stands on.
+      ends = λ c e at k p l stands has on.
           let place : k < length places + 1 = omega (arith, more, slice_get_within (places ++ fresh ∷ []) k p stands) in
           elim (of_set ends chain (length places + 1) c e at) [
             | inl old ↦ elim (of_push places fresh k p stands) [
-              | inl was ↦ chained.ends c e old k p was on
+              | inl was ↦ chained.ends c e old k p l was has on
               | inr here ↦
                   let c_is : chain ≡ c = ap (λ (q : PlaceState). q.chain) here.1 ∙ on in
                   let e_is : length places + 1 ≡ e = at_set ends chain (length places + 1) e (subst (λ (d : ℕ). slice_get (set ends chain (length places + 1)) d ≡ Some e) (sym c_is) at) in
@@ -85,16 +90,16 @@ chained_push places ends chain before l chained is end =
             ]
             | inr here ↦ omega (arith, place, here.1)
           ];
-      before = λ k p stands j q front on.
+      before = λ k p stands j q l front has on.
           let other = of_take k (places ++ fresh ∷ []) j q front in
           let place : k < length places + 1 = omega (arith, more, slice_get_within (places ++ fresh ∷ []) k p stands) in
           elim (of_push places fresh j q other.1) [
             | inl was ↦ elim (of_push places fresh k p stands) [
-              | inl old ↦ goes_before (record { places = places; ends = ends }) chained k j p q old was other.0 on
+              | inl old ↦ goes_before (record { places = places; ends = ends }) chained k j p q l old was other.0 has on
               | inr here ↦
                   let chain_is : chain ≡ p.chain = ap (λ (r : PlaceState). r.chain) here.1 in
                   let before_is : before ≡ p.before = ap (λ (r : PlaceState). r.before) here.1 in
-                  subst (λ (b : ℕ). j < b) before_is (chained.ends chain before end j q was (on ∙ sym chain_is))
+                  subst (λ (b : ℕ). j < b) before_is (chained.ends chain before end j q l was has (on ∙ sym chain_is))
             ]
             | inr here ↦ absurd (omega (arith, other.0, place, here.0))
           ];
@@ -126,12 +131,47 @@ chained_take places ends i p chained at =
       own = λ k q l stands has. let o = was k q stands in sym o.2 ∙ chained.own k o.0 l o.1 (o.4 l has);
       within = λ k q stands. let o = was k q stands in subst (λ (c : ℕ). c < length ends) o.2 (chained.within k o.0 o.1);
       inside = λ c e has. rw (length-set places i (emptied p)) (chained.inside c e has);
-      ends = λ c e has k q stands on. let o = was k q stands in chained.ends c e has k o.0 o.1 (o.2 ∙ on);
-      before = λ k q stands j r front on.
+      ends = λ c e has k q l stands holds' on. let o = was k q stands in chained.ends c e has k o.0 l o.1 (o.4 l holds') (o.2 ∙ on);
+      before = λ k q stands j r l front has on.
           let o = was k q stands in
           let other = of_take k (set places i (emptied p)) j r front in
           let n = was j r other.1 in
-          subst (λ (b : ℕ). j < b) o.3 (goes_before (record { places = places; ends = ends }) chained k j o.0 n.0 o.1 n.1 other.0 (n.2 ∙ on ∙ sym o.2));
+          subst (λ (b : ℕ). j < b) o.3 (goes_before (record { places = places; ends = ends }) chained k j o.0 n.0 l o.1 n.1 other.0 (n.4 l has) (n.2 ∙ on ∙ sym o.2));
+    }
+
+-- a chain whose last place is emptied ends before it
+pub chained_leave : (places : List PlaceState) (ends : List ℕ) (i : ℕ) (p : PlaceState) (end : ℕ) → IsChained (record { places = places; ends = ends })
+    → slice_get places i ≡ Some p → slice_get ends p.chain ≡ Some end → end ≡ i + 1
+    → IsChained (record { places = set places i (emptied p); ends = set ends p.chain (min p.before (end - 1)) })
+chained_leave places ends i p end chained at last is =
+    let rest = chained_take places ends i p chained at in
+    let was = was_there places i p at in
+    let low : min p.before (end - 1) ≤ end - 1 = min-le_right p.before (end - 1) in
+    let same : length (set ends p.chain (min p.before (end - 1))) ≡ length ends = length-set ends p.chain (min p.before (end - 1)) in
+    record {
+      own = λ k q l stands has. rw same (rest.own k q l stands has);
+      within = λ k q stands. rw same (rest.within k q stands);
+      inside = λ c e has. elim (of_set ends p.chain (min p.before (end - 1)) c e has) [
+        | inl old ↦ rest.inside c e old
+        | inr here ↦ let most = rest.inside p.chain end last in omega (arith, most, low, here.1)
+      ];
+      ends = λ c e has k q l stands filled on. elim (of_set ends p.chain (min p.before (end - 1)) c e has) [
+        | inl old ↦ rest.ends c e old k q l stands filled on
+        | inr here ↦
+            let o = was k q stands in
+            let mine : q.chain ≡ p.chain = on ∙ here.0 in
+            let most : k < end = rest.ends p.chain end last k q l stands filled mine in
+            let other : k < i = elim (cases_order k i) [
+              | inl e ↦
+                  let empty : emptied p ≡ q = at_set places i (emptied p) q (subst (λ (n : ℕ). slice_get (set places i (emptied p)) n ≡ Some q) e stands) in
+                  let none : None ≡ Some l = ap (λ (r : PlaceState). r.lease) empty ∙ filled in
+                  absurd (cc)
+              | inr h ↦ elim h [ inl b ↦ b | inr b ↦ absurd (omega (arith, most, is, b)) ]
+            ] in
+            let front : k < p.before = goes_before (record { places = places; ends = ends }) chained i k p o.0 l at o.1 other (o.4 l filled) (o.2 ∙ mine) in
+            omega (arith, other, is, front, here.1)
+      ];
+      before = rest.before;
     }
 
 -- the first place whose lease passes has the first lease that does
@@ -179,9 +219,20 @@ none_in test (x ∷ places) past = by x.lease past (none_in test places)
     by None past rest = rest (omega arith)
     by (Some l) past rest = at_lease l (test l) past rest
 
+first_stands : {X : Type 0} (test : X → Bool) (xs : List X) → position_or_len test xs < length xs → (p : X) × (slice_get xs (position_or_len test xs) ≡ Some p) × (test p ≡ true)
+first_stands test [] within = absurd (omega arith)
+first_stands {X} test (x ∷ xs) within = by (test x) refl within (first_stands test xs)
+  where
+    by : (b : Bool) → test x ≡ b → cond (not b) (1 + position_or_len test xs) 0 < length (x ∷ xs)
+        → (position_or_len test xs < length xs → (p : X) × (slice_get xs (position_or_len test xs) ≡ Some p) × (test p ≡ true))
+        → (p : X) × (slice_get (x ∷ xs) (cond (not b) (1 + position_or_len test xs) 0) ≡ Some p) × (test p ≡ true)
+    by true is within rest = (x, refl, is)
+    by false is within rest = rw one-add (rest (omega arith))
+
 -- what taking the lease out of the first place that passes does
 pub record IsTaken (test : Lease → Bool) (places : List PlaceState) (i : ℕ) (p : PlaceState) : Type 0 where
   pub stands : slice_get places i ≡ Some p
+  pub passes : holds test p.lease ≡ true
   pub lease : find test (leases_in places) ≡ p.lease
   pub rest : leases_in (set places i (emptied p)) ≡ without_first test (leases_in places)
 
@@ -190,11 +241,20 @@ taken test places i p first is =
     let at = position-some (λ (q : PlaceState). holds test q.lease) places i first in
     let stands : slice_get places i ≡ Some p = slice_get_read places _ i p refl at.1 is in
     let both = first_in test places p (ap (slice_get places) at.0 ∙ stands) in
+    let one = first_stands (λ (q : PlaceState). holds test q.lease) places (omega (arith, at.0, at.1)) in
+    let same : Some one.0 ≡ Some p = sym one.1 ∙ ap (slice_get places) at.0 ∙ stands in
+    let is_p : one.0 ≡ p = cc in
     record {
       stands = stands;
+      passes = ap (λ (q : PlaceState). holds test q.lease) (sym is_p) ∙ one.2;
       lease = both.0;
       rest = ap (λ (n : ℕ). leases_in (set places n (emptied p))) (sym at.0) ∙ both.1;
     }
+
+-- a lease that passes is one
+pub not_none : (test : Lease → Bool) (o : Option Lease) (P : Type 0) → holds test o ≡ true → IfNone o P
+not_none test None P pass = absurd (cc)
+not_none test (Some l) P pass = tt
 
 -- what a search down along a chain knows: of the places that pass, each stands before the end, or
 -- one was found that it isn't before
@@ -231,38 +291,42 @@ seeks_miss test places at found q stands miss seeks = record {
   ];
 }
 
+-- whether a place holds a lease and is on the chain
+abbrev pub HoldsOn : ℕ → PlaceState → Type 0
+HoldsOn chain p = (l : Lease) × (p.lease ≡ Some l) × (p.chain ≡ chain)
+
 -- down to the index of a place on the chain
 pub seeks_down : (test : PlaceState → Bool) (s : PlacesState) (chain at : ℕ) (found : Option ℕ) (q : PlaceState) → IsChained s
-    → ((k : ℕ) (p : PlaceState) → slice_get s.places k ≡ Some p → test p ≡ true → p.chain ≡ chain)
+    → ((k : ℕ) (p : PlaceState) → slice_get s.places k ≡ Some p → test p ≡ true → HoldsOn chain p)
     → slice_get s.places at ≡ Some q → q.chain ≡ chain → Seeks test s.places at found → Seeks test s.places (min at q.before) found
 seeks_down test s chain at found q chained on stands mine seeks = record {
   within = let low = min-le_left at q.before in omega (arith, low, seeks.within);
   passes = seeks.passes;
   least = λ k p other pass. elim (seeks.least k p other pass) [
-    | inl h ↦ inl (let low = goes_before s chained at k q p stands other h (on k p other pass ∙ sym mine) in omega (arith, h, low))
+    | inl h ↦ inl (let o = on k p other pass in let low = goes_before s chained at k q p o.0 stands other h o.1 (o.2 ∙ sym mine) in omega (arith, h, low))
     | inr h ↦ inr h
   ];
 }
 
 -- a search starts at the chain's end, and nowhere if there is no chain
 pub seeks_from : (test : PlaceState → Bool) (s : PlacesState) (chain end : ℕ) → IsChained s
-    → ((k : ℕ) (p : PlaceState) → slice_get s.places k ≡ Some p → test p ≡ true → p.chain ≡ chain)
+    → ((k : ℕ) (p : PlaceState) → slice_get s.places k ≡ Some p → test p ≡ true → HoldsOn chain p)
     → slice_get s.ends chain ≡ Some end → Seeks test s.places end None
 seeks_from test s chain end chained on has = record {
   within = chained.inside chain end has;
   passes = λ f is. absurd (cc);
-  least = λ k p stands pass. inl (chained.ends chain end has k p stands (on k p stands pass));
+  least = λ k p stands pass. inl (let o = on k p stands pass in chained.ends chain end has k p o.0 stands o.1 o.2);
 }
 
 pub seeks_nowhere : (test : PlaceState → Bool) (s : PlacesState) (chain : ℕ) → IsChained s
-    → ((k : ℕ) (p : PlaceState) → slice_get s.places k ≡ Some p → test p ≡ true → p.chain ≡ chain)
+    → ((k : ℕ) (p : PlaceState) → slice_get s.places k ≡ Some p → test p ≡ true → HoldsOn chain p)
     → length s.ends ≤ chain → Seeks test s.places 0 None
 seeks_nowhere test s chain chained on past = record {
   within = omega arith;
   passes = λ f is. absurd (cc);
   least = λ k p stands pass.
       let low : p.chain < length s.ends = chained.within k p stands in
-      let is : p.chain ≡ chain = on k p stands pass in
+      let is : p.chain ≡ chain = (on k p stands pass).2 in
       absurd (omega (arith, low, is, past));
 }
 
@@ -272,24 +336,14 @@ is_sought i arena base p = holds (is_lease i arena base) p.lease
 
 -- a lease of the base is on the chain of the base
 pub on_chain : (s : PlacesState) (i arena base : ℕ) → IsChained s → (k : ℕ) (p : PlaceState) → slice_get s.places k ≡ Some p → is_sought i arena base p ≡ true
-    → p.chain ≡ chain_of base (length s.ends)
+    → HoldsOn (chain_of base (length s.ends)) p
 on_chain s i arena base chained k p stands pass = by p.lease refl
   where
-    by : (o : Option Lease) → p.lease ≡ o → p.chain ≡ chain_of base (length s.ends)
+    by : (o : Option Lease) → p.lease ≡ o → HoldsOn (chain_of base (length s.ends)) p
     by None none = let fails : false ≡ true = ap (holds (is_lease i arena base)) (sym none) ∙ pass in absurd (cc)
     by (Some l) has =
         let says = is_lease_says i arena base l (ap (holds (is_lease i arena base)) (sym has) ∙ pass) in
-        chained.own k p l stands has ∙ ap (λ (b : ℕ). chain_of b (length s.ends)) (sym says.2)
-
-first_stands : {X : Type 0} (test : X → Bool) (xs : List X) → position_or_len test xs < length xs → (p : X) × (slice_get xs (position_or_len test xs) ≡ Some p) × (test p ≡ true)
-first_stands test [] within = absurd (omega arith)
-first_stands {X} test (x ∷ xs) within = by (test x) refl within (first_stands test xs)
-  where
-    by : (b : Bool) → test x ≡ b → cond (not b) (1 + position_or_len test xs) 0 < length (x ∷ xs)
-        → (position_or_len test xs < length xs → (p : X) × (slice_get xs (position_or_len test xs) ≡ Some p) × (test p ≡ true))
-        → (p : X) × (slice_get (x ∷ xs) (cond (not b) (1 + position_or_len test xs) 0) ≡ Some p) × (test p ≡ true)
-    by true is within rest = (x, refl, is)
-    by false is within rest = rw one-add (rest (omega arith))
+        (l, has, chained.own k p l stands has ∙ ap (λ (b : ℕ). chain_of b (length s.ends)) (sym says.2))
 
 first_least : {X : Type 0} (test : X → Bool) (xs : List X) (k : ℕ) (p : X) → slice_get xs k ≡ Some p → test p ≡ true → position_or_len test xs ≤ k
 first_least test [] k p stands pass = absurd (cc)

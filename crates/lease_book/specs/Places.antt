@@ -8,13 +8,13 @@ use Rattle.lease_book.specs.declared.leases.Which.TheVariants as which
 use Rattle.lease_book.specs.declared.places.TheConstants.{SPREAD, MOST_CHAINS}
 
 -- a place: its lease, where that wasn't taken out, the number of its chain, and an index that the
--- places before it on the chain stand before
+-- leases before it on the chain stand before
 pub record PlaceState : Type 0 where
   pub lease : Option Lease
   pub chain : ℕ
   pub before : ℕ
 
--- the places, and for each chain an index that its places stand before
+-- the places, and for each chain an index that its leases stand before
 pub record PlacesState : Type 0 where
   pub places : List PlaceState
   pub ends : List ℕ
@@ -38,13 +38,13 @@ holds test (Some l) = test l
 abbrev pub chain_of : ℕ → ℕ → ℕ
 chain_of base chains = base * SPREAD % 2 ^ 64 / 2 ^ 32 * chains / 2 ^ 32
 
--- the places on a chain all stand before an index
+-- the places on a chain that hold a lease all stand before an index
 abbrev pub EndsBefore : (chain end : ℕ) → List PlaceState → Type 0
-EndsBefore chain end places = (k : ℕ) (p : PlaceState)
-    → slice_get places k ≡ Some p → p.chain ≡ chain → k < end
+EndsBefore chain end places = (k : ℕ) (p : PlaceState) (l : Lease)
+    → slice_get places k ≡ Some p → p.lease ≡ Some l → p.chain ≡ chain → k < end
 
 -- each lease is on the chain of its base, and the chains, which end among the places, lead to all
--- their places
+-- their leases
 pub record IsChained (s : PlacesState) : Type 0 where
   pub own : (k : ℕ) (p : PlaceState) (l : Lease) → slice_get s.places k ≡ Some p
       → p.lease ≡ Some l → p.chain ≡ chain_of l.segment.holding.range.base (length s.ends)

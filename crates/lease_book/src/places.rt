@@ -32,7 +32,7 @@ struct Place<D: Deed> {
     held: Option<Held<D>>,
     /// The number of its chain.
     chain: u16,
-    /// An index that the places before it on its chain stand before.
+    /// An index that the leases before it on its chain stand before.
     before: u16,
 }
 
@@ -196,7 +196,15 @@ impl<D: Deed> Places<D> {
         ensures unchanged { IfNone result (self.new ≡ self.old) }
     {
         let at = self.place_of(which)?;
-        self.places[at].held.take()
+        let place = &mut self.places[at];
+        let held = place.held.take();
+        let before = place.before;
+        // The place leaves its chain, where it is the last on it.
+        let end = &mut self.ends[place.chain as usize];
+        if *end as usize == at + 1 {
+            *end = before.min(*end - 1);
+        }
+        held
     }
 
     // Where the first lease stands that is asked for.

@@ -2,7 +2,7 @@ use Rattle.std.proofs.Common.{◌≡◌, ℕ, ◌+◌, ◌-◌, ◌<◌, ◌≤�
 use Rattle.std.proofs.lemmas.Bool.{ltb-true, ltb-false}
 use Rattle.std.proofs.lemmas.Option.{slice_get_read}
 use Rattle.lease_book.specs.Places.{PlaceState, PlacesState, IsChained, chain_of}
-use Rattle.lease_book.proofs.PlacesLemmas.{Seeks, is_sought, on_chain, seeks_from, seeks_nowhere, seeks_hit, seeks_miss, seeks_down, seeks_done}
+use Rattle.lease_book.proofs.PlacesLemmas.{Seeks, HoldsOn, is_sought, on_chain, seeks_from, seeks_nowhere, seeks_hit, seeks_miss, seeks_down, seeks_done}
 use Rattle.lease_book.proofs.places.Places.position.Given as given
 use Rattle.lease_book.proofs.places.Places.position.Goals as goal
 use Rattle.lease_book.proofs.places.Places.position.Goals.{then-is_lease, else-is_lease, After-chain_of-chain, After-place}
@@ -11,11 +11,12 @@ chained : (g : given.Over) (c : After-chain_of-chain g) → IsChained c.args.sel
 chained g c = subst (λ (s : PlacesState). IsChained s) c.self.view_is c.self.invariant.0
 
 on : (g : given.Over) (c : After-chain_of-chain g) (k : ℕ) (p : PlaceState) → slice_get c.args.self.now.places k ≡ Some p
-    → is_sought c.args.id.incarnation c.args.arena c.args.base p ≡ true → p.chain ≡ c.chain_of-chain.result
+    → is_sought c.args.id.incarnation c.args.arena c.args.base p ≡ true → HoldsOn c.chain_of-chain.result p
 on g c k p stands pass =
     let many : c.len.result ≡ length c.args.self.now.ends = c.len.ensures ∙ c.self.inside.ends.ok.0 ∙ ap (λ (s : PlacesState). length s.ends) c.self.view_is in
     let is : c.chain_of-chain.result ≡ chain_of c.args.base (length c.args.self.now.ends) = cc in
-    on_chain c.args.self.now c.args.id.incarnation c.args.arena c.args.base (chained g c) k p stands pass ∙ sym is
+    let o = on_chain c.args.self.now c.args.id.incarnation c.args.arena c.args.base (chained g c) k p stands pass in
+    (o.0, o.1, o.2 ∙ sym is)
 
 pub returns-in_err-end : goal.returns-in_err-end
 returns-in_err-end g c =
