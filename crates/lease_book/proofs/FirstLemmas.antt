@@ -1,5 +1,5 @@
 -- The first member that passes a test, by its index.
-use Rattle.std.proofs.Common.{one-add, ◌≡◌, ℕ, ◌+◌, ◌<◌, Bool, true, false, cond, not, List, [], ◌∷◌, ◌++◌, length, Some, None, slice_get, position, refl, sym, ap, ◌∙◌, arith}
+use Rattle.std.proofs.Common.{one-add, ◌≡◌, ℕ, ◌+◌, ◌<◌, Bool, true, false, cond, not, List, [], ◌∷◌, ◌++◌, length, Some, None, slice_get, position, refl, ap, ◌∙◌, arith}
 use Rattle.std.specs.List.{find, remove, position_or_len}
 use Rattle.std.proofs.lemmas.List.Folds.{find_at}
 use Rattle.std.proofs.lemmas.Option.{slice_get_past}

@@ -1,11 +1,11 @@
 -- A client's leases in places, and the chains of places by which a lease is found.
-use Rattle.std.specs.Prelude.{◌≡◌, ℕ, ◌+◌, ◌*◌, ◌/◌, ◌%◌, ◌^◌, ◌<◌, ◌≤◌, Bool, true, false}
-use Rattle.std.specs.Prelude.{List, Option, Some, None, All, IfSome, length, slice_get, take}
+use Rattle.std.specs.Prelude.{◌≡◌, ℕ, ◌*◌, ◌/◌, ◌%◌, ◌^◌, ◌<◌, ◌≤◌, Bool, true, false}
+use Rattle.std.specs.Prelude.{List, Option, Some, None, length, slice_get, take}
 use Rattle.std.specs.Prelude.{filter_map}
 use Rattle.lease_book.specs.Account.{Lease, is_lease, is_older}
 use Rattle.lease_book.specs.declared.leases.Which.{Which}
 use Rattle.lease_book.specs.declared.leases.Which.TheVariants as which
-use Rattle.lease_book.specs.declared.places.TheConstants.{SPREAD, MOST_CHAINS}
+use Rattle.lease_book.specs.declared.places.TheConstants.{SPREAD}
 
 -- a place: its lease, where that wasn't taken out, the number of its chain, and an index that the
 -- leases before it on the chain stand before

@@ -10,8 +10,8 @@ ghost use Rattle.deed_core.specs.Extent.{end_of};
 ghost use Rattle.deed_core.specs.Holding.{Holding};
 ghost use Rattle.tag_arena.specs.Cells.{allocated_at, CellBecomes, IsAt, IsVacant, SameCells};
 
-use crate::short_indexes::ShortIndex;
 use crate::held_ranges::HeldRange;
+use crate::short_indexes::ShortIndex;
 use std::alloc::{AllocError, Global};
 use std::marker::Model;
 

@@ -2,9 +2,9 @@
 ghost use Rattle.std.specs.Prelude.{◌≡◌, ℕ, IfSome, MatchOption};
 ghost use Rattle.tag_arena.specs.Cells.{IsAt, SameCells};
 
-use crate::short_indexes::ShortIndex;
 use crate::cells::Cells;
 use crate::chains::Chains;
+use crate::short_indexes::ShortIndex;
 use std::alloc::{AllocError, Global};
 
 /// The cell where a range is allocated at a base, if it is on its chain.

@@ -7,9 +7,9 @@ ghost use Rattle.tag_arena.specs.Cuts.{IsCut};
 ghost use Rattle.tag_arena.specs.FreeTags.{FreeTag, tag_at, SlotBecomes};
 ghost use Rattle.tag_arena.specs.Slotted.{taken_count, slot_units};
 
-use crate::short_indexes::ShortIndex;
 use crate::cuts::{Cut, cut_out};
 use crate::held_ranges::{HeldRange, held_range_of};
+use crate::short_indexes::ShortIndex;
 use deed_core::{Deed, Range, Stored};
 use std::alloc::{AllocError, Global};
 use std::marker::Model;

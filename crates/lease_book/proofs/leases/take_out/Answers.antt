@@ -1,4 +1,4 @@
-use Rattle.std.proofs.Common.{◌≡◌, ◌++◌, List, sym, ap, ◌∙◌}
+use Rattle.std.proofs.Common.{◌++◌, List, sym, ap, ◌∙◌}
 use Rattle.lease_book.specs.Account.{Lease}
 use Rattle.lease_book.specs.Places.{is_asked, leases_in}
 use Rattle.lease_book.proofs.FirstLemmas.{found_left, found_right}

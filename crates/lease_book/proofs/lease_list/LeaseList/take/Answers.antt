@@ -1,7 +1,7 @@
-use Rattle.std.proofs.Common.{◌≡◌, List, Some, get_or, sym, ap, ◌∙◌}
-use Rattle.std.specs.List.{find, remove}
+use Rattle.std.proofs.Common.{List, Some, get_or, sym, ap, ◌∙◌}
+use Rattle.std.specs.List.{remove}
 use Rattle.std.proofs.lemmas.Option.{slice_get-get_or}
-use Rattle.lease_book.specs.Account.{Lease, without_first}
+use Rattle.lease_book.specs.Account.{Lease}
 use Rattle.lease_book.specs.Places.{is_asked}
 use Rattle.lease_book.proofs.PlaceLemmas.{position-some}
 use Rattle.lease_book.proofs.FirstLemmas.{first_of, none_of, without_none}

@@ -1,5 +1,5 @@
-use Rattle.std.proofs.Common.{◌≡◌, ◌≤◌, ◌++◌, List, length, sym, ap, subst, arith, ◌∙◌}
-use Rattle.lease_book.specs.Account.{Lease, without_first}
+use Rattle.std.proofs.Common.{◌≤◌, ◌++◌, List, length, sym, ap, subst, arith, ◌∙◌}
+use Rattle.lease_book.specs.Account.{Lease}
 use Rattle.lease_book.specs.Places.{is_asked, leases_in}
 use Rattle.lease_book.specs.Shelf.{NoneBefore}
 use Rattle.lease_book.proofs.EachLemmas.{shorter, all_without}

@@ -1,4 +1,4 @@
-use Rattle.std.proofs.Common.{◌≡◌, ◌+◌, ap, sym, arith, ◌∙◌, sum_by, length, get_or, ◌∷◌, []}
+use Rattle.std.proofs.Common.{ap, arith, sum_by, length, ◌∷◌, []}
 use Rattle.lease_book.specs.BookState.{units_of_lease}
 use Rattle.lease_book.specs.Places.{PlaceState, leases_in}
 use Rattle.lease_book.proofs.LeasesIn.{sum_more, count_more, one_at_most}
