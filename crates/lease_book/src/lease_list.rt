@@ -1,4 +1,5 @@
-//! Some leases of a client in a list, in order of grant. A search reads through it, so it is for few.
+//! Some leases of a client in a list, in order of grant. A search reads through it, so it is for
+//! few.
 ghost use Rattle.std.specs.Prelude.{◌≡◌, ◌+◌, ◌*◌, ◌<◌, ◌≤◌, [], ◌∷◌, ◌++◌, length, OnOk, OnErr};
 ghost use Rattle.std.specs.Prelude.{IfOk, IfErr, IfNone, true, position, sum_by};
 ghost use Rattle.std.specs.List.{find, list_any};

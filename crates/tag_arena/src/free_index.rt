@@ -1,7 +1,7 @@
 //! The free ranges of an arena, in orders and on lists, as its policy asks.
 ghost use Rattle.std.specs.Prelude.{◌≡◌, ◌≢◌, ◌+◌, ◌<◌, ◌≤◌, ◌++◌, ◌∷◌, [], All, Any, OnOk, OnErr};
-ghost use Rattle.std.specs.Prelude.{◌-◌, ◌/◌, ◌%◌, ◌^◌, length, max, true, AllPairs, Contains, IfOk};
-ghost use Rattle.std.specs.Prelude.{IfSome, MatchOption, option_to_list};
+ghost use Rattle.std.specs.Prelude.{◌-◌, ◌/◌, ◌%◌, ◌^◌, length, max, true, AllPairs, Contains};
+ghost use Rattle.std.specs.Prelude.{IfOk, IfSome, MatchOption, option_to_list};
 ghost use Rattle.std.specs.Int.{IsPowerOfTwo};
 ghost use Rattle.std.specs.Option.{option_map};
 ghost use Rattle.deed_core.specs.Covering.{units_held};
@@ -89,10 +89,10 @@ impl<D: Deed> FreeIndex<D> {
         }
     }
 
-    /// Makes room for `room` free ranges in all, and for `ticks` more to become free. Where it takes
-    /// memory, room is made for an eighth more ranges, if there is memory for them, so that rows
-    /// lie together. Of all calls this one alone takes memory, and a carve what its deed's splits
-    /// take.
+    /// Makes room for `room` free ranges in all, and for `ticks` more to become free. Where it
+    /// takes memory, room is made for an eighth more ranges, if there is memory for them, so that
+    /// rows lie together. Of all calls this one alone takes memory, and a carve what its deed's
+    /// splits take.
     pub fn reserve(&mut self, alloc: Global, room: usize, ticks: usize) -> Result<(), AllocError>
         ensures room { OnOk result (room ≤ self.new.room) }
         ensures ticks { OnOk result (ticks ≤ self.new.ticks) }
