@@ -385,6 +385,29 @@ fn limit(rt: HostRuntime) {
     end(&rt, book);
 }
 
+// A client with more than a few leases: one of them is released and leased again, and those of an
+// older incarnation end in order of grant.
+#[test]
+fn many_leases(rt: HostRuntime) {
+    let mut book = make_book(&rt, rt.alloc());
+    take_row(&rt, &mut book, Row::Hello(1, 1, None));
+    lease_units(&rt, &mut book, 1, 100);
+    let rows = [
+        Row::Release((1, 1, 101), 70, Told::Released),
+        Row::Release((1, 1, 102), 70, Told::Refused(Refusal::NotYours)),
+        Row::Lease((1, 1, 103), (70, 1), Told::Granted(70, 1)),
+        Row::Release((1, 1, 104), 2, Told::Released),
+        Row::Units(ARENA, 99),
+        Row::Hello(1, 2, None),
+        Row::Release((1, 2, 1), 70, Told::Refused(Refusal::NotYours)),
+    ];
+    take_rows(&rt, &mut book, &rows);
+    assert_eq!(rt; sweep(&rt, &mut book, 1), Some(((1, 1, 1), (0, 1))));
+    assert_eq!(rt; sweep(&rt, &mut book, 1), Some(((1, 1, 2), (1, 1))));
+    assert_eq!(rt; sweep(&rt, &mut book, 1), Some(((1, 1, 4), (3, 1))));
+    end(&rt, book);
+}
+
 // Each client is listed once, where it first said hello.
 #[test]
 fn lists(rt: HostRuntime) {

@@ -123,12 +123,13 @@ pub(crate) enum Which {
     Any,
 }
 
-/// So many leases of a client stand in a list at most.
+/// So many leases of a client stand in a list at most. (Our own choice: with 32 a list is faster.)
 const FEW_LEASES: usize = 64;
 
-/// The leases of one client: few in a list, more in places, and those in the list were granted
-/// before those. None is of an incarnation before `least`: so whether one is older needs no search
-/// while the client goes on in one incarnation.
+/// The leases of one client: in a list until they are too many for it, then in places until none
+/// is left there. Those in the list were granted before those in places. None is of an incarnation
+/// before `least`: so whether one is older needs no search while the client goes on in one
+/// incarnation.
 pub(crate) struct Leases<D: Deed> {
     few: LeaseList<D>,
     places: Places<D>,
@@ -188,7 +189,7 @@ impl<D: Deed> Leases<D> {
         ensures rest { self.new ≡ without_first (is_asked which) self.old }
         ensures unchanged { IfNone result (self.new ≡ self.old) }
     {
-        let held = take_out(&mut self.few, &mut self.places, &which)?;
+        let held = take_out(&mut self.few, &mut self.places, self.count, &which)?;
         self.count -= 1;
         Some(held)
     }
@@ -271,20 +272,27 @@ fn put_in<D: Deed>(
     Ok(())
 }
 
-/// Takes the first lease out that is asked for.
+/// Takes the first lease out that is asked for. When none is left in places, these are let go.
 fn take_out<D: Deed>(
     few: &mut LeaseList<D>,
     places: &mut Places<D>,
+    count: usize,
     which: &Which,
 ) -> Option<Held<D>>
+    requires { count ≡ length (few.old ++ leases_in places.old.places) }
     ensures lease { let leases = few.old ++ leases_in places.old.places in
         find (is_asked which.now) leases ≡ result }
     ensures rest { let leases = few.old ++ leases_in places.old.places in
         few.new ++ leases_in places.new.places ≡ without_first (is_asked which.now) leases }
     ensures unchanged { IfNone result ((few.new ≡ few.old) × (places.new ≡ places.old)) }
 {
-    match few.take(which) {
-        Some(held) => Some(held),
-        None => places.take(which),
+    if let Some(held) = few.take(which) {
+        return Some(held);
     }
+    let held = places.take(which)?;
+    if count - few.len() > 1 {
+        return Some(held);
+    }
+    places.clear();
+    Some(held)
 }

@@ -1,7 +1,8 @@
-//! The places of a client's leases, in order of grant. A place stays empty when its lease is taken
-//! out, until all leases get new places. So neither does a search look at each lease, nor are those
-//! behind one that is taken out moved. A search goes along the places of a chain, the last of them
-//! first (chained hashing; which lease goes on which chain is our own choice).
+//! The places of a client's leases, in order of grant. A place stays empty when its lease is
+//! taken out, until all leases get new places. So neither does a search by a base look at each
+//! lease, nor are those behind one that is taken out moved. Such a search goes along the places
+//! of a chain, the last of them first (chained hashing; which lease goes on which chain is our
+//! own choice).
 ghost use Rattle.std.specs.Prelude.{◌≡◌, ◌+◌, ◌*◌, ◌<◌, ◌≤◌, [], ◌∷◌, ◌++◌, length, Some, None};
 ghost use Rattle.std.specs.Prelude.{IfOk, OnOk, OnErr, IfNone, position, sum_by, is_some, nat_le};
 ghost use Rattle.std.specs.List.{find, list_any};
@@ -205,6 +206,15 @@ impl<D: Deed> Places<D> {
             *end = before.min(*end - 1);
         }
         held
+    }
+
+    /// Lets empty places go.
+    pub(crate) fn clear(&mut self)
+        requires { leases_in self.old.places ≡ [] }
+        ensures { leases_in self.new.places ≡ [] }
+    {
+        let fresh = Places::new(*self.places.allocator());
+        mem::replace(self, fresh).close();
     }
 
     // Where the first lease stands that is asked for.
