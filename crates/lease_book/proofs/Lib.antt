@@ -2,6 +2,7 @@ pub mod EachLemmas
 pub mod Pigeons
 pub mod PlaceLemmas
 pub mod PlacesLemmas
+pub mod EmptyPlaces
 pub mod ShelfLemmas
 pub mod WeightLemmas
 pub mod HistoryLemmas

@@ -43,6 +43,11 @@ abbrev pub EndsBefore : (chain end : ℕ) → List PlaceState → Type 0
 EndsBefore chain end places = (k : ℕ) (p : PlaceState) (l : Lease)
     → slice_get places k ≡ Some p → p.lease ≡ Some l → p.chain ≡ chain → k < end
 
+-- the places before an index are empty
+abbrev pub EmptyBefore : ℕ → List PlaceState → Type 0
+EmptyBefore end places = (k : ℕ) (p : PlaceState)
+    → slice_get places k ≡ Some p → k < end → p.lease ≡ None
+
 -- each lease is on the chain of its base, and the chains, which end among the places, lead to all
 -- their leases
 pub record IsChained (s : PlacesState) : Type 0 where

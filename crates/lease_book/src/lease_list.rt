@@ -104,11 +104,6 @@ impl<D: Deed> LeaseList<D> {
         self.held.len()
     }
 
-    /// The memory that the list takes its room from.
-    pub(crate) fn allocator(&self) -> Global {
-        *self.held.allocator()
-    }
-
     /// Adds a lease. `Err` is out of memory.
     pub(crate) fn add(&mut self, held: Held<D>) -> Result<(), Segment<D>>
         ensures ok { OnOk result (self.new ≡ self.old ++ held ∷ []) }
@@ -148,7 +143,7 @@ impl<D: Deed> LeaseList<D> {
     pub(crate) fn has_older(&self, incarnation: Ordinal) -> bool
         ensures { result ≡ list_any (is_older incarnation) self.now }
     {
-        any_older(&self.held, incarnation)
+        first_older(&self.held, incarnation).is_some()
     }
 
     /// The units of the arena that are leased.
@@ -208,10 +203,4 @@ fn first<D: Deed>(held: &[BoxedLease<D>]) -> Option<usize>
     ensures { result ≡ position (λ _. true) held.now }
 {
     held.iter().position(|_| true)
-}
-
-fn any_older<D: Deed>(held: &[BoxedLease<D>], incarnation: Ordinal) -> bool
-    ensures { result ≡ list_any (is_older incarnation) held.now }
-{
-    held.iter().any(|one| one.is_older(incarnation))
 }

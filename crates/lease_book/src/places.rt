@@ -9,7 +9,7 @@ ghost use Rattle.std.specs.List.{find, list_any};
 ghost use Rattle.lease_terms.specs.declared.values.TheConstants.{LARGEST};
 ghost use Rattle.lease_book.specs.Account.{Lease, is_lease, is_older, without_first};
 ghost use Rattle.lease_book.specs.BookState.{units_of_lease};
-ghost use Rattle.lease_book.specs.Places.{leases_in, is_asked, holds, chain_of};
+ghost use Rattle.lease_book.specs.Places.{leases_in, is_asked, holds, chain_of, EmptyBefore};
 ghost use Rattle.lease_book.specs.declared.books.TheConstants.{MOST_LEASES};
 
 use crate::books::MOST_LEASES;
@@ -86,15 +86,17 @@ impl<D: Deed> Place<D> {
     }
 }
 
-/// Places in order of grant, with their chains.
+/// Places in order of grant, with their chains. The first `empty` places are empty: so leases that
+/// are taken out from the first one on are found at once.
 pub(crate) struct Places<D: Deed> {
     places: Vec<Place<D>>,
     ends: Vec<u16>,
+    empty: usize,
 }
 
 impl<D: Deed> Model for Places<D> {
     ghost use Rattle.std.specs.Prelude.{◌*◌, ◌≤◌, length, vec_capacity};
-    ghost use Rattle.lease_book.specs.Places.{PlacesState, IsChained};
+    ghost use Rattle.lease_book.specs.Places.{PlacesState, IsChained, EmptyBefore};
     ghost use Rattle.lease_book.specs.declared.places.TheConstants.{MOST_CHAINS};
 
     ghost Value = { PlacesState };
@@ -103,6 +105,8 @@ impl<D: Deed> Model for Places<D> {
 
     ghost invariant = { λ p.
         IsChained (record { places = p.places.items; ends = p.ends.items })
+        × (p.empty ≤ length p.places.items)
+        × EmptyBefore p.empty p.places.items
         × (length p.ends.items ≤ MOST_CHAINS)
         × (length p.ends.items ≤ 2 * vec_capacity p.places) };
 }
@@ -115,6 +119,7 @@ impl<D: Deed> Places<D> {
         Places {
             places: Vec::new(alloc),
             ends: Vec::new(alloc),
+            empty: 0,
         }
     }
 
@@ -127,7 +132,11 @@ impl<D: Deed> Places<D> {
         let mut ends = Vec::new(alloc);
         ends.resize(4 * count + 8, 0)?;
         let places = Vec::with_capacity(alloc, 2 * count + 4)?;
-        Ok(Places { places, ends })
+        Ok(Places {
+            places,
+            ends,
+            empty: 0,
+        })
     }
 
     /// Whether there is no room for another.
@@ -149,9 +158,13 @@ impl<D: Deed> Places<D> {
         ensures unchanged { OnErr result ((self.new ≡ self.old) × (few.new ≡ few.old)) }
     {
         let mut fresh = Places::with_room(*self.places.allocator(), count)?;
-        let list = mem::replace(few, LeaseList::new(few.allocator()));
+        let list = mem::replace(few, LeaseList::new(*self.places.allocator()));
         list.move_to(&mut fresh);
-        let Places { places, ends: _ } = mem::replace(self, fresh);
+        let Places {
+            places,
+            ends: _,
+            empty: _,
+        } = mem::replace(self, fresh);
         self.move_in(places);
         Ok(())
     }
@@ -218,14 +231,29 @@ impl<D: Deed> Places<D> {
     }
 
     // Where the first lease stands that is asked for.
-    fn place_of(&self, which: &Which) -> Option<usize>
-        ensures { result ≡ position (λ p. holds (is_asked which.now) p.lease) self.now.places }
+    fn place_of(&mut self, which: &Which) -> Option<usize>
+        ensures value { result
+            ≡ position (λ p. holds (is_asked which.now) p.lease) self.old.places }
+        ensures unchanged { self.new ≡ self.old }
     {
         match *which {
             Which::At(id, arena, base) => self.position(id, arena, base),
-            Which::Before(incarnation) => first_older(&self.places, incarnation),
-            Which::Any => first_held(&self.places),
+            Which::Before(incarnation) => {
+                let _ = self.first_held();
+                first_older(&self.places, self.empty, incarnation)
+            }
+            Which::Any => self.first_held(),
         }
+    }
+
+    // Where the first lease stands. The next search for it, or for an older one, begins there.
+    fn first_held(&mut self) -> Option<usize>
+        ensures value { result ≡ position (λ p. is_some p.lease) self.old.places }
+        ensures unchanged { self.new ≡ self.old }
+    {
+        let at = first_held(&self.places, self.empty)?;
+        self.empty = at;
+        Some(at)
     }
 
     // Where the first lease of the request's incarnation with this arena and base stands.
@@ -255,7 +283,7 @@ impl<D: Deed> Places<D> {
     pub(crate) fn has_older(&self, incarnation: Ordinal) -> bool
         ensures { result ≡ list_any (is_older incarnation) (leases_in self.now.places) }
     {
-        any_older(&self.places, incarnation)
+        first_older(&self.places, self.empty, incarnation).is_some()
     }
 
     /// The units of the arena that are leased.
@@ -274,7 +302,11 @@ impl<D: Deed> Places<D> {
     pub(crate) fn close(self)
         requires { leases_in self.places ≡ [] }
     {
-        let Places { places, ends: _ } = self;
+        let Places {
+            places,
+            ends: _,
+            empty: _,
+        } = self;
         let mut rest = places.into_iter();
         while let Some(place) = rest.next() {
             match place.into_held() {
@@ -286,22 +318,24 @@ impl<D: Deed> Places<D> {
     }
 }
 
-fn first_older<D: Deed>(places: &[Place<D>], incarnation: Ordinal) -> Option<usize>
+/// Where the first lease of an incarnation before this one stands: not among the first `empty`.
+fn first_older<D: Deed>(places: &[Place<D>], empty: usize, incarnation: Ordinal) -> Option<usize>
+    requires within { empty ≤ length places.now }
+    requires empty { EmptyBefore empty places.now }
     ensures { result ≡ position (λ p. holds (is_older incarnation) p.lease) places.now }
 {
-    places.iter().position(|one| one.is_older(incarnation))
+    let mut rest = places[empty..].iter();
+    Some(empty + rest.position(|one| one.is_older(incarnation))?)
 }
 
-fn any_older<D: Deed>(places: &[Place<D>], incarnation: Ordinal) -> bool
-    ensures { result ≡ list_any (λ p. holds (is_older incarnation) p.lease) places.now }
-{
-    places.iter().any(|one| one.is_older(incarnation))
-}
-
-fn first_held<D: Deed>(places: &[Place<D>]) -> Option<usize>
+/// Where the first lease stands: not among the first `empty`.
+fn first_held<D: Deed>(places: &[Place<D>], empty: usize) -> Option<usize>
+    requires within { empty ≤ length places.now }
+    requires empty { EmptyBefore empty places.now }
     ensures { result ≡ position (λ p. is_some p.lease) places.now }
 {
-    places.iter().position(|one| one.held.is_some())
+    let mut rest = places[empty..].iter();
+    Some(empty + rest.position(|one| one.held.is_some())?)
 }
 
 /// The chain of the leases at a base, of so many, by the upper bits of a product.

@@ -1,4 +1,4 @@
-use Rattle.std.proofs.Common.{◌≡◌, ◌+◌, ◌≤◌, ◌++◌, List, [], length, sym, ap, arith, ◌∙◌}
+use Rattle.std.proofs.Common.{◌≡◌, ◌++◌, List, [], length, sym, ap, arith, ◌∙◌}
 use Rattle.std.proofs.lemmas.List.{length-append, nil_from_length}
 use Rattle.lease_book.specs.Account.{Lease}
 use Rattle.lease_book.specs.Places.{is_asked, leases_in}
