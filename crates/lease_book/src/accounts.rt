@@ -1,7 +1,7 @@
 //! The accounts of the clients, in order of first hello.
 ghost use Rattle.std.specs.Prelude.{◌≡◌, ◌≢◌, ◌+◌, ◌*◌, ◌<◌, ◌≤◌, ◌==◌, List, [], ◌∷◌, ◌++◌};
 ghost use Rattle.std.specs.Prelude.{length, All, OnOk, OnErr, IfErr, IfSome, IfNone, Some, None};
-ghost use Rattle.std.specs.Prelude.{slice_get, position, sum_by, nat_lt, option_map};
+ghost use Rattle.std.specs.Prelude.{slice_get, position, sum_by, nat_lt, option_map, IsTrue};
 ghost use Rattle.std.specs.List.{find};
 ghost use Rattle.lease_terms.specs.declared.values.TheConstants.{LAST_CLIENT};
 ghost use Rattle.lease_book.specs.Receipts.{IsEarned};
@@ -36,6 +36,15 @@ impl Standing {
             Some(kept) => kept.number().quantity(),
             None => Quantity::ZERO,
         }
+    }
+
+    /// Whether a request's number is the next one of this incarnation.
+    pub(crate) fn is_next(&self, id: RequestId) -> bool
+        ensures { IsTrue result → (id.incarnation ≡ self.now.incarnation)
+            × (id.number ≡ number_of self.now.kept + 1) }
+    {
+        let (number, last) = (id.number.get(), self.last().get());
+        id.incarnation.get() == self.incarnation.get() && number > last && number - last == 1
     }
 }
 
@@ -92,11 +101,11 @@ impl<D: Deed> Accounts<D> {
         self.clients.get_index_of(&client)
     }
 
-    pub(crate) fn standing(&self, index: usize) -> Standing
+    pub(crate) fn standing(&self, index: usize) -> &Standing
         requires { index < length self.now }
-        ensures { option_map standing_of (slice_get self.now index) ≡ Some result }
+        ensures { option_map standing_of (slice_get self.now index) ≡ Some result.now }
     {
-        self.clients[index]
+        &self.clients[index]
     }
 
     pub(crate) fn write(&mut self, index: usize, standing: Standing)

@@ -300,9 +300,10 @@ impl<D: Deed> Book<D> {
         self.accounts.report(index)
     }
 
-    fn account(&self, client: ClientId) -> Option<(usize, Standing)>
+    fn account(&self, client: ClientId) -> Option<(usize, &Standing)>
         ensures found { IfSome result (λ r. IsFound self.now client r.0) }
-        ensures standing { IfSome result (λ r. standing_of (account_in client self.now) ≡ r.1) }
+        ensures standing { IfSome result
+            (λ r. standing_of (account_in client self.now) ≡ r.1.now) }
         ensures none { IfNone result (find (λ a. client == a.client) self.now.accounts ≡ None) }
     {
         let index = self.accounts.find(client)?;
@@ -316,6 +317,9 @@ impl<D: Deed> Book<D> {
         ensures index { IfSome result.1 (IsFound self.now id.client) }
         ensures unknown { IfNone result.1 ((account_in id.client self.now).incarnation ≡ 0) }
     {
+        if let Some(index) = self.new_at(id) {
+            return (Look::New, Some(index));
+        }
         match self.account(id.client) {
             Some((index, standing)) => (self.look_by(standing, id), Some(index)),
             None => (Look::Old(Quantity::ZERO), None),
@@ -323,8 +327,8 @@ impl<D: Deed> Book<D> {
     }
 
     /// What the number is to the book, by what is kept of the client.
-    fn look_by(&self, standing: Standing, id: RequestId) -> Look<D>
-        requires { standing_of (account_in id.client self.now) ≡ standing }
+    fn look_by(&self, standing: &Standing, id: RequestId) -> Look<D>
+        requires { standing_of (account_in id.client self.now) ≡ standing.now }
         ensures { IsLook self.now (account_in id.client self.now) id result }
     {
         if id.incarnation.get() != standing.incarnation.get() {
@@ -353,6 +357,20 @@ impl<D: Deed> Book<D> {
         Receipt::new(self.mark.root(), id, kept)
     }
 
+    /// The index of the client's account, where a look at it shows that the number is new. It reads
+    /// what is kept there in place: most numbers are new.
+    fn new_at(&self, id: RequestId) -> Option<usize>
+        ensures new { IfSome result (λ _. IsNew (account_in id.client self.now) id) }
+        ensures index { IfSome result (IsFound self.now id.client) }
+    {
+        let (index, standing) = self.account(id.client)?;
+        if standing.is_next(id) {
+            Some(index)
+        } else {
+            None
+        }
+    }
+
     /// The index of the client's account, where the number is new.
     fn admit(&self, id: RequestId) -> Result<usize, Answer<D>>
         ensures new { IfOk result (λ _. IsNew (account_in id.client self.now) id) }
@@ -361,6 +379,9 @@ impl<D: Deed> Book<D> {
         ensures answer { IfErr result (IsAnswer self.now self.now id (λ _. ⊥) ⊥) }
     {
         id.check();
+        if let Some(index) = self.new_at(id) {
+            return Ok(index);
+        }
         let (look, index) = self.seek(id);
         match look.answer() {
             Some(answer) => Err(answer),

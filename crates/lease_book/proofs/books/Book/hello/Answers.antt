@@ -12,17 +12,17 @@ returns-in_default-clause-taken g c = (greeted_first _ _ _ c.args.client c.args.
 
 pub returns-then-get-2-clause-taken : goal.returns-then-get-2-clause-taken
 returns-then-get-2-clause-taken g c =
-    let current : (account_in c.args.client c.args.self.now).incarnation ≡ c.in-Some.standing.incarnation = ap (λ (s : Standing). s.incarnation) c.in-Some.ensures.standing in
+    let current : (account_in c.args.client c.args.self.now).incarnation ≡ c.in-Some.standing.now.incarnation = ap (λ (s : Standing). s.incarnation) c.in-Some.ensures.standing in
     greets_again c.args.self.now c.args.client c.args.incarnation c.in-Some.index c.in-Some.ensures.found c.get.ensures.range c.get-2.ensures.range (omega (arith, current, c.if-get-2.true, c.get-5.ensures.value, c.get-6.ensures.value))
 
 pub invariant_of-self-2 : goal.invariant_of-self-2
 invariant_of-self-2 g c =
-    let current : (account_in c.args.client c.args.self.now).incarnation ≡ c.in-Some.standing.incarnation = ap (λ (s : Standing). s.incarnation) c.in-Some.ensures.standing in
+    let current : (account_in c.args.client c.args.self.now).incarnation ≡ c.in-Some.standing.now.incarnation = ap (λ (s : Standing). s.incarnation) c.in-Some.ensures.standing in
     (greeted_above _ _ _ _ c.args.incarnation _ c.self.view_is c.in-Some.ensures.found c.get.ensures.range c.get-2.ensures.range (omega (arith, current, c.if-get.false, c.if-get-2.false, c.get-3.ensures.value, c.get-4.ensures.value, c.get-5.ensures.value, c.get-6.ensures.value)) c.write.ensures c.self.invariant).0
 
 pub returns-clause-taken : goal.returns-clause-taken
 returns-clause-taken g c =
-    let current : (account_in c.args.client c.args.self.now).incarnation ≡ c.in-Some.standing.incarnation = ap (λ (s : Standing). s.incarnation) c.in-Some.ensures.standing in
+    let current : (account_in c.args.client c.args.self.now).incarnation ≡ c.in-Some.standing.now.incarnation = ap (λ (s : Standing). s.incarnation) c.in-Some.ensures.standing in
     (greeted_above _ _ _ _ c.args.incarnation _ c.self.view_is c.in-Some.ensures.found c.get.ensures.range c.get-2.ensures.range (omega (arith, current, c.if-get.false, c.if-get-2.false, c.get-3.ensures.value, c.get-4.ensures.value, c.get-5.ensures.value, c.get-6.ensures.value)) c.write.ensures c.self.invariant).1
 
 pub returns-clause-leases : goal.returns-clause-leases

@@ -9,10 +9,10 @@ use Rattle.lease_book.proofs.books.Book.sweep.Goals as goal
 
 pub returns-in_err-held-clause-none : goal.returns-in_err-held-clause-none
 returns-in_err-held-clause-none g c =
-    let none = found_there (λ (a : Account). find (is_older c.in_ok-index.standing.incarnation) a.leases ≡ None) _ _ _ _ c.self.view_is c.in_ok-index.ensures.found c.in_err-held.ensures.lease in
+    let none = found_there (λ (a : Account). find (is_older c.in_ok-index.standing.now.incarnation) a.leases ≡ None) _ _ _ _ c.self.view_is c.in_ok-index.ensures.found c.in_err-held.ensures.lease in
     let current = ap (λ (s : Standing). s.incarnation) c.in_ok-index.ensures.standing in
     if_none c.from_residual-in_err-held.result
-    (subst (λ i. All (λ (l : Lease). i ≤ l.incarnation) (account_in c.args.client c.args.self.now).leases) (sym current) (none_older c.in_ok-index.standing.incarnation _ none))
+    (subst (λ i. All (λ (l : Lease). i ≤ l.incarnation) (account_in c.args.client c.args.self.now).leases) (sym current) (none_older c.in_ok-index.standing.now.incarnation _ none))
 
 pub invariant_of-self-2 : goal.invariant_of-self-2
 invariant_of-self-2 g c =
