@@ -29,7 +29,7 @@ use crate::held_ranges::{HeldRange, held_range_of, piece_of};
 use crate::policies::{Policy, has_sizes};
 use crate::probes::Probes;
 use crate::reserves::reserve_free;
-use crate::returns::GivenBack;
+use crate::returns::{Became, GivenBack};
 use crate::searches::Fit;
 use crate::span_searches::{is_span, overlaps, span_at};
 use crate::spans::{Import, Spans};
@@ -454,15 +454,19 @@ impl<D: Deed> Arena<D> {
         let beside = self.tags.beside(cell, tagged.base(), tagged.end());
         let cell = self.tags.remove(tagged, cell);
         let deed = Stored::new(segment.into_deed());
-        let GivenBack { whole, slot, sides } = self.free.give_back(span, lent, deed, beside);
+        let GivenBack { became, sides } = self.free.give_back(span, lent, deed, beside);
         let cell = self.tags.join(cell, sides);
-        let Some(whole) = whole else {
-            tell(&mut self.free, &mut self.tags, cell, slot);
-            return Ok(None);
-        };
-        self.tags.vacate(cell);
-        let import = self.imported.take(span);
-        Ok(Some(Segment::new(import.source(), Route::Direct, whole.into_deed())))
+        match became {
+            Became::Free(slot) => {
+                tell(&mut self.free, &mut self.tags, cell, Some(slot));
+                Ok(None)
+            }
+            Became::Whole(whole) => {
+                self.tags.vacate(cell);
+                let import = self.imported.take(span);
+                Ok(Some(Segment::new(import.source(), Route::Direct, whole.into_deed())))
+            }
+        }
     }
 
     /// Takes out the lowest owned span that is wholly free. It takes no memory. Under `instant` the

@@ -5,10 +5,12 @@
 //! its span (boundary tags: Knuth; Magazines and Vmem, 2001). What a contract sees are the
 //! allocated ranges in their cells alone. All else is for speed: which cells are linked, and the
 //! slot of a free range, may be wrong, and who asks looks at the range itself, or searches.
-ghost use Rattle.std.specs.Prelude.{◌≡◌, ℕ, ◌<◌, ◌≤◌, [], None, Some, IfOk, IsTrue, ◌↔◌, length};
+ghost use Rattle.std.specs.Prelude.{◌≡◌, ℕ, ◌<◌, ◌≤◌, [], None, Some, IfOk, IfSome, IsTrue};
+ghost use Rattle.std.specs.Prelude.{◌↔◌, length};
 ghost use Rattle.deed_core.specs.Extent.{end_of};
 ghost use Rattle.deed_core.specs.Holding.{Holding};
-ghost use Rattle.tag_arena.specs.Cells.{allocated_at, CellBecomes, IsAt, IsVacant, SameCells};
+ghost use Rattle.tag_arena.specs.Cells.{allocated_at, allocated_of, CellBecomes, IsAt, IsVacant};
+ghost use Rattle.tag_arena.specs.Cells.{SameCells};
 
 use crate::held_ranges::HeldRange;
 use crate::short_indexes::ShortIndex;
@@ -245,6 +247,15 @@ impl Cells {
         }
     }
 
+    /// What stands in the cell that a link leads to, if it leads to one.
+    fn standing(&self, link: ShortIndex) -> Option<&Standing>
+        ensures { IfSome result (λ standing. (k : ℕ) × (link ≡ Some k)
+            × (allocated_at self.now k ≡ allocated_of standing.now)) }
+    {
+        let cell = self.cells.get(link.get()?)?;
+        Some(&cell.standing)
+    }
+
     /// What stands beside the range in a cell, which is from `base` to `end`.
     pub fn beside(&self, at: usize, base: u64, end: u64) -> Beside
         ensures left { result.left ≡ Side.Allocated → (k : ℕ) × (h : Holding)
@@ -254,44 +265,16 @@ impl Cells {
     {
         let (before, after) = self.links(at);
         Beside {
-            left: self.ending_at(before, base),
-            right: self.beginning_at(after, end),
-        }
-    }
-
-    fn ending_at(&self, at: ShortIndex, end: u64) -> Side
-        ensures { result ≡ Side.Allocated → (k : ℕ) × (h : Holding)
-            × (allocated_at self.now k ≡ Some h) × (end_of h.range ≡ end) }
-    {
-        let Some(at) = at.get() else {
-            return Side::Unknown;
-        };
-        if at >= self.cells.len() {
-            return Side::Unknown;
-        }
-        let cell = &self.cells[at];
-        match cell.standing {
-            Standing::Free(slot) => Side::Free(slot),
-            Standing::Allocated(range) if range.end() == end => Side::Allocated,
-            Standing::Allocated(_) => Side::Unknown,
-        }
-    }
-
-    fn beginning_at(&self, at: ShortIndex, base: u64) -> Side
-        ensures { result ≡ Side.Allocated → (k : ℕ) × (h : Holding)
-            × (allocated_at self.now k ≡ Some h) × (h.range.base ≡ base) }
-    {
-        let Some(at) = at.get() else {
-            return Side::Unknown;
-        };
-        if at >= self.cells.len() {
-            return Side::Unknown;
-        }
-        let cell = &self.cells[at];
-        match cell.standing {
-            Standing::Free(slot) => Side::Free(slot),
-            Standing::Allocated(range) if range.base() == base => Side::Allocated,
-            Standing::Allocated(_) => Side::Unknown,
+            left: match self.standing(before) {
+                Some(&Standing::Free(slot)) => Side::Free(slot),
+                Some(&Standing::Allocated(range)) if range.end() == base => Side::Allocated,
+                _ => Side::Unknown,
+            },
+            right: match self.standing(after) {
+                Some(&Standing::Free(slot)) => Side::Free(slot),
+                Some(&Standing::Allocated(range)) if range.base() == end => Side::Allocated,
+                _ => Side::Unknown,
+            },
         }
     }
 

@@ -5,7 +5,7 @@ ghost use Rattle.deed_core.specs.Holding.{Apart};
 ghost use Rattle.tag_arena.specs.Layout.{IsPartOf};
 ghost use Rattle.tag_arena.specs.Neighbors.{IsBeside, IsKnownBeside, Merges, TakesLeft};
 ghost use Rattle.tag_arena.specs.Neighbors.{TakesRight};
-ghost use Rattle.tag_arena.specs.Returns.{ComesBack};
+ghost use Rattle.tag_arena.specs.Returns.{ComesBack, whole_of};
 
 use crate::cells::{Beside, Side, Sides};
 use crate::free_index::FreeIndex;
@@ -19,11 +19,17 @@ pub struct Merged<D: Deed> {
     pub sides: Sides,
 }
 
-/// What a piece that came back has become: the whole of a span that was lent, or a free range in a
-/// slot; and on which sides it was merged.
+/// What a piece that came back has become.
+pub enum Became<D: Deed> {
+    /// The whole of a span that was lent.
+    Whole(Stored<D>),
+    /// A free range, in this slot.
+    Free(usize),
+}
+
+/// What a piece that came back has become, and on which sides it was merged.
 pub struct GivenBack<D: Deed> {
-    pub whole: Option<Stored<D>>,
-    pub slot: Option<usize>,
+    pub became: Became<D>,
     pub sides: Sides,
 }
 
@@ -99,23 +105,17 @@ impl<D: Deed> FreeIndex<D> {
         requires known { IsKnownBeside beside deed.range self.old.ranges }
         requires room { length self.old.ranges < self.old.room }
         requires ticks { 0 < self.old.ticks }
-        ensures returned { ComesBack lent span deed self.old.ranges self.new.ranges result.whole }
+        ensures returned { let whole = whole_of result.became in
+            ComesBack lent span deed self.old.ranges self.new.ranges whole }
         ensures setup { (self.new.policy ≡ self.old.policy) × (self.new.room ≡ self.old.room) }
         ensures ticks { self.old.ticks ≤ self.new.ticks + 1 }
     {
         let Merged { deed, sides } = self.merge(span, deed, beside);
-        if lent && held_range_of(&deed) == span {
-            return GivenBack {
-                whole: Some(deed),
-                slot: None,
-                sides,
-            };
-        }
-        let slot = Some(self.insert(deed));
-        GivenBack {
-            whole: None,
-            slot,
-            sides,
-        }
+        let became = if lent && held_range_of(&deed) == span {
+            Became::Whole(deed)
+        } else {
+            Became::Free(self.insert(deed))
+        };
+        GivenBack { became, sides }
     }
 }

@@ -12,7 +12,7 @@ use Rattle.tag_arena.specs.Layout.{IsPartOf}
 use Rattle.tag_arena.specs.ArenaState.{ArenaState, spans_of, ranges_of, direct_tag}
 use Rattle.tag_arena.specs.Calls.{after_free, IsTagged}
 use Rattle.tag_arena.specs.Neighbors.{IsKnownBeside, Merges}
-use Rattle.tag_arena.specs.Returns.{ComesBack}
+use Rattle.tag_arena.specs.Returns.{ComesBack, whole_of}
 use Rattle.tag_arena.proofs.Allocations.{len_less, loses_remove}
 use Rattle.tag_arena.proofs.Returning.{tagged_is, spans_said, is_some, same_tag, lies_in, has_span, positive, span_holds, free_beside, freed_is, freed_is_sound, freed_covers, merge_covers, frees, returned_is, returned_is_sound, frees_back}
 use Rattle.tag_arena.proofs.Carrying.{tags_lose, free_spans}
@@ -33,8 +33,8 @@ unwrap-span-requires g c =
     let has = has_span a c.self.invariant.0.divided p at c.span_at.result spans in
     is_some c.span_at.result has.0 has.1
 
-pub give_back-whole-requires-clause-inside : goal.give_back-whole-requires-clause-inside
-give_back-whole-requires-clause-inside g c =
+pub give_back-became-requires-clause-inside : goal.give_back-became-requires-clause-inside
+give_back-became-requires-clause-inside g c =
     let a = the_state c.self.invariant.0 in
     let p : Holding = c.new-tagged.result in
     let seg_is : c.new-tagged.result ≡ c.args.segment.holding = tagged_is _ _ _ _ c.new-tagged.ensures c.root.ensures c.range.ensures.value in
@@ -45,8 +45,8 @@ give_back-whole-requires-clause-inside g c =
     let new_is : c.new-deed.result ≡ p = c.new-deed.ensures ∙ c.into_deed.ensures ∙ sym seg_is in
     subst (λ (h : Holding). IsPartOf s h) (sym new_is) (span_holds a p s lies)
 
-pub give_back-whole-requires-clause-some : goal.give_back-whole-requires-clause-some
-give_back-whole-requires-clause-some g c =
+pub give_back-became-requires-clause-some : goal.give_back-became-requires-clause-some
+give_back-became-requires-clause-some g c =
     let a = the_state c.self.invariant.0 in
     let p : Holding = c.new-tagged.result in
     let seg_is : c.new-tagged.result ≡ c.args.segment.holding = tagged_is _ _ _ _ c.new-tagged.ensures c.root.ensures c.range.ensures.value in
@@ -57,8 +57,8 @@ give_back-whole-requires-clause-some g c =
     let new_is : c.new-deed.result ≡ p = c.new-deed.ensures ∙ c.into_deed.ensures ∙ sym seg_is in
     subst (λ (h : Holding). 0 < h.range.len) (sym new_is) (positive a lies.sound p lies.at)
 
-pub give_back-whole-requires-clause-beside : goal.give_back-whole-requires-clause-beside
-give_back-whole-requires-clause-beside g c =
+pub give_back-became-requires-clause-beside : goal.give_back-became-requires-clause-beside
+give_back-became-requires-clause-beside g c =
     let a = the_state c.self.invariant.0 in
     let p : Holding = c.new-tagged.result in
     let seg_is : c.new-tagged.result ≡ c.args.segment.holding = tagged_is _ _ _ _ c.new-tagged.ensures c.root.ensures c.range.ensures.value in
@@ -69,8 +69,8 @@ give_back-whole-requires-clause-beside g c =
     let new_is : c.new-deed.result ≡ p = c.new-deed.ensures ∙ c.into_deed.ensures ∙ sym seg_is in
     free_beside a p s lies
 
-pub give_back-whole-requires-clause-clear : goal.give_back-whole-requires-clause-clear
-give_back-whole-requires-clause-clear g c =
+pub give_back-became-requires-clause-clear : goal.give_back-became-requires-clause-clear
+give_back-became-requires-clause-clear g c =
     let a = the_state c.self.invariant.0 in
     let p : Holding = c.new-tagged.result in
     let seg_is : c.new-tagged.result ≡ c.args.segment.holding = tagged_is _ _ _ _ c.new-tagged.ensures c.root.ensures c.range.ensures.value in
@@ -81,8 +81,8 @@ give_back-whole-requires-clause-clear g c =
     let new_is : c.new-deed.result ≡ p = c.new-deed.ensures ∙ c.into_deed.ensures ∙ sym seg_is in
     subst (λ (h : Holding). All (Apart h) a.free) (sym new_is) (free_clear a p s lies)
 
-pub give_back-whole-requires-clause-known : goal.give_back-whole-requires-clause-known
-give_back-whole-requires-clause-known g c =
+pub give_back-became-requires-clause-known : goal.give_back-became-requires-clause-known
+give_back-became-requires-clause-known g c =
     let a = the_state c.self.invariant.0 in
     let p : Holding = c.new-tagged.result in
     let seg_is : c.new-tagged.result ≡ c.args.segment.holding = tagged_is _ _ _ _ c.new-tagged.ensures c.root.ensures c.range.ensures.value in
@@ -93,8 +93,8 @@ give_back-whole-requires-clause-known g c =
     let new_is : c.new-deed.result ≡ p = c.new-deed.ensures ∙ c.into_deed.ensures ∙ sym seg_is in
     subst (λ (h : Holding). IsKnownBeside c.beside-beside.result h.range a.free) (sym new_is) (known_beside a lies.sound _ _ _ _ c.base-3.ensures.value c.end.ensures.value c.beside-beside.ensures.left c.beside-beside.ensures.right)
 
-pub give_back-whole-requires-clause-room : goal.give_back-whole-requires-clause-room
-give_back-whole-requires-clause-room g c =
+pub give_back-became-requires-clause-room : goal.give_back-became-requires-clause-room
+give_back-became-requires-clause-room g c =
     let a = the_state c.self.invariant.0 in
     let p : Holding = c.new-tagged.result in
     let seg_is : c.new-tagged.result ≡ c.args.segment.holding = tagged_is _ _ _ _ c.new-tagged.ensures c.root.ensures c.range.ensures.value in
@@ -107,8 +107,8 @@ give_back-whole-requires-clause-room g c =
     let room = c.self.invariant.1.room in
     omega (arith, len, room)
 
-pub give_back-whole-requires-clause-ticks : goal.give_back-whole-requires-clause-ticks
-give_back-whole-requires-clause-ticks g c =
+pub give_back-became-requires-clause-ticks : goal.give_back-became-requires-clause-ticks
+give_back-became-requires-clause-ticks g c =
     let a = the_state c.self.invariant.0 in
     let p : Holding = c.new-tagged.result in
     let seg_is : c.new-tagged.result ≡ c.args.segment.holding = tagged_is _ _ _ _ c.new-tagged.ensures c.root.ensures c.range.ensures.value in
@@ -132,14 +132,14 @@ invariant_of-self g c =
     let lies = lies_in a p s c.span_at.result c.self.invariant.0.divided at spans c.unwrap-span.ensures in
     let new_is : c.new-deed.result ≡ p = c.new-deed.ensures ∙ c.into_deed.ensures ∙ sym seg_is in
     let len : finmap.len c.remove-cell.new.self + 1 ≡ finmap.len c.self.inside.tags = ap (λ m. finmap.len m + 1) c.remove-cell.ensures ∙ len_less c.self.inside.tags p.range.base p at in
-    let back = subst (λ o. ComesBack c.is_span-lent.result s c.new-deed.result a.free c.give_back-whole.new.self.ranges o) c.in_default-whole.is c.give_back-whole.ensures.returned in
+    let back = subst (λ b. ComesBack c.is_span-lent.result s c.new-deed.result a.free c.give_back-became.new.self.ranges (whole_of b)) c.in-Free.is c.give_back-became.ensures.returned in
     let merged : Holding = back.merged in
     let merges : Merges s p a.free merged back.mid = subst (λ (h : Holding). Merges s h a.free merged back.mid) new_is back.merges in
     let none = none_lent a p s lies merged (merged_has s p merged a.free back.mid merges) (not_lent a.imported s merged c.is_span-lent.result c.is_span-lent.ensures back.leaves.0) in
     let tags : c.tell.new.tags ≡ finmap.remove a.allocated p.range.base = c.tell.ensures.tags ∙ (c.join-cell.ensures.unchanged ∙ c.remove-cell.ensures) in
     let after = freed_is a p s lies merged back.mid merges _ _ (ap (λ v. v.ranges) c.tell.ensures.free ∙ back.leaves.1) tags in (
       freed_is_sound a p s lies merged back.mid merges c.self.invariant.0 none _ after,
-      backed_told c.self.inside.policy _ _ _ _ c.tell.ensures.free (c.tell.ensures.tags ∙ c.join-cell.ensures.unchanged) (backed_free c.self.inside.policy c.self.inside.free c.give_back-whole.new.self _ _ (comes_fewer _ _ _ _ _ _ back) c.give_back-whole.ensures.setup c.give_back-whole.ensures.ticks len c.self.invariant.1),
+      backed_told c.self.inside.policy _ _ _ _ c.tell.ensures.free (c.tell.ensures.tags ∙ c.join-cell.ensures.unchanged) (backed_free c.self.inside.policy c.self.inside.free c.give_back-became.new.self _ _ (comes_fewer _ _ _ _ _ _ back) c.give_back-became.ensures.setup c.give_back-became.ensures.ticks len c.self.invariant.1),
     )
 
 pub span_at-requires-clause-owned : goal.span_at-requires-clause-owned
@@ -164,11 +164,11 @@ take-import-requires-clause-present g c =
     let s : Holding = c.unwrap-span.result in
     let lies = lies_in a p s c.span_at.result c.self.invariant.0.divided at spans c.unwrap-span.ensures in
     let new_is : c.new-deed.result ≡ p = c.new-deed.ensures ∙ c.into_deed.ensures ∙ sym seg_is in
-    let back = subst (λ o. ComesBack c.is_span-lent.result s c.new-deed.result a.free c.give_back-whole.new.self.ranges o) c.in-Some-whole.is c.give_back-whole.ensures.returned in
+    let back = subst (λ b. ComesBack c.is_span-lent.result s c.new-deed.result a.free c.give_back-became.new.self.ranges (whole_of b)) c.in-Whole.is c.give_back-became.ensures.returned in
     lent_there _ _ c.is_span-lent.result c.is_span-lent.ensures back.leaves.0
 
-pub invariant_of-self-2 : goal.invariant_of-self-2
-invariant_of-self-2 g c =
+pub invariant_of-self-in-Whole : goal.invariant_of-self-in-Whole
+invariant_of-self-in-Whole g c =
     let a = the_state c.self.invariant.0 in
     let p : Holding = c.new-tagged.result in
     let seg_is : c.new-tagged.result ≡ c.args.segment.holding = tagged_is _ _ _ _ c.new-tagged.ensures c.root.ensures c.range.ensures.value in
@@ -178,9 +178,9 @@ invariant_of-self-2 g c =
     let lies = lies_in a p s c.span_at.result c.self.invariant.0.divided at spans c.unwrap-span.ensures in
     let new_is : c.new-deed.result ≡ p = c.new-deed.ensures ∙ c.into_deed.ensures ∙ sym seg_is in
     let len : finmap.len c.remove-cell.new.self + 1 ≡ finmap.len c.self.inside.tags = ap (λ m. finmap.len m + 1) c.remove-cell.ensures ∙ len_less c.self.inside.tags p.range.base p at in
-    let back = subst (λ o. ComesBack c.is_span-lent.result s c.new-deed.result a.free c.give_back-whole.new.self.ranges o) c.in-Some-whole.is c.give_back-whole.ensures.returned in
+    let back = subst (λ b. ComesBack c.is_span-lent.result s c.new-deed.result a.free c.give_back-became.new.self.ranges (whole_of b)) c.in-Whole.is c.give_back-became.ensures.returned in
     let merged : Holding = back.merged in
-    let left : List Holding = c.give_back-whole.new.self.ranges in
+    let left : List Holding = c.give_back-became.new.self.ranges in
     let merges : Merges s p a.free merged left = subst (λ (xs : List Holding). Merges s p a.free merged xs) (sym back.leaves.3) (subst (λ (h : Holding). Merges s h a.free merged back.mid) new_is back.merges) in
     let o = c.take-import.ensures.items in
     let k : ℕ = o.0 in
@@ -188,11 +188,11 @@ invariant_of-self-2 g c =
     let tags : c.vacate.new.self ≡ finmap.remove a.allocated p.range.base = c.vacate.ensures.unchanged ∙ (c.join-cell.ensures.unchanged ∙ c.remove-cell.ensures) in
     let after = returned_is a p s lies merged left merges k found.0 found.1 _ _ o.3 tags in (
       returned_is_sound a p s lies merged left merges k found.0 found.1 c.self.invariant.0 _ after,
-      backed_told c.self.inside.policy _ _ _ _ refl (c.vacate.ensures.unchanged ∙ c.join-cell.ensures.unchanged) (backed_free c.self.inside.policy c.self.inside.free c.give_back-whole.new.self _ _ (comes_fewer _ _ _ _ _ _ back) c.give_back-whole.ensures.setup c.give_back-whole.ensures.ticks len c.self.invariant.1),
+      backed_told c.self.inside.policy _ _ _ _ refl (c.vacate.ensures.unchanged ∙ c.join-cell.ensures.unchanged) (backed_free c.self.inside.policy c.self.inside.free c.give_back-became.new.self _ _ (comes_fewer _ _ _ _ _ _ back) c.give_back-became.ensures.setup c.give_back-became.ensures.ticks len c.self.invariant.1),
     )
 
-pub returns-in_default-whole : goal.returns-in_default-whole
-returns-in_default-whole g c =
+pub returns-in-Free : goal.returns-in-Free
+returns-in-Free g c =
     let a = the_state c.self.invariant.0 in
     let p : Holding = c.new-tagged.result in
     let seg_is : c.new-tagged.result ≡ c.args.segment.holding = tagged_is _ _ _ _ c.new-tagged.ensures c.root.ensures c.range.ensures.value in
@@ -201,7 +201,7 @@ returns-in_default-whole g c =
     let s : Holding = c.unwrap-span.result in
     let lies = lies_in a p s c.span_at.result c.self.invariant.0.divided at spans c.unwrap-span.ensures in
     let new_is : c.new-deed.result ≡ p = c.new-deed.ensures ∙ c.into_deed.ensures ∙ sym seg_is in
-    let back = subst (λ o. ComesBack c.is_span-lent.result s c.new-deed.result a.free c.give_back-whole.new.self.ranges o) c.in_default-whole.is c.give_back-whole.ensures.returned in
+    let back = subst (λ b. ComesBack c.is_span-lent.result s c.new-deed.result a.free c.give_back-became.new.self.ranges (whole_of b)) c.in-Free.is c.give_back-became.ensures.returned in
     let merged : Holding = back.merged in
     let merges : Merges s p a.free merged back.mid = subst (λ (h : Holding). Merges s h a.free merged back.mid) new_is back.merges in
     let none = none_lent a p s lies merged (merged_has s p merged a.free back.mid merges) (not_lent a.imported s merged c.is_span-lent.result c.is_span-lent.ensures back.leaves.0) in
@@ -232,8 +232,8 @@ returns-in_default-whole g c =
           omega (arith, counts, same, old, piece));
     }
 
-pub returns : goal.returns
-returns g c =
+pub returns-in-Whole : goal.returns-in-Whole
+returns-in-Whole g c =
     let a = the_state c.self.invariant.0 in
     let p : Holding = c.new-tagged.result in
     let seg_is : c.new-tagged.result ≡ c.args.segment.holding = tagged_is _ _ _ _ c.new-tagged.ensures c.root.ensures c.range.ensures.value in
@@ -242,9 +242,9 @@ returns g c =
     let s : Holding = c.unwrap-span.result in
     let lies = lies_in a p s c.span_at.result c.self.invariant.0.divided at spans c.unwrap-span.ensures in
     let new_is : c.new-deed.result ≡ p = c.new-deed.ensures ∙ c.into_deed.ensures ∙ sym seg_is in
-    let back = subst (λ o. ComesBack c.is_span-lent.result s c.new-deed.result a.free c.give_back-whole.new.self.ranges o) c.in-Some-whole.is c.give_back-whole.ensures.returned in
+    let back = subst (λ b. ComesBack c.is_span-lent.result s c.new-deed.result a.free c.give_back-became.new.self.ranges (whole_of b)) c.in-Whole.is c.give_back-became.ensures.returned in
     let merged : Holding = back.merged in
-    let left : List Holding = c.give_back-whole.new.self.ranges in
+    let left : List Holding = c.give_back-became.new.self.ranges in
     let merges : Merges s p a.free merged left = subst (λ (xs : List Holding). Merges s p a.free merged xs) (sym back.leaves.3) (subst (λ (h : Holding). Merges s h a.free merged back.mid) new_is back.merges) in
     let o = c.take-import.ensures.items in
     let k : ℕ = o.0 in
@@ -256,7 +256,7 @@ returns g c =
     let holding : import.holding ≡ merged = c.take-import.ensures.span ∙ sym back.leaves.1 in
     let in_list : Contains a.imported import = (k, found.0, o.2 import) in
     let route : import.route ≡ Direct = All-contains (λ t. t.route ≡ Direct) a.imported import c.self.invariant.0.divided.routes in_list in
-    let same_import : c.new.result ≡ import = c.new.ensures ∙ same_tag _ import c.source.ensures (sym route) (c.into_deed-2.ensures ∙ back_is ∙ sym holding) in
+    let same_import : c.new.result ≡ import = c.new.ensures ∙ same_tag _ import c.source.ensures (sym route) (c.into_deed-in-Whole.ensures ∙ back_is ∙ sym holding) in
     let tagged : IsTagged c.args.self.now c.args.segment = search rules in
     let id : c.self.inside.id ≡ c.args.self.now.id = ap (λ (s : ArenaState). s.id) c.self.view_is in
     let segment : c.args.segment ≡ direct_tag c.args.self.now.id c.args.segment.holding = same_tag _ _ tagged.arena tagged.route refl in
@@ -287,7 +287,7 @@ returns g c =
           let counts = merge_covers a p s lies merged left merges u in
           let old : covering_held u a.free ≡ covering_held u c.args.self.now.free = ap (λ (x : ArenaState). covering_held u x.free) c.self.view_is in
           let piece : covers u p.range ≡ covers u c.args.segment.holding.range = ap (λ (h : Holding). covers u h.range) seg_is in
-          let holding : c.new.result.holding ≡ merged = ap (λ (t : Tag). t.holding) c.new.ensures ∙ c.into_deed-2.ensures ∙ back_is in
+          let holding : c.new.result.holding ≡ merged = ap (λ (t : Tag). t.holding) c.new.ensures ∙ c.into_deed-in-Whole.ensures ∙ back_is in
           let one : covers_tag u c.new.result ≡ covers u merged.range = ap (λ (h : Holding). covers u h.range) holding in
           omega (arith, counts, old, piece, one, sum_by-cons (covers_tag u) c.new.result []));
     }
