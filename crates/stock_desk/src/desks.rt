@@ -3,6 +3,7 @@ ghost use Rattle.std.specs.Prelude.{◌≡◌, ◌*◌, ◌++◌, ◌+◌, ◌�
 ghost use Rattle.std.specs.Vec.{vec_capacity};
 ghost use Rattle.arena_tree.specs.declared.limits.TheConstants.{MOST_ARENAS, MOST_SPANS};
 ghost use Rattle.lease_proto.specs.declared.limits.TheConstants.{LINE_ROOM};
+ghost use Rattle.lease_proto.specs.declared.operators.ServedLine.TheVariants as served;
 ghost use Rattle.lease_machine.specs.Machine.{LeaseStep, ServedStep};
 ghost use Rattle.lease_machine.specs.Picture.{IsPicture};
 ghost use Rattle.lease_machine.specs.RoomLaws.{NothingIsKept};
@@ -18,7 +19,7 @@ use crate::supplies::Supply;
 use arena_tree::{MOST_ARENAS, MOST_SPANS, Setup};
 use deed_core::{PlainDeed, Range};
 use lease_book::Book;
-use lease_proto::{LINE_ROOM, ServedLine};
+use lease_proto::{LINE_ROOM, Line, ServedLine, served_law};
 use std::alloc::{AllocError, Global};
 use std::marker::Model;
 use stock::close_plain_stock;
@@ -76,6 +77,22 @@ impl Desk {
         ensures unchanged { OnErr result (self.new ≡ self.old) }
     {
         out.reserve(LINE_ROOM)?;
+        // What is a client's line is served as one.
+        served_law();
+        match Line::read(line) {
+            Ok(line) => self.serve_client(&line, out),
+            Err(_) => self.answer_other(line, out),
+        }
+    }
+
+    /// Answers a line that is no client's: an operator's, or none.
+    fn answer_other(&mut self, line: &[u8], out: &mut Vec<u8>) -> Result<(), AllocError>
+        requires room { vec_len out.old + LINE_ROOM ≤ vec_capacity out.old }
+        ensures ok { OnOk result ((reply : List ℕ) × (out.new.items ≡ out.old.items ++ reply)
+            × LeaseStep self.old line.now reply self.new) }
+        ensures unwritten { OnErr result (out.new.items ≡ out.old.items) }
+        ensures unchanged { OnErr result (self.new ≡ self.old) }
+    {
         match ServedLine::read(line) {
             Ok(line) => self.serve(&line, out),
             Err(fault) => {
@@ -96,10 +113,21 @@ impl Desk {
         ensures kept { StaysPicture self.old self.new }
     {
         match line {
-            // There is room, so that this isn't refused.
-            ServedLine::Client(line) => reply(&mut self.supply, &mut self.book, line).write(out),
+            ServedLine::Client(line) => self.serve_client(line, out),
             ServedLine::Operator(line) => tell(&mut self.supply, &self.book, *line, out),
         }
+    }
+
+    /// Answers a client's line for which there is room, so that it isn't refused.
+    fn serve_client(&mut self, line: &Line, out: &mut Vec<u8>) -> Result<(), AllocError>
+        requires room { vec_len out.old + LINE_ROOM ≤ vec_capacity out.old }
+        ensures ok { OnOk result ((reply : List ℕ) × (out.new.items ≡ out.old.items ++ reply)
+            × ServedStep (served.Client line.now) self.old reply self.new) }
+        ensures unwritten { OnErr result (out.new.items ≡ out.old.items) }
+        ensures unchanged { OnErr result (self.new ≡ self.old) }
+        ensures kept { StaysPicture self.old self.new }
+    {
+        reply(&mut self.supply, &mut self.book, line).write(out)
     }
 
     /// Ends the desk: frees all leases, empties all CPUs and caches, takes out all spans, and

@@ -1,36 +1,33 @@
-use Rattle.std.proofs.Common.{◌≡◌, ◌∙◌, ap, sym, subst, List, ◌++◌, ℕ}
-use Rattle.lease_machine.specs.Picture.{IsPicture}
+use Rattle.std.proofs.Common.{◌≡◌, ◌∙◌, ap, sym, List, ◌++◌, ℕ}
+use Rattle.lease_proto.specs.declared.operators.ServedLine.TheVariants as served
 use Rattle.lease_machine.specs.Machine.{ServedStep, LeaseStep}
-use Rattle.stock_desk.proofs.Answering.{appended, left_alone, served_step, refused_step}
+use Rattle.stock_desk.proofs.Answering.{served_step}
 use Rattle.stock_desk.proofs.Balances.{on_ok}
 use Rattle.stock_desk.proofs.Performing.{on_err_map}
 use Rattle.stock_desk.proofs.desks.Desk.answer.Goals as goal
 
 pub returns-in-Ok-clause-ok : goal.returns-in-Ok-clause-ok
-returns-in-Ok-clause-ok c = on_ok c.serve.result
-    ((reply : List ℕ) × (c.serve.new.out.items ≡ c.reserve.new.self.items ++ reply) × ServedStep c.in-Ok.line c.args.self.now reply c.serve.new.self)
-    ((reply : List ℕ) × (c.serve.new.out.items ≡ c.args.out.now.items ++ reply) × LeaseStep c.args.self.now c.args.line.now reply c.serve.new.self)
+returns-in-Ok-clause-ok c = on_ok c.serve_client.result
+    ((reply : List ℕ) × (c.serve_client.new.out.items ≡ c.reserve.new.self.items ++ reply) × ServedStep (served.Client c.in-Ok.line) c.args.self.now reply c.serve_client.new.self)
+    ((reply : List ℕ) × (c.serve_client.new.out.items ≡ c.args.out.now.items ++ reply) × LeaseStep c.args.self.now c.args.line.now reply c.serve_client.new.self)
     (λ is. (
       is.0,
       is.1 ∙ ap (λ l. l ++ is.0) c.reserve.ensures.items,
-      served_step c.args.self.now c.serve.new.self c.args.line.now is.0 c.in-Ok.line c.in-Ok.ensures is.2 c.serve.ensures.kept,
+      served_step c.args.self.now c.serve_client.new.self c.args.line.now is.0 (served.Client c.in-Ok.line) (sym ((c.served_law.ensures.clients c.args.line.now c.in-Ok.line).1 (sym c.in-Ok.ensures))) is.2 c.serve_client.ensures.kept,
     ))
-    c.serve.ensures.ok
+    c.serve_client.ensures.ok
 
 pub returns-in-Ok-clause-unwritten : goal.returns-in-Ok-clause-unwritten
-returns-in-Ok-clause-unwritten c = on_err_map c.serve.result (c.serve.new.out.items ≡ c.reserve.new.self.items) (c.serve.new.out.items ≡ c.args.out.now.items)
-    (λ is. is ∙ c.reserve.ensures.items) c.serve.ensures.unwritten
+returns-in-Ok-clause-unwritten c = on_err_map c.serve_client.result (c.serve_client.new.out.items ≡ c.reserve.new.self.items) (c.serve_client.new.out.items ≡ c.args.out.now.items)
+    (λ is. is ∙ c.reserve.ensures.items) c.serve_client.ensures.unwritten
 
 pub returns-in-Err-clause-ok : goal.returns-in-Err-clause-ok
-returns-in-Err-clause-ok c =
-    let same : IsPicture c.args.self.now = subst IsPicture c.self.view_is c.self.invariant in
-    let step : LeaseStep c.args.self.now c.args.line.now c.line.result.now c.args.self.now =
-    subst (λ (l : List ℕ). LeaseStep c.args.self.now c.args.line.now l c.args.self.now) (sym c.line.ensures) (refused_step c.args.self.now c.args.line.now c.in-Err.fault c.in-Err.ensures same) in
-    on_ok c.extend_from_slice.result ((reply : List ℕ) × (c.extend_from_slice.new.self.items ≡ c.reserve.new.self.items ++ reply) × LeaseStep c.args.self.now c.args.line.now reply c.args.self.now)
-    ((reply : List ℕ) × (c.extend_from_slice.new.self.items ≡ c.args.out.now.items ++ reply) × LeaseStep c.args.self.now c.args.line.now reply c.args.self.now)
+returns-in-Err-clause-ok c = on_ok c.answer_other.result
+    ((reply : List ℕ) × (c.answer_other.new.out.items ≡ c.reserve.new.self.items ++ reply) × LeaseStep c.args.self.now c.args.line.now reply c.answer_other.new.self)
+    ((reply : List ℕ) × (c.answer_other.new.out.items ≡ c.args.out.now.items ++ reply) × LeaseStep c.args.self.now c.args.line.now reply c.answer_other.new.self)
     (λ is. (is.0, is.1 ∙ ap (λ l. l ++ is.0) c.reserve.ensures.items, is.2))
-    (appended c.extend_from_slice.result (λ l. LeaseStep c.args.self.now c.args.line.now l c.args.self.now) c.reserve.new.self.items c.line.result.now c.extend_from_slice.new.self.items c.extend_from_slice.ensures.items step)
+    c.answer_other.ensures.ok
 
 pub returns-in-Err-clause-unwritten : goal.returns-in-Err-clause-unwritten
-returns-in-Err-clause-unwritten c = on_err_map c.extend_from_slice.result (c.extend_from_slice.new.self.items ≡ c.reserve.new.self.items) (c.extend_from_slice.new.self.items ≡ c.args.out.now.items)
-    (λ is. is ∙ c.reserve.ensures.items) (left_alone c.extend_from_slice.result c.reserve.new.self.items c.line.result.now c.extend_from_slice.new.self.items c.extend_from_slice.ensures.items)
+returns-in-Err-clause-unwritten c = on_err_map c.answer_other.result (c.answer_other.new.out.items ≡ c.reserve.new.self.items) (c.answer_other.new.out.items ≡ c.args.out.now.items)
+    (λ is. is ∙ c.reserve.ensures.items) c.answer_other.ensures.unwritten
