@@ -241,10 +241,11 @@ impl Line {
     pub fn read(bytes: &[u8]) -> Result<Line, LineFault>
         ensures { result ≡ line_of bytes.now }
     {
-        match Line::of_parts(&mut parts(bytes)?) {
-            Ok(line) => Ok(line),
-            Err(fault) => Err(first_fault(bytes, fault)),
+        let line = Line::of_parts(&mut parts(bytes)?);
+        if let Err(fault) = line {
+            return Err(first_fault(bytes, fault));
         }
+        line
     }
 
     #[tactic(auto, unfolding(crate::specs::Grammar::line_in))]

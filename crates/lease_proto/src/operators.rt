@@ -167,10 +167,11 @@ impl ServedLine {
     pub fn read(bytes: &[u8]) -> Result<ServedLine, LineFault>
         ensures { result ≡ served_of bytes.now }
     {
-        match ServedLine::of_words(&mut parts(bytes)?) {
-            Ok(line) => Ok(line),
-            Err(fault) => Err(first_fault(bytes, fault)),
+        let line = ServedLine::of_words(&mut parts(bytes)?);
+        if let Err(fault) = line {
+            return Err(first_fault(bytes, fault));
         }
+        line
     }
 
     #[tactic(auto, unfolding(crate::specs::Operators::served_in))]

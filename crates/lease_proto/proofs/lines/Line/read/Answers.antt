@@ -11,14 +11,15 @@ returns-in_err-parts c =
     let p = err_from_is_err_and c.from_residual.result c.from_residual.ensures.1 in
     rw (p.1, p.2) (sym (parts_long c.args.bytes.now line_in c.in_err-parts.field-0.0 (sym c.in_err-parts.ensures)))
 
-pub returns-in-Ok : goal.returns-in-Ok
-unfolding line_of
-returns-in-Ok c =
-    let words = c.in_ok-parts.field-0 in
-    sym (parts_read c.args.bytes.now words line_in c.in-Ok.line (sym c.parts.ensures ∙ c.in_ok-parts.was) (words_of_line words c.in-Ok.line (sym c.in-Ok.ensures)) (sym c.in-Ok.ensures))
-
 pub returns-in-Err : goal.returns-in-Err
 unfolding line_of
 returns-in-Err c =
     let words = c.in_ok-parts.field-0 in
     ap Err c.first_fault.ensures ∙ sym (parts_refused c.args.bytes.now words line_in c.in-Err.fault (sym c.parts.ensures ∙ c.in_ok-parts.was) (sym c.in-Err.ensures))
+
+pub returns : goal.returns
+unfolding line_of
+returns c =
+    let words = c.in_ok-parts.field-0 in
+    let line = c.in_default.field-0 in
+    c.in_default.is ∙ sym (parts_read c.args.bytes.now words line_in line (sym c.parts.ensures ∙ c.in_ok-parts.was) (words_of_line words line (sym c.in_default.ensures)) (sym c.in_default.ensures))
