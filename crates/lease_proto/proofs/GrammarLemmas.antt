@@ -1,7 +1,7 @@
 -- Lemmas on what is written and read.
-use Rattle.std.proofs.Common.{◌≡◌, ◌==◌, ◌||◌, ◌^◌, ℕ, ◌≤◌, ◌<◌, true, false, List, [], ◌∷◌, ◌++◌, length, get_or, Ok, refl, ◌∙◌, ap, subst, arith, inl, inr, decimal, nat_le}
+use Rattle.std.proofs.Common.{◌≡◌, ◌==◌, ◌||◌, ◌^◌, ℕ, ◌≤◌, ◌<◌, true, false, List, [], ◌∷◌, ◌++◌, length, get_or, Ok, refl, ◌∙◌, ap, subst, arith, inl, inr, decimal, codes, nat_le}
 use Rattle.std.proofs.lemmas.List.{append-nil}
-use Rattle.std.proofs.lemmas.Bool.{le-leb, leb-true, ne_eqb, and_parts, and_from, cases_eq}
+use Rattle.std.proofs.lemmas.Bool.{le-leb, leb-true, ne_eqb, and_parts, and_from, cases_eq, eq-eqb}
 use Rattle.std.proofs.lemmas.List.Elements.{All-from_recursion}
 use Rattle.std.proofs.lemmas.List.Splits.{slice_split_at, slice_split_none}
 use Rattle.std.proofs.lemmas.Fmt.{length-decimal-le, decimal_nonempty}
@@ -14,7 +14,9 @@ use Rattle.lease_terms.specs.Names.{is_word, is_word_byte, is_letter, is_name}
 use Rattle.lease_terms.specs.Requests.{RequestId, IsRequestId}
 use Rattle.lease_proto.specs.Words.{parts_of}
 use Rattle.lease_proto.specs.Values.{client_in, ordinal_in, quantity_in, id_in}
-use Rattle.lease_proto.specs.Texts.{id_words, sentence}
+use Rattle.lease_proto.specs.declared.lines.LeaseOptions.{LeaseOptions}
+use Rattle.lease_proto.specs.Grammar.{end_at}
+use Rattle.lease_proto.specs.Texts.{id_words, option_words, options_words, sentence}
 use Rattle.lease_proto.proofs.WordLemmas.{numbers, decimal_is_digits}
 
 -- a byte of a word is no space
@@ -104,3 +106,33 @@ id_short id is =
       decimal_short 19 id.incarnation (omega arith) (omega arith) i,
       decimal_short 19 id.number (omega arith) (omega arith) n,
     )
+
+-- where the words have ended, none is left
+pub none_left : (words : List (List ℕ)) → end_at words ≡ Ok tt → words ≡ []
+none_left [] e = refl
+none_left (word ∷ words) e = absurd (cc)
+
+-- where nothing is written, an option has the value of no constraint
+none_given : (key : List ℕ) (default value : ℕ) (rest : List (List ℕ)) → option_words key default value ++ rest ≡ []
+    → (value ≡ default) × (rest ≡ [])
+none_given key default value rest e = elim (cases_eq value default) [
+  | inl is ↦ let left : rest ≡ [] = rw (eq-eqb value default is) at e in (is, left)
+  | inr other ↦ let some : key ∷ decimal value ∷ rest ≡ [] = rw (ne_eqb value default other) at e in absurd (cc)
+]
+
+-- options that are written with no word ask for nothing
+pub nothing_asked : (o : LeaseOptions) → options_words o ≡ [] → o ≡ record { align = 0; phase = 0; nocross = 0; min = 0; max = LARGEST }
+nothing_asked o e =
+    let align = none_given (codes "align") 0 o.align _ e in
+    let phase = none_given (codes "phase") 0 o.phase _ align.1 in
+    let nocross = none_given (codes "nocross") 0 o.nocross _ phase.1 in
+    let min = none_given (codes "min") 0 o.min _ nocross.1 in
+    let max = none_given (codes "max") LARGEST o.max [] (append-nil _ ∙ min.1) in
+    let a = align.0 in
+    let p = phase.0 in
+    let x = nocross.0 in
+    let l = min.0 in
+    let h = max.0 in
+    let made : LeaseOptions = record { align = o.align; phase = o.phase; nocross = o.nocross; min = o.min; max = o.max } in
+    let same : made ≡ record { align = 0; phase = 0; nocross = 0; min = 0; max = LARGEST } = cc in
+    same

@@ -19,7 +19,7 @@ use Rattle.lease_proto.specs.declared.lines.LeaseLine.{LeaseLine}
 use Rattle.lease_proto.specs.declared.limits.TheConstants.{LONGEST_LINE}
 use Rattle.lease_proto.specs.Words.{is_sentence}
 use Rattle.lease_proto.specs.Values.{◌>>=◌, words_of}
-use Rattle.lease_proto.specs.Grammar.{line_of, line_in, line_of_first, hello_in, lease_in, release_in, id_at, option_at, quantity_or, end_at}
+use Rattle.lease_proto.specs.Grammar.{line_of, line_in, line_of_first, hello_in, lease_in, lease_after, release_in, id_at, option_at, quantity_or, end_at}
 use Rattle.lease_proto.specs.Texts.{id_words, option_words, options_of, options_words, op_words, op_word, words_after, first_word, sentence, spaced_text, IsLine, IsOp, AreOptions, AsksFor, GivesOptions, MayFollow, IsTextOf, LinesAreTexts, LineIsRead, WrittenLineIsWhole, text_of}
 use Rattle.lease_proto.proofs.FramedLemmas.{words_are_whole}
 use Rattle.lease_proto.proofs.ReadLemmas.{step, told, words_step, word_step, name_step, end_step, client_step, ordinal_step, quantity_step, quantity_says, id_at_step, id_step, join_with_byte-sentence}
@@ -62,7 +62,7 @@ taken key default value options words same none low (inr (is, given)) =
 -- the words of a request are read as that request
 request_again : (id : RequestId) (op : Op) (rest : List (List ℕ)) → IsRequestId id → IsOp op → AsksFor op rest
     → line_of_first (op_word op) (id_words id ++ rest) ≡ Ok (Request id op)
-unfolding line_of_first lease_in release_in id_at
+unfolding line_of_first lease_in lease_after release_in id_at
 request_again id (Release r) rest is op may = rw (may, op.0, id_again id is, quantity_again r.base op.1) refl
 request_again id (Lease l) rest is op (w, given, may) =
     let o = l.options in
@@ -247,7 +247,7 @@ release_says words read e =
     ((is, (arena_in, b_in)), refl, (arena ∷ decimal b ∷ [], refl, cc)))))))))
 
 lease_says : (words : List (List ℕ)) (read : Line) → lease_in words ≡ Ok read → Says (codes "lease") words read
-unfolding lease_in
+unfolding lease_in lease_after
 lease_says words read e =
     id_at_step words _ read e (λ wc wi wn w1 words_are e1.
     word_step w1 _ read e1 (λ name w2 name_is e2.

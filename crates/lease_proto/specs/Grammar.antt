@@ -63,21 +63,18 @@ abbrev pub quantity_or : ℕ → Option (List ℕ) → Result ℕ LineFault
 quantity_or default None = Ok default
 quantity_or default (Some word) = quantity_in word
 
--- `lease C I N NAME SIZE`, and options in this order
-unfoldable pub lease_in : List (List ℕ) → Result Line LineFault
-lease_in words = do
-  id ← id_at words
-  name ← word_at id.1
-  arena ← name_in name.0
-  size ← word_at name.1
-  let align = option_at (codes "align") size.1
+-- the lease of this id, arena and size, and the words after these: options in this order
+unfoldable pub lease_after : List ℕ × List ℕ × List ℕ → List ℕ → List ℕ → List (List ℕ)
+    → Result Line LineFault
+lease_after id arena size words = do
+  let align = option_at (codes "align") words
   let phase = option_at (codes "phase") align.1
   let nocross = option_at (codes "nocross") phase.1
   let min = option_at (codes "min") nocross.1
   let max = option_at (codes "max") min.1
   end ← end_at max.1
-  request ← id_in id.0
-  s ← quantity_in size.0
+  request ← id_in id
+  s ← quantity_in size
   a ← quantity_or 0 align.0
   p ← quantity_or 0 phase.0
   x ← quantity_or 0 nocross.0
@@ -88,6 +85,15 @@ lease_in words = do
     size = s;
     options = record { align = a; phase = p; nocross = x; min = l; max = h };
   })))
+
+-- `lease C I N NAME SIZE`, and its options
+unfoldable pub lease_in : List (List ℕ) → Result Line LineFault
+lease_in words = do
+  id ← id_at words
+  name ← word_at id.1
+  arena ← name_in name.0
+  size ← word_at name.1
+  lease_after id.0 arena size.0 size.1
 
 -- the line of this first word and the words after it
 unfoldable pub line_of_first : List ℕ → List (List ℕ) → Result Line LineFault

@@ -3,7 +3,7 @@ ghost use Rattle.std.specs.Prelude.{◌≡◌, ◌++◌, IsOk, OnOk, OnErr, [], 
 ghost use Rattle.std.specs.Prelude.{Some, vec_len};
 ghost use Rattle.lease_proto.specs.Frames.{with_line_feed};
 ghost use Rattle.lease_proto.specs.Grammar.{line_in, line_of, line_of_first, hello_in};
-ghost use Rattle.lease_proto.specs.Grammar.{lease_in, release_in};
+ghost use Rattle.lease_proto.specs.Grammar.{lease_in, lease_after, release_in};
 ghost use Rattle.lease_proto.specs.Requests.{client_of, incarnation_of, request_of, op_of};
 ghost use Rattle.lease_proto.specs.declared.lines.TheConstants.{OPTIONS_ROOM};
 ghost use Rattle.lease_proto.specs.declared.writing.TheConstants.{NUMBER_ROOM, NAME_ROOM};
@@ -123,6 +123,29 @@ impl LeaseLine {
         let id = IdWords::take(words)?;
         let arena = name(words.take()?)?;
         let size = words.take()?;
+        if words.end().is_err() {
+            return LeaseLine::with_options(id, arena, size, words);
+        }
+        let id = id.read()?;
+        let lease = LeaseLine {
+            arena,
+            size: quantity(size)?,
+            options: LeaseOptions::none(),
+        };
+        Ok(Line::Request(id, Op::Lease(lease)))
+    }
+
+    /// The lease of the words up to its size, and of those after it. Most leases have none of these
+    /// and are read without it.
+    #[tactic(auto, unfolding(crate::specs::Grammar::lease_after))]
+    fn with_options(
+        id: IdWords<'_>,
+        arena: ArenaName,
+        size: &[u8],
+        words: &mut Words<'_>,
+    ) -> Result<Line, LineFault>
+        ensures { result ≡ lease_after id.entry arena size.now words.old }
+    {
         let align = option(words, b"align");
         let phase = option(words, b"phase");
         let nocross = option(words, b"nocross");
