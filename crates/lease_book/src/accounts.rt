@@ -38,7 +38,7 @@ impl Standing {
         }
     }
 
-    /// Whether a request's number is the next one of this incarnation.
+    /// Whether a request is seen to be of this incarnation, and its number the next one.
     pub(crate) fn is_next(&self, id: RequestId) -> bool
         ensures { IsTrue result → (id.incarnation ≡ self.now.incarnation)
             × (id.number ≡ number_of self.now.kept + 1) }

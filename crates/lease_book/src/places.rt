@@ -239,6 +239,7 @@ impl<D: Deed> Places<D> {
         match *which {
             Which::At(id, arena, base) => self.position(id, arena, base),
             Which::Before(incarnation) => {
+                // The search begins at the first lease.
                 let _ = self.first_held();
                 first_older(&self.places, self.empty, incarnation)
             }

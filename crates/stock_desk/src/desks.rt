@@ -77,7 +77,7 @@ impl Desk {
         ensures unchanged { OnErr result (self.new ≡ self.old) }
     {
         out.reserve(LINE_ROOM)?;
-        // What is a client's line is served as one.
+        // For its clause: what is a client's line is served as one.
         served_law();
         match Line::read(line) {
             Ok(line) => self.serve_client(&line, out),
@@ -118,7 +118,7 @@ impl Desk {
         }
     }
 
-    /// Answers a client's line for which there is room, so that it isn't refused.
+    /// Answers a client's line for which there is room.
     fn serve_client(&mut self, line: &Line, out: &mut Vec<u8>) -> Result<(), AllocError>
         requires room { vec_len out.old + LINE_ROOM ≤ vec_capacity out.old }
         ensures ok { OnOk result ((reply : List ℕ) × (out.new.items ≡ out.old.items ++ reply)
