@@ -1,6 +1,6 @@
 //! The accounts of the clients, in order of first hello.
-ghost use Rattle.std.specs.Prelude.{◌≡◌, ◌≢◌, ◌+◌, ◌*◌, ◌<◌, ◌≤◌, ◌==◌, List, [], ◌∷◌, ◌++◌};
-ghost use Rattle.std.specs.Prelude.{length, All, OnOk, OnErr, IfErr, IfSome, IfNone, Some, None};
+ghost use Rattle.std.specs.Prelude.{◌≡◌, ◌≢◌, ◌+◌, ◌*◌, ◌<◌, ◌≤◌, ◌==◌, ◌↔◌, List, [], ◌∷◌};
+ghost use Rattle.std.specs.Prelude.{◌++◌, length, All, OnOk, OnErr, IfErr, IfSome, IfNone, Some, None};
 ghost use Rattle.std.specs.Prelude.{slice_get, position, sum_by, nat_lt, option_map, IsTrue};
 ghost use Rattle.std.specs.List.{find};
 ghost use Rattle.lease_terms.specs.declared.values.TheConstants.{LAST_CLIENT};
@@ -38,10 +38,10 @@ impl Standing {
         }
     }
 
-    /// Whether a request is seen to be of this incarnation, and its number the next one.
+    /// Whether a request is of this incarnation, and its number the next one.
     pub(crate) fn is_next(&self, id: RequestId) -> bool
-        ensures { IsTrue result → (id.incarnation ≡ self.now.incarnation)
-            × (id.number ≡ number_of self.now.kept + 1) }
+        ensures { IsTrue result ↔ ((id.incarnation ≡ self.now.incarnation)
+            × (id.number ≡ number_of self.now.kept + 1)) }
     {
         let (number, last) = (id.number.get(), self.last().get());
         id.incarnation.get() == self.incarnation.get() && number > last && number - last == 1

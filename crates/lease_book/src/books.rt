@@ -1,6 +1,6 @@
 //! The book of leases.
 ghost use Rattle.std.specs.Prelude.{◌≡◌, ◌==◌, ◌<◌, ◌≤◌, ◌↔◌, List, [], length, All, IsOk, IsNone};
-ghost use Rattle.std.specs.Prelude.{OnOk, OnErr, IfOk, IfErr, IfSome, IfNone, Some, None};
+ghost use Rattle.std.specs.Prelude.{OnOk, OnErr, IfOk, IfErr, IfSome, IfNone, IsTrue, Some, None};
 ghost use Rattle.std.specs.Prelude.{slice_get, sum_by};
 ghost use Rattle.std.specs.List.{find, list_any};
 ghost use Rattle.std.specs.Option.{option_map};
@@ -131,7 +131,20 @@ impl<D: Deed> Book<D> {
             → IsHistory entries self.now
             → IsLook self.now (account entries id.client) id result }
     {
-        self.seek(id).0
+        match self.new_at(id) {
+            Some(_) => Look::New,
+            None => self.seek(id),
+        }
+    }
+
+    /// Whether a request's number is new.
+    pub fn is_new(&self, id: RequestId) -> bool
+        ensures new { IsTrue result ↔ IsNew (account_in id.client self.now) id }
+        ensures history { (entries : List Entry)
+            → IsHistory entries self.now
+            → IsTrue result ↔ IsNew (account entries id.client) id }
+    {
+        self.new_at(id).is_some()
     }
 
     /// Settles a new request by a grant of the segment, which is of the arena and fits the request
@@ -310,19 +323,13 @@ impl<D: Deed> Book<D> {
         Some((index, self.accounts.standing(index)))
     }
 
-    /// What a request's number is to the book, and the index of the client's account: there is one
-    /// where the number is new.
-    fn seek(&self, id: RequestId) -> (Look<D>, Option<usize>)
-        ensures look { IsLook self.now (account_in id.client self.now) id result.0 }
-        ensures index { IfSome result.1 (IsFound self.now id.client) }
-        ensures unknown { IfNone result.1 ((account_in id.client self.now).incarnation ≡ 0) }
+    /// What a request's number is to the book.
+    fn seek(&self, id: RequestId) -> Look<D>
+        ensures { IsLook self.now (account_in id.client self.now) id result }
     {
-        if let Some(index) = self.new_at(id) {
-            return (Look::New, Some(index));
-        }
         match self.account(id.client) {
-            Some((index, standing)) => (self.look_by(standing, id), Some(index)),
-            None => (Look::Old(Quantity::ZERO), None),
+            Some((_, standing)) => self.look_by(standing, id),
+            None => Look::Old(Quantity::ZERO),
         }
     }
 
@@ -357,11 +364,12 @@ impl<D: Deed> Book<D> {
         Receipt::new(self.mark.root(), id, kept)
     }
 
-    /// The index of the client's account, where a look at it shows that the number is new. It reads
-    /// what is kept there in place: most numbers are new.
+    /// The index of the client's account, where the number is new. It reads what is kept there in
+    /// place: most numbers are new.
     fn new_at(&self, id: RequestId) -> Option<usize>
         ensures new { IfSome result (λ _. IsNew (account_in id.client self.now) id) }
         ensures index { IfSome result (IsFound self.now id.client) }
+        ensures none { IfNone result (¬ IsNew (account_in id.client self.now) id) }
     {
         let (index, standing) = self.account(id.client)?;
         if standing.is_next(id) {
@@ -382,10 +390,9 @@ impl<D: Deed> Book<D> {
         if let Some(index) = self.new_at(id) {
             return Ok(index);
         }
-        let (look, index) = self.seek(id);
-        match look.answer() {
+        match self.seek(id).answer() {
             Some(answer) => Err(answer),
-            None => Ok(index.unwrap()),
+            None => unreachable!(),
         }
     }
 }

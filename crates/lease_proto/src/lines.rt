@@ -124,7 +124,7 @@ impl LeaseLine {
         let arena = name(words.take()?)?;
         let size = words.take()?;
         if words.end().is_err() {
-            return LeaseLine::with_options(id, arena, size, words);
+            return LeaseLine::with_options(id, arena, size, words.ahead());
         }
         let id = id.read()?;
         let lease = LeaseLine {
@@ -142,15 +142,15 @@ impl LeaseLine {
         id: IdWords<'_>,
         arena: ArenaName,
         size: &[u8],
-        words: &mut Words<'_>,
+        mut words: Words<'_>,
     ) -> Result<Line, LineFault>
-        ensures { result ≡ lease_after id.entry arena size.now words.old }
+        ensures { result ≡ lease_after id.entry arena size.now words.entry }
     {
-        let align = option(words, b"align");
-        let phase = option(words, b"phase");
-        let nocross = option(words, b"nocross");
-        let min = option(words, b"min");
-        let max = option(words, b"max");
+        let align = option(&mut words, b"align");
+        let phase = option(&mut words, b"phase");
+        let nocross = option(&mut words, b"nocross");
+        let min = option(&mut words, b"min");
+        let max = option(&mut words, b"max");
         words.end()?;
         let id = id.read()?;
         let lease = LeaseLine {
@@ -264,7 +264,7 @@ impl Line {
     pub fn read(bytes: &[u8]) -> Result<Line, LineFault>
         ensures { result ≡ line_of bytes.now }
     {
-        let line = Line::of_parts(&mut parts(bytes)?);
+        let line = Line::of_parts(parts(bytes)?);
         if let Err(fault) = line {
             return Err(first_fault(bytes, fault));
         }
@@ -272,8 +272,8 @@ impl Line {
     }
 
     #[tactic(auto, unfolding(crate::specs::Grammar::line_in))]
-    fn of_parts(words: &mut Words<'_>) -> Result<Line, LineFault>
-        ensures { result ≡ line_in words.old }
+    fn of_parts(mut words: Words<'_>) -> Result<Line, LineFault>
+        ensures { result ≡ line_in words.entry }
     {
         match words.next() {
             Some(first) => Line::of_words(first, words),
@@ -283,15 +283,15 @@ impl Line {
 
     /// The line of this first word and the words after it.
     #[tactic(auto, unfolding(crate::specs::Grammar::line_of_first))]
-    pub(crate) fn of_words(first: &[u8], words: &mut Words<'_>) -> Result<Line, LineFault>
-        ensures { result ≡ line_of_first first.now words.old }
+    pub(crate) fn of_words(first: &[u8], mut words: Words<'_>) -> Result<Line, LineFault>
+        ensures { result ≡ line_of_first first.now words.entry }
     {
         if first == b"hello".as_slice() {
-            HelloLine::read(words)
+            HelloLine::read(&mut words)
         } else if first == b"lease".as_slice() {
-            LeaseLine::read(words)
+            LeaseLine::read(&mut words)
         } else if first == b"release".as_slice() {
-            ReleaseLine::read(words)
+            ReleaseLine::read(&mut words)
         } else {
             Err(LineFault::Word)
         }

@@ -167,7 +167,7 @@ impl ServedLine {
     pub fn read(bytes: &[u8]) -> Result<ServedLine, LineFault>
         ensures { result ≡ served_of bytes.now }
     {
-        let line = ServedLine::of_words(&mut parts(bytes)?);
+        let line = ServedLine::of_words(parts(bytes)?);
         if let Err(fault) = line {
             return Err(first_fault(bytes, fault));
         }
@@ -175,14 +175,14 @@ impl ServedLine {
     }
 
     #[tactic(auto, unfolding(crate::specs::Operators::served_in))]
-    fn of_words(words: &mut Words<'_>) -> Result<ServedLine, LineFault>
-        ensures { result ≡ served_in words.old }
+    fn of_words(mut words: Words<'_>) -> Result<ServedLine, LineFault>
+        ensures { result ≡ served_in words.entry }
     {
         let Some(first) = words.next() else {
             return Err(LineFault::Word);
         };
         if is_operator_word(first) {
-            Ok(ServedLine::Operator(OperatorLine::of_words(first, words)?))
+            Ok(ServedLine::Operator(OperatorLine::of_words(first, &mut words)?))
         } else {
             Ok(ServedLine::Client(Line::of_words(first, words)?))
         }

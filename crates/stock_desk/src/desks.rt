@@ -1,7 +1,8 @@
 //! The desk.
-ghost use Rattle.std.specs.Prelude.{◌≡◌, ◌*◌, ◌++◌, ◌+◌, ◌≤◌, ℕ, List, IfOk, OnOk, OnErr, vec_len};
+ghost use Rattle.std.specs.Prelude.{◌≡◌, ◌*◌, ◌++◌, ◌+◌, ◌≤◌, ℕ, List, IfOk, OnOk, OnErr, IsErr, vec_len};
 ghost use Rattle.std.specs.Vec.{vec_capacity};
 ghost use Rattle.arena_tree.specs.declared.limits.TheConstants.{MOST_ARENAS, MOST_SPANS};
+ghost use Rattle.lease_proto.specs.Grammar.{line_of};
 ghost use Rattle.lease_proto.specs.declared.limits.TheConstants.{LINE_ROOM};
 ghost use Rattle.lease_proto.specs.declared.operators.ServedLine.TheVariants as served;
 ghost use Rattle.lease_machine.specs.Machine.{LeaseStep, ServedStep};
@@ -19,7 +20,7 @@ use crate::supplies::Supply;
 use arena_tree::{MOST_ARENAS, MOST_SPANS, Setup};
 use deed_core::{PlainDeed, Range};
 use lease_book::Book;
-use lease_proto::{LINE_ROOM, Line, ServedLine, served_law};
+use lease_proto::{LINE_ROOM, Line, OperatorLine, ServedLine, served_law};
 use std::alloc::{AllocError, Global};
 use std::marker::Model;
 use stock::close_plain_stock;
@@ -79,8 +80,10 @@ impl Desk {
         out.reserve(LINE_ROOM)?;
         // For its clause: what is a client's line is served as one.
         served_law();
-        match Line::read(line) {
-            Ok(line) => self.serve_client(&line, out),
+        // (served where it was read, since a line isn't moved for nothing)
+        let read = Line::read(line);
+        match &read {
+            Ok(line) => self.serve_client(line, out),
             Err(_) => self.answer_other(line, out),
         }
     }
@@ -88,13 +91,17 @@ impl Desk {
     /// Answers a line that is no client's: an operator's, or none.
     fn answer_other(&mut self, line: &[u8], out: &mut Vec<u8>) -> Result<(), AllocError>
         requires room { vec_len out.old + LINE_ROOM ≤ vec_capacity out.old }
+        requires other { IsErr (line_of line.now) }
         ensures ok { OnOk result ((reply : List ℕ) × (out.new.items ≡ out.old.items ++ reply)
             × LeaseStep self.old line.now reply self.new) }
         ensures unwritten { OnErr result (out.new.items ≡ out.old.items) }
         ensures unchanged { OnErr result (self.new ≡ self.old) }
     {
+        // For its clause: a client's line would have been read as one.
+        served_law();
         match ServedLine::read(line) {
-            Ok(line) => self.serve(&line, out),
+            Ok(ServedLine::Operator(line)) => self.serve_operator(line, out),
+            Ok(ServedLine::Client(_)) => unreachable!(),
             Err(fault) => {
                 // For its clause: the type keeps a picture.
                 let _ = &self.book;
@@ -103,19 +110,16 @@ impl Desk {
         }
     }
 
-    /// Answers a line for which there is room.
-    fn serve(&mut self, line: &ServedLine, out: &mut Vec<u8>) -> Result<(), AllocError>
+    /// Answers an operator's line for which there is room.
+    fn serve_operator(&mut self, line: OperatorLine, out: &mut Vec<u8>) -> Result<(), AllocError>
         requires room { vec_len out.old + LINE_ROOM ≤ vec_capacity out.old }
         ensures ok { OnOk result ((reply : List ℕ) × (out.new.items ≡ out.old.items ++ reply)
-            × ServedStep line.now self.old reply self.new) }
+            × ServedStep (served.Operator line) self.old reply self.new) }
         ensures unwritten { OnErr result (out.new.items ≡ out.old.items) }
         ensures unchanged { OnErr result (self.new ≡ self.old) }
         ensures kept { StaysPicture self.old self.new }
     {
-        match line {
-            ServedLine::Client(line) => self.serve_client(line, out),
-            ServedLine::Operator(line) => tell(&mut self.supply, &self.book, *line, out),
-        }
+        tell(&mut self.supply, &self.book, line, out)
     }
 
     /// Answers a client's line for which there is room.

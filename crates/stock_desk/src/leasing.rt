@@ -32,12 +32,12 @@ pub(crate) fn lease(
     ensures step { RequestStep id (ops.Lease line.now)
         (picture_with book.old supply.old) (picture_with book.new supply.new) result }
 {
-    match known(&supply.tree, book, id) {
-        Some(reply) => reply,
-        None => match supply.tree.find(&line.arena) {
-            Some(arena) => lease_new(supply, book, id, line, arena),
-            None => refuse(&supply.tree, book, id, Refusal::NoArena),
-        },
+    if !book.is_new(id) {
+        return known(&supply.tree, book, id);
+    }
+    match supply.tree.find(&line.arena) {
+        Some(arena) => lease_new(supply, book, id, line, arena),
+        None => refuse(&supply.tree, book, id, Refusal::NoArena),
     }
 }
 

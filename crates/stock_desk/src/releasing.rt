@@ -30,10 +30,8 @@ pub(crate) fn release(
 {
     match supply.tree.find(&line.arena) {
         Some(arena) => release_in(supply, book, id, line, arena),
-        None => match known(&supply.tree, book, id) {
-            Some(reply) => reply,
-            None => refuse(&supply.tree, book, id, Refusal::NoArena),
-        },
+        None if book.is_new(id) => refuse(&supply.tree, book, id, Refusal::NoArena),
+        None => known(&supply.tree, book, id),
     }
 }
 

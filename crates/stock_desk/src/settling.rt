@@ -13,15 +13,15 @@ use lease_proto::Reply;
 use lease_terms::{Refusal, RequestId};
 
 /// The reply to a request whose number isn't new.
-pub(crate) fn known(tree: &Tree, book: &Book<PlainDeed>, id: RequestId) -> Option<Reply>
-    requires { (d : Picture) × IsPicture d × (d.tree ≡ tree.now) × (d.book ≡ book.now) }
-    ensures { MatchOption result
-        (IsNew (account_in id.client book.now) id)
-        (λ r. (d : Picture) → d.tree ≡ tree.now → d.book ≡ book.now → IsKnownReply d id r) }
+pub(crate) fn known(tree: &Tree, book: &Book<PlainDeed>, id: RequestId) -> Reply
+    requires picture { (d : Picture) × IsPicture d × (d.tree ≡ tree.now) × (d.book ≡ book.now) }
+    requires known { ¬ IsNew (account_in id.client book.now) id }
+    ensures { (d : Picture) → d.tree ≡ tree.now → d.book ≡ book.now → IsKnownReply d id result }
 {
-    let look = book.look(id);
-    let answer = look.answer()?;
-    Some(answered(tree, id, answer))
+    match book.look(id).answer() {
+        Some(answer) => answered(tree, id, answer),
+        None => unreachable!(),
+    }
 }
 
 /// Settles a new request by a refusal.

@@ -1,8 +1,6 @@
-use Rattle.std.proofs.Common.{◌≡◌, ◌++◌, ◌∙◌, ap, refl, sym, subst, List, ℕ}
+use Rattle.std.proofs.Common.{◌∙◌, ap, refl, sym, subst}
 use Rattle.lease_proto.specs.declared.operators.OperatorLine.{OperatorLine}
-use Rattle.lease_proto.specs.declared.operators.OperatorLine.TheVariants as operator
 use Rattle.lease_machine.specs.Operators.{LeavesOff, audit_texts_of}
-use Rattle.lease_machine.specs.Picture.{NumberedCpu}
 use Rattle.stock_desk.specs.Operating.{IsPerformed}
 use Rattle.stock_desk.specs.Supplies.{SupplyState, picture_with}
 use Rattle.stock_desk.proofs.Balances.{on_ok}

@@ -5,12 +5,12 @@ use Rattle.stock_desk.proofs.settling.known.Goals as goal
 
 pub answered-requires : goal.answered-requires
 answered-requires c =
-    let (d, is, same, here) = c.requires in
-    known_named c.args.tree.now c.args.book.now c.args.id d is same here c.in_ok-answer.answer
-    (known_of c.args.book.now c.args.id c.look-look.result c.in_ok-answer.answer c.look-look.ensures.look (sym c.answer.ensures ∙ c.in_ok-answer.was))
+    let (d, is, same, here) = c.requires.picture in
+    known_named c.args.tree.now c.args.book.now c.args.id d is same here c.in-Some.answer
+    (known_of c.args.book.now c.args.id c.look.result c.in-Some.answer c.look.ensures.look (sym c.answer.ensures ∙ c.in-Some.is))
 
 pub returns : goal.returns
 returns c d same here =
     subst (IsKnownReply d c.args.id) (sym c.answered.ensures)
-    (known_told c.args.tree.now c.args.book.now c.args.id c.in_ok-answer.answer
-    (known_of c.args.book.now c.args.id c.look-look.result c.in_ok-answer.answer c.look-look.ensures.look (sym c.answer.ensures ∙ c.in_ok-answer.was)) d same here)
+    (known_told c.args.tree.now c.args.book.now c.args.id c.in-Some.answer
+    (known_of c.args.book.now c.args.id c.look.result c.in-Some.answer c.look.ensures.look (sym c.answer.ensures ∙ c.in-Some.is)) d same here)

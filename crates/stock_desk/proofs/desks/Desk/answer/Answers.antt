@@ -1,4 +1,5 @@
-use Rattle.std.proofs.Common.{◌≡◌, ◌∙◌, ap, sym, List, ◌++◌, ℕ}
+use Rattle.std.proofs.Common.{◌≡◌, ◌∙◌, ap, sym, List, ◌++◌, ℕ, Ok}
+use Rattle.lease_proto.specs.Grammar.{line_of}
 use Rattle.lease_proto.specs.declared.operators.ServedLine.TheVariants as served
 use Rattle.lease_machine.specs.Machine.{ServedStep, LeaseStep}
 use Rattle.stock_desk.proofs.Answering.{served_step}
@@ -13,7 +14,7 @@ returns-in-Ok-clause-ok c = on_ok c.serve_client.result
     (λ is. (
       is.0,
       is.1 ∙ ap (λ l. l ++ is.0) c.reserve.ensures.items,
-      served_step c.args.self.now c.serve_client.new.self c.args.line.now is.0 (served.Client c.in-Ok.line) (sym ((c.served_law.ensures.clients c.args.line.now c.in-Ok.line).1 (sym c.in-Ok.ensures))) is.2 c.serve_client.ensures.kept,
+      served_step c.args.self.now c.serve_client.new.self c.args.line.now is.0 (served.Client c.in-Ok.line) (sym ((c.served_law.ensures.clients c.args.line.now c.in-Ok.line).1 (let here : line_of c.args.line.now ≡ Ok c.in-Ok.line = cc in here))) is.2 c.serve_client.ensures.kept,
     ))
     c.serve_client.ensures.ok
 

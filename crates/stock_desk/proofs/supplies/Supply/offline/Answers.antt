@@ -1,4 +1,4 @@
-use Rattle.std.proofs.Common.{◌≡◌, ◌<◌, ◌∙◌, refl, sym, ap, subst, List, [], ◌++◌, length, position, set, Some, None, Ok, ℕ}
+use Rattle.std.proofs.Common.{◌≡◌, ◌<◌, ◌∙◌, sym, ap, subst, List, [], ◌++◌, length, position, set, Some, None, Ok, ℕ}
 use Rattle.std.specs.Prelude.{slice_get}
 use Rattle.deed_core.specs.Tag.{Tag}
 use Rattle.deed_core.proofs.LawProofs.{slice_get_here}
