@@ -4,7 +4,7 @@ use Rattle.std.proofs.Common.{eq-eqb, one-add, ◌≡◌, ℕ, zero, suc, ◌+�
 use Rattle.std.specs.List.{find, position_or_len, AllByRecursion, IsDistinct}
 use Rattle.std.specs.Option.{option_map}
 use Rattle.std.specs.Map.{keys_of, values_of, lookup}
-use Rattle.std.proofs.lemmas.Option.{slice_get_past}
+use Rattle.std.proofs.lemmas.Option.{slice_get_past, slice_get_within}
 use Rattle.std.proofs.lemmas.Map.Entries.{length-keys_of}
 use Rattle.std.proofs.lemmas.List.Elements.{All-set, All-push}
 use Rattle.std.proofs.lemmas.List.{length-append, length-set, map-append, set-get_or}
@@ -352,6 +352,18 @@ client_in (d ∷ es) (l ∷ ls) (suc i) e same at = client_in es ls i e (omega a
 pub client_at : (es : List (ℕ × Standing)) (ls : List (List Lease)) (accounts : List Account) (i : ℕ) (e : ℕ × Standing) → accounts_of es ls ≡ accounts → length es ≡ length ls
     → Some e ≡ slice_get es i → option_map (λ (a : Account). a.client) (slice_get accounts i) ≡ Some e.0
 client_at es ls accounts i e is same at = ap (λ (xs : List Account). option_map (λ (a : Account). a.client) (slice_get xs i)) (sym is) ∙ client_in es ls i e same (sym at)
+
+-- the account at the index of a client's entry is the one that is found for the client
+pub stands_there : (c : ℕ) (es : List (ℕ × Standing)) (ls : List (List Lease)) (accounts : List Account) (i : ℕ) (e : ℕ × Standing) → accounts_of es ls ≡ accounts → IsShelf es ls
+    → Some e ≡ slice_get es i → e.0 ≡ c → (i < length accounts) × (find (λ a. nat_eq c a.client) accounts ≡ slice_get accounts i)
+stands_there c es ls accounts i e is shelf at own = by (slice_get accounts i) refl (client_at es ls accounts i e is shelf.together at) (own_place es ls accounts i is shelf)
+  where
+    by : (o : Option Account) → slice_get accounts i ≡ o → option_map (λ (a : Account). a.client) o ≡ Some e.0 → IfSome o (λ a. find (λ b. nat_eq a.client b.client) accounts ≡ Some a)
+        → (i < length accounts) × (find (λ a. nat_eq c a.client) accounts ≡ slice_get accounts i)
+    by None here client found = absurd (cc)
+    by (Some a) here client found =
+        let same : a.client ≡ c = cc in
+        (slice_get_within accounts i a here, subst (λ (d : ℕ). find (λ b. nat_eq d b.client) accounts ≡ Some a) same found ∙ sym here)
 
 pub past_none : {X : Type 0} (xs : List X) (i : ℕ) → None ≡ slice_get xs i → length xs ≤ i
 past_none [] i at = omega arith

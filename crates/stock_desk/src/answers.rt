@@ -76,6 +76,7 @@ pub(crate) fn settled(tree: &Tree, id: RequestId, reply: KeptReply) -> Reply
 }
 
 /// The reply that the book's answer is.
+#[cold]
 pub(crate) fn answered(tree: &Tree, id: RequestId, answer: Answer<PlainDeed>) -> Reply
     requires { CanName tree.now answer }
     ensures { result ≡ reply_to_answer tree.now id answer }

@@ -131,6 +131,8 @@ impl Desk {
         ensures unchanged { OnErr result (self.new ≡ self.old) }
         ensures kept { StaysPicture self.old self.new }
     {
+        // For speed alone: the book finds the client once.
+        self.book.go_to(line.client());
         reply(&mut self.supply, &mut self.book, line).write(out)
     }
 

@@ -18,7 +18,9 @@ use lease_proto::{LeaseLine, Reply};
 use lease_terms::{Refusal, RequestId};
 use tag_arena::ArenaFault;
 
-/// Answers a request for a lease.
+/// Answers a request for a lease. (It isn't inlined, so that a release doesn't clear what only a
+/// lease needs of the stack.)
+#[inline(never)]
 pub(crate) fn lease(
     supply: &mut Supply,
     book: &mut Book<PlainDeed>,

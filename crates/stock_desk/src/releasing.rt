@@ -14,7 +14,8 @@ use lease_book::Book;
 use lease_proto::{ReleaseLine, Reply};
 use lease_terms::{Refusal, RequestId};
 
-/// Answers a release.
+/// Answers a release. (It isn't inlined: see `lease`.)
+#[inline(never)]
 pub(crate) fn release(
     supply: &mut Supply,
     book: &mut Book<PlainDeed>,

@@ -13,6 +13,7 @@ use lease_proto::Reply;
 use lease_terms::{Refusal, RequestId};
 
 /// The reply to a request whose number isn't new.
+#[cold]
 pub(crate) fn known(tree: &Tree, book: &Book<PlainDeed>, id: RequestId) -> Reply
     requires picture { (d : Picture) × IsPicture d × (d.tree ≡ tree.now) × (d.book ≡ book.now) }
     requires known { ¬ IsNew (account_in id.client book.now) id }
@@ -25,6 +26,7 @@ pub(crate) fn known(tree: &Tree, book: &Book<PlainDeed>, id: RequestId) -> Reply
 }
 
 /// Settles a new request by a refusal.
+#[cold]
 pub(crate) fn refuse(
     tree: &Tree,
     book: &mut Book<PlainDeed>,
