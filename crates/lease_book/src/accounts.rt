@@ -1,7 +1,7 @@
 //! The accounts of the clients, in order of first hello.
 ghost use Rattle.std.specs.Prelude.{◌≡◌, ◌≢◌, ◌+◌, ◌*◌, ◌<◌, ◌≤◌, ◌==◌, ◌↔◌, List, [], ◌∷◌};
-ghost use Rattle.std.specs.Prelude.{◌++◌, length, All, OnOk, OnErr, IfErr, IfSome, IfNone, Some, None};
-ghost use Rattle.std.specs.Prelude.{slice_get, position, sum_by, nat_lt, option_map, IsTrue};
+ghost use Rattle.std.specs.Prelude.{◌++◌, length, All, OnOk, OnErr, IfErr, IfSome, IfNone, IsTrue};
+ghost use Rattle.std.specs.Prelude.{Some, None, slice_get, position, sum_by, nat_lt, option_map};
 ghost use Rattle.std.specs.List.{find};
 ghost use Rattle.lease_terms.specs.declared.values.TheConstants.{LAST_CLIENT};
 ghost use Rattle.lease_book.specs.Receipts.{IsEarned};
@@ -50,7 +50,7 @@ impl Standing {
 
 /// What is kept of each client, and beside it its leases. No client before the index `empty` has a
 /// lease: so a search for a client that has one needn't begin from the first each time. A client is
-/// looked for at the index `near` first.
+/// looked for first at the index `near`, where it was last gone to.
 pub(crate) struct Accounts<D: Deed> {
     clients: IndexMap<ClientId, Standing>,
     leases: Vec<Leases<D>>,
@@ -108,7 +108,8 @@ impl<D: Deed> Accounts<D> {
         self.clients.get_index_of(&client)
     }
 
-    /// Whether the account with this index is the client's.
+    /// Whether the account with this index is seen to be the client's: where it isn't, the map is
+    /// asked.
     #[inline(always)]
     fn is_at(&self, index: usize, client: ClientId) -> bool
         ensures within { IsTrue result → index < length self.now }

@@ -330,9 +330,10 @@ impl<D: Deed> Book<D> {
         Some((index, self.accounts.standing(index)))
     }
 
-    /// What a request's number is to the book.
+    /// What a number that isn't new is to the book.
     #[cold]
     fn seek(&self, id: RequestId) -> Look<D>
+        requires { ¬ IsNew (account_in id.client self.now) id }
         ensures { IsLook self.now (account_in id.client self.now) id result }
     {
         match self.account(id.client) {
@@ -341,9 +342,10 @@ impl<D: Deed> Book<D> {
         }
     }
 
-    /// What the number is to the book, by what is kept of the client.
+    /// What a number that isn't new is to the book, by what is kept of the client.
     fn look_by(&self, standing: &Standing, id: RequestId) -> Look<D>
-        requires { standing_of (account_in id.client self.now) ≡ standing.now }
+        requires standing { standing_of (account_in id.client self.now) ≡ standing.now }
+        requires known { ¬ IsNew (account_in id.client self.now) id }
         ensures { IsLook self.now (account_in id.client self.now) id result }
     {
         if id.incarnation.get() != standing.incarnation.get() {
@@ -354,11 +356,8 @@ impl<D: Deed> Book<D> {
         if number < last.get() {
             return Look::Stale(last);
         }
-        if number - last.get() > 1 {
-            return Look::Gap(last);
-        }
         if number > last.get() {
-            return Look::New;
+            return Look::Gap(last);
         }
         match standing.kept {
             Some(kept) => Look::Kept(self.receipt(id, kept)),
@@ -388,7 +387,7 @@ impl<D: Deed> Book<D> {
         }
     }
 
-    /// The index of the client's account, where the number is new.
+    /// The index of the client's account, where the number is new; else the answer to the request.
     #[inline(always)]
     fn admit(&self, id: RequestId) -> Result<usize, Answer<D>>
         ensures new { IfOk result (λ _. IsNew (account_in id.client self.now) id) }

@@ -41,7 +41,7 @@ impl<'a> Words<'a> {
         Words { rest: Some(line) }
     }
 
-    /// The same words, to look ahead.
+    /// The same words again, to look ahead or to hand on.
     pub fn ahead(&self) -> Words<'a>
         ensures { result ≡ self.now }
     {

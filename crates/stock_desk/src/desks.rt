@@ -1,5 +1,6 @@
 //! The desk.
-ghost use Rattle.std.specs.Prelude.{◌≡◌, ◌*◌, ◌++◌, ◌+◌, ◌≤◌, ℕ, List, IfOk, OnOk, OnErr, IsErr, vec_len};
+ghost use Rattle.std.specs.Prelude.{◌≡◌, ◌*◌, ◌++◌, ◌+◌, ◌≤◌, ℕ, List, IfOk, OnOk, OnErr, IsErr};
+ghost use Rattle.std.specs.Prelude.{vec_len};
 ghost use Rattle.std.specs.Vec.{vec_capacity};
 ghost use Rattle.arena_tree.specs.declared.limits.TheConstants.{MOST_ARENAS, MOST_SPANS};
 ghost use Rattle.lease_proto.specs.Grammar.{line_of};
@@ -80,7 +81,7 @@ impl Desk {
         out.reserve(LINE_ROOM)?;
         // For its clause: what is a client's line is served as one.
         served_law();
-        // (served where it was read, since a line isn't moved for nothing)
+        // For speed alone: the line is served where it was read, and isn't moved.
         let read = Line::read(line);
         match &read {
             Ok(line) => self.serve_client(line, out),
@@ -131,7 +132,7 @@ impl Desk {
         ensures unchanged { OnErr result (self.new ≡ self.old) }
         ensures kept { StaysPicture self.old self.new }
     {
-        // For speed alone: the book finds the client once.
+        // For speed alone: the book looks the client up once, and then has it at hand.
         self.book.go_to(line.client());
         reply(&mut self.supply, &mut self.book, line).write(out)
     }

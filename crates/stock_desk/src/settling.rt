@@ -1,5 +1,5 @@
 //! What the book has on a request, and the refusal of a new one.
-ghost use Rattle.std.specs.Prelude.{◌≡◌, MatchOption};
+ghost use Rattle.std.specs.Prelude.{◌≡◌};
 ghost use Rattle.lease_book.specs.Answers.{IsNew};
 ghost use Rattle.lease_book.specs.BookState.{account_in};
 ghost use Rattle.lease_machine.specs.Picture.{Picture, IsPicture};
