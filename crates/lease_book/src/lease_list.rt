@@ -7,6 +7,7 @@ ghost use Rattle.lease_terms.specs.declared.values.TheConstants.{LARGEST};
 ghost use Rattle.lease_book.specs.Account.{is_lease, is_older, without_first};
 ghost use Rattle.lease_book.specs.BookState.{units_of_lease};
 ghost use Rattle.lease_book.specs.Places.{is_asked, leases_in};
+ghost use Rattle.lease_book.specs.declared.places.TheConstants.{CHAINS_EACH};
 
 use crate::leases::{Held, Which};
 use crate::places::Places;
@@ -160,7 +161,8 @@ impl<D: Deed> LeaseList<D> {
 
     /// Moves all leases to places that have room for them.
     pub(crate) fn move_to(self, places: &mut Places<D>)
-        requires { 2 * (length places.old.places + length self) < length places.old.ends }
+        requires { CHAINS_EACH * (length places.old.places + length self)
+            < length places.old.ends }
         ensures leases { leases_in places.new.places ≡ leases_in places.old.places ++ self }
         ensures count { length places.new.places ≡ length places.old.places + length self }
         ensures chains { length places.new.ends ≡ length places.old.ends }

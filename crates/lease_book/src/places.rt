@@ -3,14 +3,16 @@
 //! lease, nor are those behind one that is taken out moved. Such a search goes along the places
 //! of a chain, the last of them first (chained hashing; which lease goes on which chain is our
 //! own choice).
-ghost use Rattle.std.specs.Prelude.{◌≡◌, ◌+◌, ◌*◌, ◌<◌, ◌≤◌, [], ◌∷◌, ◌++◌, length, Some, None};
-ghost use Rattle.std.specs.Prelude.{IfOk, OnOk, OnErr, IfNone, position, sum_by, is_some, nat_le};
+ghost use Rattle.std.specs.Prelude.{◌≡◌, ◌+◌, ◌*◌, ◌/◌, ◌<◌, ◌≤◌, [], ◌∷◌, ◌++◌, length};
+ghost use Rattle.std.specs.Prelude.{Some, None, IfOk, OnOk, OnErr, IfNone, position, sum_by};
+ghost use Rattle.std.specs.Prelude.{is_some, nat_le};
 ghost use Rattle.std.specs.List.{find, list_any};
 ghost use Rattle.lease_terms.specs.declared.values.TheConstants.{LARGEST};
 ghost use Rattle.lease_book.specs.Account.{Lease, is_lease, is_older, without_first};
 ghost use Rattle.lease_book.specs.BookState.{units_of_lease};
 ghost use Rattle.lease_book.specs.Places.{leases_in, is_asked, holds, chain_of, EmptyBefore};
 ghost use Rattle.lease_book.specs.declared.books.TheConstants.{MOST_LEASES};
+ghost use Rattle.lease_book.specs.declared.places.TheConstants.{CHAINS_EACH, MOST_PLACES};
 
 use crate::books::MOST_LEASES;
 use crate::lease_list::LeaseList;
@@ -25,8 +27,11 @@ use std::mem;
 /// hashing).
 const SPREAD: u64 = 0x9E37_79B9_7F4A_7C15;
 
-/// As many chains there may be: four for each lease of a client, and the first eight.
-const MOST_CHAINS: usize = 4 * MOST_LEASES + 8;
+/// How many chains there are for each place that there is room for. (Our own choice.)
+const CHAINS_EACH: usize = 3;
+
+/// As many places there may be: half as many again as a client's leases, and four.
+const MOST_PLACES: usize = MOST_LEASES + MOST_LEASES / 2 + 4;
 
 /// The place of a lease, or of one that was taken out.
 struct Place<D: Deed> {
@@ -97,7 +102,7 @@ pub(crate) struct Places<D: Deed> {
 impl<D: Deed> Model for Places<D> {
     ghost use Rattle.std.specs.Prelude.{◌*◌, ◌≤◌, length, vec_capacity};
     ghost use Rattle.lease_book.specs.Places.{PlacesState, IsChained, EmptyBefore};
-    ghost use Rattle.lease_book.specs.declared.places.TheConstants.{MOST_CHAINS};
+    ghost use Rattle.lease_book.specs.declared.places.TheConstants.{CHAINS_EACH, MOST_PLACES};
 
     ghost Value = { PlacesState };
 
@@ -107,8 +112,8 @@ impl<D: Deed> Model for Places<D> {
         IsChained (record { places = p.places.items; ends = p.ends.items })
         × (p.empty ≤ length p.places.items)
         × EmptyBefore p.empty p.places.items
-        × (length p.ends.items ≤ MOST_CHAINS)
-        × (length p.ends.items ≤ 2 * vec_capacity p.places) };
+        × (length p.ends.items ≤ CHAINS_EACH * MOST_PLACES)
+        × (length p.ends.items ≤ CHAINS_EACH * vec_capacity p.places) };
 }
 
 impl<D: Deed> Places<D> {
@@ -123,15 +128,17 @@ impl<D: Deed> Places<D> {
         }
     }
 
-    /// No place yet, with room for so many leases and as many again.
+    /// No place yet, with room for so many leases and half as many again. (Our own choice: with
+    /// room for as many again the places of many clients are spread over more memory.)
     fn with_room(alloc: Global, count: usize) -> Result<Places<D>, AllocError>
         requires { count ≤ MOST_LEASES }
         ensures places { IfOk result (λ p. p.places ≡ []) }
-        ensures chains { IfOk result (λ p. length p.ends ≡ 4 * count + 8) }
+        ensures chains { IfOk result (λ p. CHAINS_EACH * count < length p.ends) }
     {
+        let room = count + count / 2 + 4;
         let mut ends = Vec::new(alloc);
-        ends.resize(4 * count + 8, 0)?;
-        let places = Vec::with_capacity(alloc, 2 * count + 4)?;
+        ends.resize(CHAINS_EACH * room, 0)?;
+        let places = Vec::with_capacity(alloc, room)?;
         Ok(Places {
             places,
             ends,
@@ -141,9 +148,9 @@ impl<D: Deed> Places<D> {
 
     /// Whether there is no room for another.
     pub(crate) fn is_full(&self) -> bool
-        ensures { result ≡ nat_le (length self.now.ends) (2 * length self.now.places) }
+        ensures { result ≡ nat_le (length self.now.ends / CHAINS_EACH) (length self.now.places) }
     {
-        self.ends.len() <= 2 * self.places.len()
+        self.ends.len() / CHAINS_EACH <= self.places.len()
     }
 
     /// Puts the leases of a list, and those in places behind them, in new places with room for
@@ -154,7 +161,7 @@ impl<D: Deed> Places<D> {
         ensures list { OnOk result (few.new ≡ []) }
         ensures leases { OnOk result
             (leases_in self.new.places ≡ few.old ++ leases_in self.old.places) }
-        ensures room { OnOk result (2 * length self.new.places < length self.new.ends) }
+        ensures room { OnOk result (CHAINS_EACH * length self.new.places < length self.new.ends) }
         ensures unchanged { OnErr result ((self.new ≡ self.old) × (few.new ≡ few.old)) }
     {
         let mut fresh = Places::with_room(*self.places.allocator(), count)?;
@@ -171,11 +178,11 @@ impl<D: Deed> Places<D> {
 
     // Moves the leases out of places into new ones.
     fn move_in(&mut self, places: Vec<Place<D>>)
-        requires { 2 * (length self.old.places + length (leases_in places.items))
+        requires { CHAINS_EACH * (length self.old.places + length (leases_in places.items))
             < length self.old.ends }
         ensures leases { leases_in self.new.places
             ≡ leases_in self.old.places ++ leases_in places.items }
-        ensures room { 2 * length self.new.places < length self.new.ends }
+        ensures room { CHAINS_EACH * length self.new.places < length self.new.ends }
     {
         let mut rest = places.into_iter();
         while let Some(place) = rest.next() {
@@ -188,7 +195,7 @@ impl<D: Deed> Places<D> {
 
     /// Adds a lease.
     pub(crate) fn push(&mut self, held: Held<D>)
-        requires { 2 * length self.old.places < length self.old.ends }
+        requires { CHAINS_EACH * length self.old.places < length self.old.ends }
         ensures leases { leases_in self.new.places ≡ leases_in self.old.places ++ held ∷ [] }
         ensures places { length self.new.places ≡ length self.old.places + 1 }
         ensures chains { length self.new.ends ≡ length self.old.ends }
@@ -341,7 +348,7 @@ fn first_held<D: Deed>(places: &[Place<D>], empty: usize) -> Option<usize>
 
 /// The chain of the leases at a base, of so many, by the upper bits of a product.
 fn chain_of(base: u64, chains: usize) -> usize
-    requires { chains ≤ MOST_CHAINS }
+    requires { chains ≤ CHAINS_EACH * MOST_PLACES }
     ensures value { result ≡ chain_of base chains }
     ensures within { 0 < chains → result < chains }
 {

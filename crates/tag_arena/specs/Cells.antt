@@ -1,6 +1,6 @@
 -- The allocated ranges of an arena, in their cells.
 use Rattle.std.specs.Prelude.{◌≡◌, ◌≢◌, ◌<◌, ℕ, length, List, [], ◌∷◌}
-use Rattle.std.specs.Prelude.{Option, Some, None, slice_index_or}
+use Rattle.std.specs.Prelude.{Option, Some, None, slice_index_or, ◌==◌, if◌then◌else◌}
 use Rattle.std.specs.Ordering.{nat_cmp}
 use Rattle.std.specs.FinMap.{FinMap, empty, insert}
 use Rattle.deed_core.specs.Holding.{Holding}
@@ -11,6 +11,11 @@ use Rattle.tag_arena.specs.declared.cells.Standing.TheVariants.{Free, Allocated}
 abbrev pub allocated_of : Standing → Option Holding
 allocated_of (Free slot) = None
 allocated_of (Allocated range) = Some range
+
+-- the range of so many units from a base on, or none where there is no unit
+abbrev pub held_in : ℕ → ℕ → ℕ → Option Holding
+held_in root base len = if len == 0 then None
+    else Some (record { root = root; range = record { base = base; len = len } })
 
 -- what is allocated in a cell
 abbrev pub allocated_at : List (Option Holding) → ℕ → Option Holding

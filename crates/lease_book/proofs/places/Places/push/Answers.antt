@@ -2,6 +2,7 @@ use Rattle.std.proofs.Common.{◌≡◌, ℕ, ◌+◌, ◌*◌, ◌<◌, List, [
 use Rattle.std.proofs.lemmas.List.Elements.{filter_map-append}
 use Rattle.std.proofs.lemmas.List.{length-append, length-set}
 use Rattle.std.proofs.lemmas.Option.{slice_get_read}
+use Rattle.lease_book.specs.declared.places.TheConstants.{CHAINS_EACH}
 use Rattle.lease_book.specs.Places.{PlaceState, PlacesState, leases_in, chain_of}
 use Rattle.lease_book.proofs.EmptyPlaces.{empty_push}
 use Rattle.lease_book.proofs.PlacesLemmas.{chained_push}
@@ -10,8 +11,8 @@ use Rattle.lease_book.proofs.places.Places.push.Goals as goal
 pub invariant_of-self : goal.invariant_of-self
 invariant_of-self g c =
     let j = c.self.invariant in
-    let room : 2 * length c.self.inside.places.items < length c.self.inside.ends.items =
-    subst (λ (s : PlacesState). 2 * length s.places < length s.ends) (sym c.self.view_is) c.requires in
+    let room : CHAINS_EACH * length c.self.inside.places.items < length c.self.inside.ends.items =
+    subst (λ (s : PlacesState). CHAINS_EACH * length s.places < length s.ends) (sym c.self.view_is) c.requires in
     let many : c.len.result ≡ length c.self.inside.ends.items = c.len.ensures ∙ c.self.inside.ends.ok.0 in
     let below : c.chain_of-chain.result < c.len.result = c.chain_of-chain.ensures.within (omega (arith, room, many)) in
     let within : c.chain_of-chain.result < length c.self.inside.ends.items = omega (arith, below, many) in
