@@ -18,13 +18,13 @@
 //! What it costs: a look-up of a client takes the same time however many there are, and so does a
 //! refusal. A release reads through its client's leases while these never were more than 64; from
 //! then on, until none of them is left, it goes along one chain, mostly of one or two. A grant
-//! takes the same time too, but that now and then all leases of its client get new places: one is
+//! takes the same time too, but that now and then all leases of its client get new places: two are
 //! moved for each grant, on average; and that the first after a greater hello looks at each. A
 //! sweep, and `can_sweep` after a greater hello, look at a client's places from where the last
-//! sweep found a lease on, at most at `2 * MOST_LEASES + 4`, and `units` at all. Ending all leases
-//! one by one looks at each client once. A book keeps a few words for each client that ever said
-//! hello. A lease takes some 80 bytes while its client has few, and 70 to 140 and more in places,
-//! which stay until all are renewed or the last lease in them ends.
+//! sweep found a lease on, at most at half as many again as `MOST_LEASES` and four, and `units` at
+//! all. Ending all leases one by one looks at each client once. A book keeps a few words for each
+//! client that ever said hello. A lease takes some 80 bytes while its client has few, and 70 to 110
+//! and more in places, which stay until all are renewed or the last lease in them ends.
 #![tactic(auto)]
 
 mod accounts;

@@ -30,7 +30,8 @@ const SPREAD: u64 = 0x9E37_79B9_7F4A_7C15;
 /// How many chains there are for each place that there is room for. (Our own choice.)
 const CHAINS_EACH: usize = 3;
 
-/// As many places there may be: half as many again as a client's leases, and four.
+/// So many places there are at most: what `with_room` makes for as many leases as a client may
+/// have.
 const MOST_PLACES: usize = MOST_LEASES + MOST_LEASES / 2 + 4;
 
 /// The place of a lease, or of one that was taken out.
@@ -128,12 +129,13 @@ impl<D: Deed> Places<D> {
         }
     }
 
-    /// No place yet, with room for so many leases and half as many again. (Our own choice: with
-    /// room for as many again the places of many clients are spread over more memory.)
+    /// No place yet, with room for so many leases and half as many again. (Our own choice: room for
+    /// as many again is used up half as often, but lies on a third more memory.)
     fn with_room(alloc: Global, count: usize) -> Result<Places<D>, AllocError>
         requires { count ≤ MOST_LEASES }
         ensures places { IfOk result (λ p. p.places ≡ []) }
-        ensures chains { IfOk result (λ p. CHAINS_EACH * count < length p.ends) }
+        ensures chains { IfOk result (λ p.
+            length p.ends ≡ CHAINS_EACH * (count + count / 2 + 4)) }
     {
         let room = count + count / 2 + 4;
         let mut ends = Vec::new(alloc);

@@ -12,7 +12,7 @@ abbrev pub allocated_of : Standing → Option Holding
 allocated_of (Free slot) = None
 allocated_of (Allocated range) = Some range
 
--- the range of so many units from a base on, or none where there is no unit
+-- the range of so many units of a root from a base on, or none where there is no unit
 abbrev pub held_in : ℕ → ℕ → ℕ → Option Holding
 held_in root base len = if len == 0 then None
     else Some (record { root = root; range = record { base = base; len = len } })

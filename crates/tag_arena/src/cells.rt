@@ -6,7 +6,7 @@
 //! allocated ranges in their cells alone. All else is for speed: which cells are linked, and the
 //! slot of a free range, may be wrong, and who asks looks at the range itself, or searches.
 ghost use Rattle.std.specs.Prelude.{◌≡◌, ℕ, ◌<◌, ◌≤◌, [], None, Some, IfOk, IfSome, IsTrue};
-ghost use Rattle.std.specs.Prelude.{◌↔◌, ◌≢◌, length};
+ghost use Rattle.std.specs.Prelude.{◌↔◌, length};
 ghost use Rattle.deed_core.specs.Extent.{end_of};
 ghost use Rattle.deed_core.specs.Holding.{Holding};
 ghost use Rattle.tag_arena.specs.Cells.{allocated_at, allocated_of, CellBecomes, IsAt, IsVacant};
@@ -74,7 +74,8 @@ pub enum Standing {
 }
 
 /// What stands in a cell, the cells of the ranges beside it, and the next one of its chain. It
-/// takes 32 bytes, two to a cache line, and 48 with a `Standing` in it.
+/// takes 32 bytes, and would take 48 with a `Standing` in it: where many ranges are out, a call
+/// waits for the memory of cells.
 #[derive(Debug, Drop)]
 pub struct Cell {
     base: u64,
@@ -156,8 +157,8 @@ impl Cells {
     pub fn begins_at(&self, at: usize, base: u64) -> bool
         ensures { IsTrue result ↔ IsAt base at self.now }
     {
-        match self.peek(at) {
-            Some(range) => range.base() == base,
+        match self.cells.get(at) {
+            Some(cell) => cell.begins_at(base),
             None => false,
         }
     }
@@ -275,12 +276,11 @@ impl Cells {
         Some(self.cells.get(link.get()?)?.standing())
     }
 
-    /// What stands before the range in a cell, which begins at `base`.
-    fn left_of(&self, at: usize, base: u64) -> Side
+    /// What stands in the cell before a range, which begins at `base`.
+    fn left_of(&self, before: ShortIndex, base: u64) -> Side
         ensures { result ≡ Side.Allocated → (k : ℕ) × (h : Holding)
             × (allocated_at self.now k ≡ Some h) × (end_of h.range ≡ base) }
     {
-        let (before, _) = self.links(at);
         let Some(standing) = self.standing(before) else {
             return Side::Unknown;
         };
@@ -290,12 +290,11 @@ impl Cells {
         }
     }
 
-    /// What stands behind the range in a cell, which ends at `end`.
-    fn right_of(&self, at: usize, end: u64) -> Side
+    /// What stands in the cell behind a range, which ends at `end`.
+    fn right_of(&self, after: ShortIndex, end: u64) -> Side
         ensures { result ≡ Side.Allocated → (k : ℕ) × (h : Holding)
             × (allocated_at self.now k ≡ Some h) × (h.range.base ≡ end) }
     {
-        let (_, after) = self.links(at);
         let Some(standing) = self.standing(after) else {
             return Side::Unknown;
         };
@@ -312,9 +311,10 @@ impl Cells {
         ensures right { result.right ≡ Side.Allocated → (k : ℕ) × (h : Holding)
             × (allocated_at self.now k ≡ Some h) × (h.range.base ≡ end) }
     {
+        let (before, after) = self.links(at);
         Beside {
-            left: self.left_of(at, base),
-            right: self.right_of(at, end),
+            left: self.left_of(before, base),
+            right: self.right_of(after, end),
         }
     }
 
@@ -429,6 +429,13 @@ impl Cell {
             Some(range) => Standing::Allocated(HeldRange::new(self.number, range)),
             None => Standing::Free(self.number as usize),
         }
+    }
+
+    /// Whether a range is allocated in it, from a base on.
+    fn begins_at(&self, base: u64) -> bool
+        ensures { IsTrue result ↔ (h : Holding) × (self.now ≡ Some h) × (h.range.base ≡ base) }
+    {
+        self.len != 0 && self.base == base
     }
 
     /// A range is allocated in it.

@@ -39,7 +39,7 @@
 //! `Arena::remove_owned`. A request with a window of its own, from `min` to `max`, may try many
 //! ranges that don't serve it, and one on another grid than the last may weigh many anew. An index
 //! takes some 100 bytes for each range, free or allocated, whether `sizes` is kept yet or not,
-//! cells and chains some 60 to 120, and the lists 8 to 16, beside 1,024 of each arena: a carve and
+//! cells and chains some 40 to 80, and the lists 8 to 16, beside 1,024 of each arena: a carve and
 //! a new span make room for what they add, and for each allocated range to become free, before they
 //! change anything. So `Arena::free` and `Arena::remove_owned` take no memory.
 //!
