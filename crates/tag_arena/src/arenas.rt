@@ -411,12 +411,15 @@ impl<D: Deed> Arena<D> {
     }
 
     /// Goes to the allocated range at a base. It is for speed alone: called before the segment is
-    /// at hand, it lets a free of it wait less for memory. The order of bases is left alone: a
-    /// search there is guessed wrong so often that nothing else could be waited for meanwhile.
+    /// at hand, it lets a free of it wait less for memory.
     pub fn go_to(&mut self, base: u64)
         ensures unchanged { self.new ≡ self.old }
     {
-        self.tags.go_to(base);
+        // Under `next` the order of bases is searched once the first cell is asked for: so the two
+        // are waited for together. Behind a search that was guessed wrong, each would be alone.
+        let first = self.tags.first(base);
+        self.free.go_to(base);
+        self.tags.go_to(first, base);
     }
 
     /// Frees a segment, and merges its range with its free neighbors inside its span. An imported

@@ -7,11 +7,11 @@ use crate::chains::Chains;
 use crate::short_indexes::ShortIndex;
 use std::alloc::{AllocError, Global};
 
-/// The cell where a range is allocated at a base, if it is on its chain.
-pub fn on_chain(cells: &Cells, chains: &Chains, base: u64) -> Option<usize>
+/// The cell where a range is allocated at a base, if it is on the chain that begins with a cell.
+pub fn on_chain(cells: &Cells, first: ShortIndex, base: u64) -> Option<usize>
     ensures { IfSome result (λ k. IsAt base k cells.now) }
 {
-    let mut link = chains.head(base);
+    let mut link = first;
     for _ in 0..cells.len() {
         let at = link.get()?;
         if cells.begins_at(at, base) {
@@ -44,7 +44,7 @@ pub fn cell_at(cells: &Cells, chains: &Chains, likely: usize, base: u64) -> Opti
     if cells.begins_at(likely, base) {
         return Some(likely);
     }
-    if let Some(at) = on_chain(cells, chains, base) {
+    if let Some(at) = on_chain(cells, chains.head(base), base) {
         return Some(at);
     }
     by_each(cells, base)

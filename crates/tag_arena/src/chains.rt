@@ -9,7 +9,16 @@ use std::alloc::{AllocError, Global};
 /// hashing).
 const SPREAD: u64 = 0x9E37_79B9_7F4A_7C15;
 
-/// How many chains there are at first. Their number is doubled from then on.
+/// The heads of so many units lie side by side: where ranges beside each other are let out in turn,
+/// or become free, their heads are in memory that is at hand. (Our own choice: ranges of one unit
+/// share a head by twos then, and longer ones lie further apart.)
+const BLOCK: u64 = 128;
+
+/// So many units have one chain.
+const UNITS_EACH: u64 = 2;
+
+/// How many chains there are at first, as many as a block has. Their number is doubled from then
+/// on.
 const FIRST_CHAINS: usize = 64;
 
 /// The first cell of each chain.
@@ -31,10 +40,19 @@ impl Chains {
         self.heads.len()
     }
 
-    /// The chain of the ranges at a base, by the upper bits of a product.
+    /// The chain of the ranges at a base: that of its block, by the upper bits of a product, and
+    /// from there on that of its units. Behind the last comes the first.
     fn chain_of(&self, base: u64) -> usize {
-        let spread = base.wrapping_mul(SPREAD) >> 32;
-        (spread.wrapping_mul(self.heads.len() as u64) >> 32) as usize
+        let count = self.heads.len();
+        let spread = (base / BLOCK).wrapping_mul(SPREAD) >> 32;
+        let first = (spread.wrapping_mul(count as u64) >> 32) as usize;
+        let within = (base % BLOCK / UNITS_EACH) as usize;
+        let chain = first.wrapping_add(within);
+        if chain < count {
+            chain
+        } else {
+            chain.wrapping_sub(count)
+        }
     }
 
     /// The first cell of the chain of a base.

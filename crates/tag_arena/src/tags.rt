@@ -10,6 +10,7 @@ use crate::cells::{Beside, Cells, Origin, Sides};
 use crate::chained::{cell_at, on_chain, put_on, take_off, widen};
 use crate::chains::Chains;
 use crate::held_ranges::HeldRange;
+use crate::short_indexes::ShortIndex;
 use std::alloc::{AllocError, Global};
 use std::marker::Model;
 
@@ -27,14 +28,18 @@ pub struct Placed {
     pub behind: Option<usize>,
 }
 
-/// Each allocated range in a cell of its own, how many they are, and the cell last gone to.
+/// Each allocated range in a cell of its own, and how many they are.
 #[derive(Drop)]
 pub struct Tags {
     alloc: Global,
     cells: Cells,
     chains: Chains,
     count: usize,
+    /// The cell last gone to.
     near: usize,
+    /// How many units were allocated beside it. No one asks: it is kept so that these cells are
+    /// read when that one is gone to, and are at hand when its range becomes free.
+    beside: u64,
 }
 
 impl Model for Tags {
@@ -65,6 +70,7 @@ impl Tags {
             chains: Chains::new(alloc),
             count: 0,
             near: 0,
+            beside: 0,
         }
     }
 
@@ -74,15 +80,22 @@ impl Tags {
         self.count
     }
 
-    /// Goes to a base. It is for speed alone: a `get` at the same base needs no search then.
-    pub fn go_to(&mut self, base: u64)
+    /// The first cell of the chain of a base, for `go_to`.
+    pub fn first(&self, base: u64) -> ShortIndex {
+        self.chains.head(base)
+    }
+
+    /// Goes to a base, along the chain that begins with this cell. It is for speed alone: a `get`
+    /// at the same base needs no search then, and what stands beside it is at hand.
+    pub fn go_to(&mut self, first: ShortIndex, base: u64)
         ensures unchanged { self.new ≡ self.old }
     {
         if self.cells.begins_at(self.near, base) {
             return;
         }
-        if let Some(at) = on_chain(&self.cells, &self.chains, base) {
+        if let Some(at) = on_chain(&self.cells, first, base) {
             self.near = at;
+            self.beside = self.cells.units_beside(at);
         }
     }
 
