@@ -131,6 +131,14 @@ impl<D: Deed> Book<D> {
         self.accounts.go_to(client);
     }
 
+    /// Looks ahead to a client's lease at a base. It is for speed alone: called before an arena is
+    /// told the base, it lets the release wait for memory while the arena does.
+    pub fn look_ahead(&mut self, client: ClientId, base: Quantity)
+        ensures unchanged { self.new ≡ self.old }
+    {
+        self.accounts.look_ahead(client, base);
+    }
+
     /// What a request's number is to the book.
     pub fn look(&self, id: RequestId) -> Look<D>
         ensures look { IsLook self.now (account_in id.client self.now) id result }

@@ -194,6 +194,11 @@ impl<D: Deed> Leases<D> {
         Some(held)
     }
 
+    /// Behind which place the search for a lease at this base begins. It is for speed alone.
+    pub(crate) fn search_from(&self, base: u64) -> u16 {
+        self.places.search_from(base)
+    }
+
     /// Whether there is one of an incarnation before this one.
     pub(crate) fn has_older(&self, incarnation: Ordinal) -> bool
         ensures { result ≡ list_any (is_older incarnation) self.now }

@@ -289,6 +289,15 @@ impl<D: Deed> Places<D> {
         found
     }
 
+    /// Behind which place the search for a lease at this base begins. It is for speed alone: so that
+    /// is read.
+    pub(crate) fn search_from(&self, base: u64) -> u16 {
+        match self.ends.get(chain_of(base, self.ends.len())) {
+            Some(end) => *end,
+            None => 0,
+        }
+    }
+
     /// Whether a lease of an incarnation before this one stands there.
     pub(crate) fn has_older(&self, incarnation: Ordinal) -> bool
         ensures { result ≡ list_any (is_older incarnation) (leases_in self.now.places) }

@@ -54,7 +54,8 @@ fn release_in(
     ensures step { RequestStep id (ops.Release line.now)
         (picture_with book.old supply.old) (picture_with book.new supply.new) result }
 {
-    // For speed alone: the arena looks for the segment's memory while the book is asked.
+    // For speed alone: what the book and the arena wait for first is asked for by both.
+    book.look_ahead(id.client, line.base);
     supply.go_to(arena, line.base.get());
     match book.release(id, arena, line.base) {
         Ok((_, segment)) => {
