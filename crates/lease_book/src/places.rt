@@ -292,10 +292,10 @@ impl<D: Deed> Places<D> {
     /// Behind which place the search for a lease at this base begins. It is for speed alone: so that
     /// is read.
     pub(crate) fn search_from(&self, base: u64) -> u16 {
-        match self.ends.get(chain_of(base, self.ends.len())) {
-            Some(end) => *end,
-            None => 0,
-        }
+        let Some(end) = self.ends.get(chain_of(base, self.ends.len())) else {
+            return 0;
+        };
+        *end
     }
 
     /// Whether a lease of an incarnation before this one stands there.
