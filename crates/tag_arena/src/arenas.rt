@@ -410,16 +410,16 @@ impl<D: Deed> Arena<D> {
         Ok(Segment::new(self.id, Route::Direct, deed.into_deed()))
     }
 
-    /// Goes to the allocated range at a base. It is for speed alone: called before the segment is
-    /// at hand, it lets a free of it wait less for memory.
+    /// Goes to the allocated range at a base. It is for speed alone: a free waits less for memory.
     pub fn go_to(&mut self, base: u64)
         ensures unchanged { self.new ≡ self.old }
     {
-        // Under `next` the order of bases is searched once the first cell is asked for: so the two
-        // are waited for together. Behind a search that was guessed wrong, each would be alone.
+        // The order of bases is searched while the first cell of the chain is waited for.
         let first = self.tags.first(base);
-        self.free.go_to(base);
-        self.tags.go_to(first, base);
+        if first.get().is_some() {
+            self.free.go_to(base);
+            self.tags.go_to(first, base);
+        }
     }
 
     /// Frees a segment, and merges its range with its free neighbors inside its span. An imported
