@@ -56,7 +56,8 @@ pub(crate) struct Accounts<D: Deed> {
     leases: Vec<Leases<D>>,
     empty: usize,
     near: usize,
-    /// Where the search that was looked ahead to begins. No one asks: it is kept so that it is read.
+    /// What was read of the lease that was looked ahead to. No one asks: it is kept so that the
+    /// read isn't left out.
     ahead: u16,
 }
 
@@ -125,23 +126,27 @@ impl<D: Deed> Accounts<D> {
         }
     }
 
-    /// Goes to a client's account. It is for speed alone: the next search for it is short.
-    pub(crate) fn go_to(&mut self, client: ClientId)
+    /// Goes to a client's account, and looks ahead to its lease at a base, if one is told. It is
+    /// for speed alone: the next search for the account is short, and that for the lease begins
+    /// with what is at hand.
+    pub(crate) fn go_to(&mut self, client: ClientId, base: Option<Quantity>)
         ensures unchanged { self.new ≡ self.old }
     {
         if let Some(index) = self.find(client) {
             self.near = index;
+            self.look_ahead(index, base);
         }
     }
 
-    /// Looks ahead to where the search for a client's lease at a base begins. It is for speed alone.
-    pub(crate) fn look_ahead(&mut self, client: ClientId, base: Quantity)
+    /// Reads where the search for a lease at a base begins.
+    fn look_ahead(&mut self, index: usize, base: Option<Quantity>)
         ensures unchanged { self.new ≡ self.old }
     {
-        if let Some(index) = self.find(client) {
-            if let Some(leases) = self.leases.get(index) {
-                self.ahead = leases.search_from(base.get());
-            }
+        let Some(base) = base else {
+            return;
+        };
+        if let Some(leases) = self.leases.get(index) {
+            self.ahead = leases.search_end(base.get());
         }
     }
 

@@ -124,19 +124,13 @@ impl<D: Deed> Book<D> {
         Ok(())
     }
 
-    /// Goes to a client. It is for speed alone: the next calls for it find it at once.
-    pub fn go_to(&mut self, client: ClientId)
+    /// Goes to a client, and looks ahead to its lease at a base, if one is told. It is for speed
+    /// alone: the next calls for the client find it at once, and a release of one of many leases
+    /// begins with what is at hand.
+    pub fn go_to(&mut self, client: ClientId, base: Option<Quantity>)
         ensures unchanged { self.new ≡ self.old }
     {
-        self.accounts.go_to(client);
-    }
-
-    /// Looks ahead to a client's lease at a base. It is for speed alone: called before an arena is
-    /// told the base, it lets the release wait for memory while the arena does.
-    pub fn look_ahead(&mut self, client: ClientId, base: Quantity)
-        ensures unchanged { self.new ≡ self.old }
-    {
-        self.accounts.look_ahead(client, base);
+        self.accounts.go_to(client, base);
     }
 
     /// What a request's number is to the book.

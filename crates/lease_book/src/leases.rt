@@ -194,9 +194,10 @@ impl<D: Deed> Leases<D> {
         Some(held)
     }
 
-    /// Behind which place the search for a lease at this base begins. It is for speed alone.
-    pub(crate) fn search_from(&self, base: u64) -> u16 {
-        self.places.search_from(base)
+    /// Before which place a search for a lease at this base begins, if it comes to places. It is
+    /// for speed alone.
+    pub(crate) fn search_end(&self, base: u64) -> u16 {
+        self.places.search_end(base)
     }
 
     /// Whether there is one of an incarnation before this one.

@@ -289,9 +289,9 @@ impl<D: Deed> Places<D> {
         found
     }
 
-    /// Behind which place the search for a lease at this base begins. It is for speed alone: so that
-    /// is read.
-    pub(crate) fn search_from(&self, base: u64) -> u16 {
+    /// Before which place a search for a lease at this base begins: the end of its chain. It is for
+    /// speed alone.
+    pub(crate) fn search_end(&self, base: u64) -> u16 {
         let Some(end) = self.ends.get(chain_of(base, self.ends.len())) else {
             return 0;
         };

@@ -21,7 +21,8 @@ use crate::supplies::Supply;
 use arena_tree::{MOST_ARENAS, MOST_SPANS, Setup};
 use deed_core::{PlainDeed, Range};
 use lease_book::Book;
-use lease_proto::{LINE_ROOM, Line, OperatorLine, ServedLine, served_law};
+use lease_proto::{LINE_ROOM, Line, Op, OperatorLine, ServedLine, served_law};
+use lease_terms::Quantity;
 use std::alloc::{AllocError, Global};
 use std::marker::Model;
 use stock::close_plain_stock;
@@ -132,8 +133,9 @@ impl Desk {
         ensures unchanged { OnErr result (self.new ≡ self.old) }
         ensures kept { StaysPicture self.old self.new }
     {
-        // For speed alone: the book looks the client up once, and then has it at hand.
-        self.book.go_to(line.client());
+        // For speed alone: the book looks the client up once, and then has it at hand, and begins
+        // with a release before the arena is asked.
+        self.book.go_to(line.client(), released_base(line));
         reply(&mut self.supply, &mut self.book, line).write(out)
     }
 
@@ -157,5 +159,13 @@ impl Desk {
         }
         empty_all(alloc, &tree, &mut stock, cpus);
         close_plain_stock(stock);
+    }
+}
+
+/// The base of what a line releases, if it does.
+fn released_base(line: &Line) -> Option<Quantity> {
+    match line {
+        Line::Request(_, Op::Release(release)) => Some(release.base),
+        _ => None,
     }
 }

@@ -54,8 +54,7 @@ fn release_in(
     ensures step { RequestStep id (ops.Release line.now)
         (picture_with book.old supply.old) (picture_with book.new supply.new) result }
 {
-    // For speed alone: what the book and the arena wait for first is asked for by both.
-    book.look_ahead(id.client, line.base);
+    // For speed alone: the arena looks for the segment's memory while the book is asked.
     supply.go_to(arena, line.base.get());
     match book.release(id, arena, line.base) {
         Ok((_, segment)) => {

@@ -414,8 +414,8 @@ impl<D: Deed> Arena<D> {
     pub fn go_to(&mut self, base: u64)
         ensures unchanged { self.new ≡ self.old }
     {
-        // The order of bases is searched while the first cell of the chain is waited for.
-        let first = self.tags.first(base);
+        // The order of bases is searched while the head of the chain is waited for.
+        let first = self.tags.head(base);
         if first.get().is_some() {
             self.free.go_to(base);
             self.tags.go_to(first, base);

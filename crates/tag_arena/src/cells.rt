@@ -318,8 +318,8 @@ impl Cells {
         }
     }
 
-    /// How many units are allocated in the cells beside a cell. It is for speed alone: so these are
-    /// read.
+    /// How many units are allocated in the cells beside a cell, which are read so. It is for speed
+    /// alone.
     pub fn units_beside(&self, at: usize) -> u64 {
         let (before, after) = self.links(at);
         self.units(before).wrapping_add(self.units(after))

@@ -10,16 +10,16 @@ use std::alloc::{AllocError, Global};
 const SPREAD: u64 = 0x9E37_79B9_7F4A_7C15;
 
 /// The heads of so many units lie side by side: where ranges beside each other are let out in turn,
-/// or become free, their heads are in memory that is at hand. (Our own choice: ranges of one unit
-/// share a head by twos then, and longer ones lie further apart.)
+/// or become free, their heads are in memory that is at hand. (Our own choice.)
 const BLOCK: u64 = 128;
 
-/// So many units have one chain.
+/// So many units have one chain: two ranges of one unit may share it, which costs a look more for
+/// one of them. (Our own choice.)
 const UNITS_EACH: u64 = 2;
 
-/// How many chains there are at first, as many as a block has. Their number is doubled from then
+/// How many chains there are at first: no fewer than a block has. Their number is doubled from then
 /// on.
-const FIRST_CHAINS: usize = 64;
+const FIRST_CHAINS: usize = (BLOCK / UNITS_EACH) as usize;
 
 /// The first cell of each chain.
 #[derive(Drop)]

@@ -37,9 +37,9 @@ pub struct Tags {
     count: usize,
     /// The cell last gone to.
     near: usize,
-    /// How many units were allocated beside it. No one asks: it is kept so that these cells are
-    /// read when that one is gone to, and are at hand when its range becomes free.
-    beside: u64,
+    /// How many units were allocated beside it. No one asks: it is kept so that the read isn't left
+    /// out, and these cells are at hand when the range becomes free.
+    units_beside: u64,
 }
 
 impl Model for Tags {
@@ -70,7 +70,7 @@ impl Tags {
             chains: Chains::new(alloc),
             count: 0,
             near: 0,
-            beside: 0,
+            units_beside: 0,
         }
     }
 
@@ -81,12 +81,12 @@ impl Tags {
     }
 
     /// The first cell of the chain of a base, for `go_to`.
-    pub fn first(&self, base: u64) -> ShortIndex {
+    pub fn head(&self, base: u64) -> ShortIndex {
         self.chains.head(base)
     }
 
     /// Goes to a base, along the chain that begins with this cell. It is for speed alone: a `get`
-    /// at the same base needs no search then, and what stands beside it is at hand.
+    /// at the same base needs no search then, and the cells that it is linked with are at hand.
     pub fn go_to(&mut self, first: ShortIndex, base: u64)
         ensures unchanged { self.new ≡ self.old }
     {
@@ -95,7 +95,7 @@ impl Tags {
         }
         if let Some(at) = on_chain(&self.cells, first, base) {
             self.near = at;
-            self.beside = self.cells.units_beside(at);
+            self.units_beside = self.cells.units_beside(at);
         }
     }
 
