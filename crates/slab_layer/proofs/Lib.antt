@@ -4,9 +4,13 @@ pub mod PassingLemmas
 pub mod SlabLemmas
 pub mod SearchLemmas
 pub mod ListLemmas
+pub mod BaseLemmas
+pub mod ListedLemmas
 pub mod SoundLemmas
 pub mod MoveLemmas
 pub mod MineLemmas
+pub mod CountLemmas
+pub mod FindLemmas
 pub mod ReportLemmas
 pub mod ChunkLemmas
 pub mod LawProofs

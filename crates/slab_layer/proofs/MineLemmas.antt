@@ -13,7 +13,6 @@ use Rattle.slab_layer.specs.Calls.{StandsAt, IsChunk}
 use Rattle.slab_layer.proofs.RowLemmas.{room_for}
 use Rattle.slab_layer.proofs.SlabLemmas.{place_is}
 use Rattle.slab_layer.proofs.ListLemmas.{contains_part, part_contains}
-use Rattle.slab_layer.proofs.SearchLemmas.{same_slab}
 use Rattle.slab_layer.proofs.SoundLemmas.{of_size}
 use Rattle.slab_layer.proofs.MoveLemmas.{slab_of_size}
 
@@ -193,15 +192,13 @@ not_found t x c r e view root range none =
     record { not_out = λ has. found false t c r e root range all (out_is_chunk t c has); not_idle = λ has. found true t c r e root range all (idle_is_chunk t c has) }
 
 -- the chunk that was found
-pub made_chunk : (i j : ℕ) (s u : SlabState) (b : Bool) (t : Tag) (r : ℕ) (e : Extent) (x c : SlabCacheState) → x ≡ c → StandsAt i s x.slabs → j < length s.home → chunk_at s j ≡ held r e
-    → r ≡ t.holding.root → e ≡ t.holding.range → (t.arena ≡ c.arena) × (t.route ≡ Cached c.k) → u ≡ get_or x.slabs i u → get_or u.home j false ≡ b → IsChunk i j s b t c
-made_chunk i j s u b t r e x c view stands within chunk root range routed is home =
-    let same : u ≡ s = same_slab i s u x.slabs stands is in
-    let here : get_or s.home j false ≡ b = subst (λ (y : SlabState). get_or y.home j false ≡ b) same home in
+pub made_chunk : (i j : ℕ) (s : SlabState) (b : Bool) (t : Tag) (r : ℕ) (e : Extent) (x c : SlabCacheState) → x ≡ c → StandsAt i s x.slabs → j < length s.home → chunk_at s j ≡ held r e
+    → r ≡ t.holding.root → e ≡ t.holding.range → (t.arena ≡ c.arena) × (t.route ≡ Cached c.k) → get_or s.home j false ≡ b → IsChunk i j s b t c
+made_chunk i j s b t r e x c view stands within chunk root range routed home =
     let holding : t.holding ≡ chunk_at s j = sym (held_is t r e root range) ∙ sym chunk in
     record {
       stands = subst (λ (y : SlabCacheState). StandsAt i s y.slabs) view stands;
       within = within;
-      home = get_or_default s.home j b false within ∙ here;
+      home = get_or_default s.home j b false within ∙ home;
       tag = λ n. record { arena = routed.0 n; route = routed.1 n; holding = holding n };
     }

@@ -1,5 +1,5 @@
 -- What the moves of a cache weigh.
-use Rattle.std.proofs.Common.{◌≡◌, inl, inr, zero-add, ℕ, ◌+◌, ◌-◌, ◌*◌, ◌/◌, ◌<◌, ◌≤◌, Bool, true, false, not, List, [], ◌++◌, length, get_or, set, map, Option, insert, remove, refl, sym, ap, ◌∙◌, arith}
+use Rattle.std.proofs.Common.{◌≡◌, All, inl, inr, zero-add, ℕ, ◌+◌, ◌-◌, ◌*◌, ◌/◌, ◌<◌, ◌≤◌, Bool, true, false, not, List, [], ◌++◌, length, get_or, set, map, Option, insert, remove, refl, sym, ap, ◌∙◌, arith}
 use Rattle.std.specs.Prelude.{sum_by}
 use Rattle.std.specs.List.{flat_map}
 use Rattle.std.specs.Option.{option_to_list}
@@ -160,6 +160,9 @@ slab_of_size c s sound size =
     let below : c.slab_size / n * n ≤ c.slab_size = div-mul-le_self c.slab_size n in
     let units : length s.home * s.chunk ≡ c.slab_size / n * n = ap (λ k. k * s.chunk) size.count ∙ ap (λ k. c.slab_size / n * k) size.chunk in
     record { some = rw size.chunk sound.some; room = omega (arith, below, units, size.colour, size.size) }
+
+pub all_slabs : (c : SlabCacheState) → IsSoundCache c → All IsSlab c.slabs
+all_slabs c sound k d within = slab_of_size c (get_or c.slabs k d) sound (sound.slabs k d within)
 
 pub reaps_out : (i : ℕ) (s : SlabState) (old new : SlabCacheState) (t : Tag) → Reaps i s old new t → WeighSame (chunks_out old) (chunks_out new)
 reaps_out i s old new t reaps f =

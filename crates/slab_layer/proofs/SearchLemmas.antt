@@ -1,11 +1,15 @@
 -- Slabs by ascending base, and the choice among them.
-use Rattle.std.proofs.Common.{◌≡◌, inl, inr, ℕ, ◌+◌, ◌<◌, ◌≤◌, Bool, true, false, List, length, get_or, All, AllPairs, sym, ap, ◌∙◌, arith, subst}
+use Rattle.std.proofs.Common.{◌≡◌, inl, inr, ℕ, ◌+◌, ◌<◌, ◌≤◌, Bool, true, false, cond, nat_lt, zero, suc, List, [], ◌∷◌, length, get_or, map, All, AllPairs, refl, sym, ap, ◌∙◌, arith, subst}
 use Rattle.std.specs.Prelude.{Contains}
+use Rattle.std.specs.List.{filter}
+use Rattle.std.specs.List.Sorted.{IsPartitionedBy}
+use Rattle.std.proofs.lemmas.Bool.Decides.{nat_tests}
 use Rattle.std.proofs.lemmas.Bool.{cases_lt, cases_order, cases_Bool}
 use Rattle.std.proofs.lemmas.List.{get_or_default, get_or_read}
-use Rattle.std.proofs.lemmas.List.Elements.{All-get_or}
+use Rattle.std.proofs.lemmas.List.Elements.{All-get_or, All-nil, All-cons}
 use Rattle.slab_layer.specs.Slab.{SlabState, IsAllOut, IsComplete, IsPartial, IsLowestIdle}
 use Rattle.slab_layer.specs.Cache.{IsBelow}
+use Rattle.slab_layer.specs.Bases.{bases_where}
 use Rattle.slab_layer.specs.Calls.{StandsAt, IsLowest, IsNext}
 use Rattle.slab_layer.proofs.PassingLemmas.{some_false, no_true}
 
@@ -77,3 +81,71 @@ not_all_out i j s slabs stands idle out =
 pub not_none_complete : (i : ℕ) (s : SlabState) (slabs : List SlabState) → IsLowest IsComplete i s slabs → All (λ t. IsComplete t → ⊥) slabs → ⊥
 not_none_complete i s slabs lowest none =
     none i s lowest.stands.within (subst (λ (t : SlabState). IsComplete t) (sym lowest.stands.is) lowest.so)
+
+-- slabs by ascending base are halved by a test of the base
+pub parted : (base : ℕ) (slabs : List SlabState) → AllPairs IsBelow slabs → IsPartitionedBy (λ s. nat_lt s.span.range.base base) slabs
+parted base slabs ascending i j d reach within low = elim (cases_lt i j) [
+  | inl before ↦ let up : IsBelow (get_or slabs i d) (get_or slabs j d) = ascending i j d before within in let less : (get_or slabs j d).span.range.base < base = grind (arith, nat_tests) in let under : (get_or slabs i d).span.range.base < base = omega (arith, up, less) in grind (arith, nat_tests)
+  | inr other ↦ let e : i ≡ j = omega arith in rw e low
+]
+
+-- where slabs are cut by a base
+pub record IsCut (base i : ℕ) (slabs : List SlabState) : Type 0 where
+  pub within : i ≤ length slabs
+  pub below : (k : ℕ) (d : SlabState) → k < i → (get_or slabs k d).span.range.base < base
+  pub above : i < length slabs → (d : SlabState) → base ≤ (get_or slabs i d).span.range.base
+
+-- from there on none begins below the base
+pub from_cut : (base i : ℕ) (slabs : List SlabState) → AllPairs IsBelow slabs → IsCut base i slabs → (k : ℕ) (d : SlabState) → i ≤ k → k < length slabs → base ≤ (get_or slabs k d).span.range.base
+from_cut base i slabs ascending cut k d reach within = elim (cases_lt i k) [
+  | inl behind ↦ let up : IsBelow (get_or slabs i d) (get_or slabs k d) = ascending i k d behind within in omega (arith, up, cut.above (omega arith) d)
+  | inr other ↦ let e : i ≡ k = omega arith in subst (λ (n : ℕ). base ≤ (get_or slabs n d).span.range.base) e (cut.above (omega arith) d)
+]
+
+-- the first slab that passes, and its base
+pub record IsFirst (test : SlabState → Bool) (base i : ℕ) (s : SlabState) (slabs : List SlabState) : Type 0 where
+  pub within : i < length slabs
+  pub is : s ≡ get_or slabs i s
+  pub passes : test s ≡ true
+  pub base_is : s.span.range.base ≡ base
+  pub before : (k : ℕ) (d : SlabState) → k < i → test (get_or slabs k d) ≡ false
+
+none_before : (test : SlabState → Bool) (s : SlabState) (ss : List SlabState) (i : ℕ) → test s ≡ false → ((k : ℕ) (d : SlabState) → k < i → test (get_or ss k d) ≡ false) → (k : ℕ) (d : SlabState) → k < suc i → test (get_or (s ∷ ss) k d) ≡ false
+none_before test s ss i out rest zero d before = out
+none_before test s ss i out rest (suc k) d before = rest k d (omega arith)
+
+first_listed : (test : SlabState → Bool) (base : ℕ) (rest : List ℕ) (slabs : List SlabState) → bases_where test slabs ≡ base ∷ rest → (i : ℕ) × (s : SlabState) × IsFirst test base i s slabs
+first_listed test base rest [] first = cc
+first_listed test base rest (s ∷ ss) first = elim (test s) as (λ b. test s ≡ b → map (λ (x : SlabState). x.span.range.base) (cond b (s ∷ filter test ss) (filter test ss)) ≡ base ∷ rest → (i : ℕ) × (r : SlabState) × IsFirst test base i r (s ∷ ss)) [
+  | true ↦ λ e listed. (0, s, record { within = omega arith; is = refl; passes = e; base_is = ap (λ (bs : List ℕ). get_or bs 0 0) listed; before = λ k d before. absurd (omega arith) })
+  | false ↦ λ e listed. let r = first_listed test base rest ss listed in (suc r.0, r.1, record { within = omega (arith, r.2.within); is = r.2.is; passes = r.2.passes; base_is = r.2.base_is; before = none_before test s ss r.0 e r.2.before })
+] refl first
+
+-- where a base that is listed is cut off, its slab stands
+pub cut_at : (test : SlabState → Bool) (base i : ℕ) (rest : List ℕ) (slabs : List SlabState) → AllPairs IsBelow slabs → All (λ s. 0 < s.span.range.len) slabs → bases_where test slabs ≡ base ∷ rest → IsCut base i slabs → (s : SlabState) × IsLowest (λ t. test t ≡ true) i s slabs
+cut_at test base i rest slabs ascending some listed cut =
+    let f = first_listed test base rest slabs listed in
+    let s = f.1 in
+    let first = f.2 in
+    let lowest : IsLowest (λ t. test t ≡ true) f.0 s slabs = lowest_here (λ t. test t ≡ true) slabs f.0 s ascending first.within first.is first.passes (λ k d before passes. let out = first.before k d before in cc) in
+    let same : f.0 ≡ i = elim (cases_order f.0 i) [
+      | inl here ↦ here
+      | inr other ↦ elim other [
+        | inl before ↦ let low = cut.below f.0 s before in let at = ap (λ (r : SlabState). r.span.range.base) first.is in absurd (omega (arith, low, at, first.base_is))
+        | inr after ↦
+            let high = cut.above (omega (arith, first.within)) s in
+            let up : IsBelow (get_or slabs i s) (get_or slabs f.0 s) = ascending i f.0 s after first.within in
+            let units = some i s (omega (arith, first.within)) in
+            let at = ap (λ (r : SlabState). r.span.range.base) first.is in
+            absurd (omega (arith, high, up, units, at, first.base_is))
+      ]
+    ] in
+    (s, subst (λ (n : ℕ). IsLowest (λ t. test t ≡ true) n s slabs) same lowest)
+
+-- none is listed where none passes
+pub none_listed : (test : SlabState → Bool) (slabs : List SlabState) → bases_where test slabs ≡ [] → All (λ s. test s ≡ false) slabs
+none_listed test [] none = All-nil (λ s. test s ≡ false)
+none_listed test (s ∷ ss) none = elim (test s) as (λ b. test s ≡ b → map (λ (x : SlabState). x.span.range.base) (cond b (s ∷ filter test ss) (filter test ss)) ≡ [] → All (λ x. test x ≡ false) (s ∷ ss)) [
+  | true ↦ λ e listed. cc
+  | false ↦ λ e listed. All-cons (λ x. test x ≡ false) s ss e (none_listed test ss listed)
+] refl none

@@ -1,5 +1,5 @@
 -- The deeds of a slab.
-use Rattle.std.proofs.Common.{◌≡◌, ℕ, ◌+◌, ◌-◌, ◌*◌, ◌/◌, ◌%◌, ◌<◌, ◌≤◌, Bool, true, false, not, min, List, [], ◌∷◌, ◌++◌, length, get_or, set, All, Option, Some, None, map, is_some, refl, sym, ap, ◌∙◌, arith, subst}
+use Rattle.std.proofs.Common.{◌≡◌, ℕ, cond, ◌+◌, ◌-◌, ◌*◌, ◌/◌, ◌%◌, ◌<◌, ◌≤◌, Bool, true, false, not, min, List, [], ◌∷◌, ◌++◌, length, get_or, set, All, Option, Some, None, map, is_some, refl, sym, ap, ◌∙◌, arith, subst}
 use Rattle.std.proofs.Math.ListN.{replicate}
 use Rattle.std.proofs.Math.Nat.{mul-le-mul_right, mul-mod_left, mul-div_left}
 use Rattle.std.specs.Prelude.{count_by, MatchOption, ◌↔◌}
@@ -7,11 +7,13 @@ use Rattle.std.specs.Option.{option_to_list}
 use Rattle.std.proofs.lemmas.Bool.{not-false}
 use Rattle.std.proofs.lemmas.Option.{same_Some}
 use Rattle.std.proofs.lemmas.List.Elements.{All-nil, All-cons, All-head, All-tail, All-same}
+use Rattle.std.proofs.lemmas.List.Sums.{sum_by-set, count_by-le-length}
+use Rattle.std.proofs.lemmas.List.Folds.{sum_by-replicate}
 use Rattle.std.proofs.lemmas.List.{length-set, length-replicate, map-set}
 use Rattle.deed_core.specs.Covering.{units_held}
 use Rattle.deed_core.specs.Holding.{Holding, piece}
 use Rattle.slab_layer.specs.Parts.{piece_or_none, front_of, back_of, Follows, joined_parts, joined_row, AreEndToEnd}
-use Rattle.slab_layer.specs.Slab.{SlabState, chunk_at, used_units, unused_units, gap_of, tail_of, idle_chunks_by, deeds_in, stored_row, IsLowestIdle, PartsAreStored, IsComplete, new_slab}
+use Rattle.slab_layer.specs.Slab.{SlabState, chunk_at, used_units, unused_units, gap_of, tail_of, idle_chunks_by, deeds_in, stored_row, IsLowestIdle, PartsAreStored, IsSlab, IsComplete, idle_count, new_slab}
 use Rattle.slab_layer.proofs.ListLemmas.{both_nil}
 use Rattle.slab_layer.proofs.PartLemmas.{part_some, both_part, follows_part}
 use Rattle.slab_layer.proofs.RowLemmas.{entry, is_some-entry, placed, get_or_from_start, stored_from_start, map-stored_row, joined_row-stored_row, row-stored_row, all_true}
@@ -44,6 +46,41 @@ pub changed_state : (span : Holding) (colour chunk : ℕ) (row : List (Option Ho
 changed_state span colour chunk row s j y x view is =
     let S : SlabState → Type 0 = λ t. state span colour chunk (set row j x) ≡ record { span = t.span; colour = t.colour; chunk = t.chunk; home = set t.home j y } in
     subst S view (ap (λ (home : List Bool). let t : SlabState = record { span = span; colour = colour; chunk = chunk; home = home } in t) (map_changed (chunk_at (state span colour chunk row)) row j y x is))
+
+-- and with it how many are at home
+count_changed : (xs : List Bool) (j : ℕ) (y : Bool) → j < length xs → count_by (λ b. b) (set xs j y) + cond (get_or xs j false) 1 0 ≡ count_by (λ b. b) xs + cond y 1 0
+count_changed xs j y within = sum_by-set (λ b. cond b 1 0) xs j y false within
+
+pub some_idle : (xs : List Bool) (j : ℕ) → j < length xs → get_or xs j false ≡ true → 0 < count_by (λ b. b) xs
+some_idle xs j within here = let e = rw here at (count_changed xs j false within) in omega (arith, e)
+
+pub room_to_count : (xs : List Bool) (j : ℕ) → j < length xs → get_or xs j false ≡ false → count_by (λ b. b) xs < length xs
+room_to_count xs j within away =
+    let e = rw away at (count_changed xs j true within) in
+    omega (arith, e, count_by-le-length (λ b. b) (set xs j true), length-set xs j true)
+
+pub one_less : (row : List (Option Holding)) (j : ℕ) (x : Option Holding) (idle less : ℕ) → x ≡ None → j < length (map is_some row) → get_or (map is_some row) j false ≡ true → idle ≡ count_by (λ b. b) (map is_some row) → less ≡ idle - 1
+    → less ≡ count_by (λ b. b) (map is_some (set row j x))
+one_less row j x idle less is within here counted taken =
+    let e = rw here at (count_changed (map is_some row) j false within) in
+    let home : map is_some (set row j x) ≡ set (map is_some row) j false = map-set is_some row j x ∙ ap (λ (o : Option Holding). set (map is_some row) j (is_some o)) is in
+    rw home (omega (arith, e, counted, taken))
+
+pub one_more : {h : Holding} (row : List (Option Holding)) (j : ℕ) (x : Option Holding) (idle more : ℕ) → x ≡ Some h → j < length (map is_some row) → get_or (map is_some row) j false ≡ false → idle ≡ count_by (λ b. b) (map is_some row) → more ≡ idle + 1
+    → more ≡ count_by (λ b. b) (map is_some (set row j x))
+one_more row j x idle more is within away counted put =
+    let e = rw away at (count_changed (map is_some row) j true within) in
+    let home : map is_some (set row j x) ≡ set (map is_some row) j true = map-set is_some row j x ∙ ap (λ (o : Option Holding). set (map is_some row) j (is_some o)) is in
+    rw home (omega (arith, e, counted, put))
+
+pub all_idle : (row : List (Option Holding)) (count : ℕ) → map is_some row ≡ replicate count true → count ≡ count_by (λ b. b) (map is_some row)
+all_idle row count home = rw home (omega (arith, sum_by-replicate (λ b. cond b 1 0) count true))
+
+pub idle_fits : (s : SlabState) (idle : ℕ) → IsSlab s → idle ≡ idle_count s → idle * s.chunk ≤ s.span.range.len
+idle_fits s idle slab counted =
+    let few : idle ≤ length s.home = omega (arith, counted, count_by-le-length (λ b. b) s.home) in
+    let units : idle * s.chunk ≤ length s.home * s.chunk = mul-le-mul_right s.chunk few in
+    omega (arith, units, slab.room)
 
 -- a chunk at home
 pub at_home : (s : SlabState) (first last : Option Holding) (row : List (Option Holding)) (j : ℕ) (d : Option Holding) → PartsAreStored s first row last → j < length s.home → get_or s.home j false ≡ true → get_or row j d ≡ Some (chunk_at s j)

@@ -90,24 +90,17 @@ sound_adds i old new span first adds end base sound =
       ascending = pairs_insert IsBelow old.slabs i slab sound.ascending adds.below adds.above;
     })
 
--- the moves, from what the calls on the slabs say: x is the cache as the code sees it, u the slab, and v what became of it
-pub made_takes : (i j : ℕ) (s u v : SlabState) (x old : SlabCacheState) (t : Tag) → x ≡ old → IsNext i s x.slabs → IsLowestIdle j s.home → u ≡ get_or x.slabs i u → v ≡ with_chunk u j false → t ≡ chunk_tag x.arena x.k u j
-    → Takes i j s old (with_slabs x (set x.slabs i v)) t
-made_takes i j s u v x old t view next idle is after tag =
-    let same : u ≡ s = same_slab i s u x.slabs (next_stands i s x.slabs next) is in
-    let T : SlabCacheState → Type 0 = λ c. Takes i j s c (with_slabs x (set x.slabs i v)) t in
-    subst T view (record {
-      next = next;
-      lowest = idle;
-      tag = tag ∙ ap (λ r. chunk_tag x.arena x.k r j) same;
-      after = ap (λ r. with_slabs x (set x.slabs i r)) (after ∙ ap (λ r. with_chunk r j false) same);
-    })
+-- the moves, from what the calls on the slabs say: x is the cache as the code sees it
+pub made_takes : (i j : ℕ) (s : SlabState) (slabs : List SlabState) (x old : SlabCacheState) (t : Tag) → x ≡ old → IsNext i s x.slabs → IsLowestIdle j s.home → slabs ≡ set x.slabs i (with_chunk s j false) → t ≡ chunk_tag x.arena x.k s j
+    → Takes i j s old (with_slabs x slabs) t
+made_takes i j s slabs x old t view next idle after tag =
+    let T : SlabCacheState → Type 0 = λ c. Takes i j s c (with_slabs x slabs) t in
+    subst T view (record { next = next; lowest = idle; tag = tag; after = ap (with_slabs x) after })
 
-pub made_puts : (i j : ℕ) (s u v : SlabState) (x old : SlabCacheState) (t : Tag) → x ≡ old → IsChunk i j s false t x → u ≡ get_or x.slabs i u → v ≡ with_chunk u j true → Puts i j s old (with_slabs x (set x.slabs i v)) t
-made_puts i j s u v x old t view chunk is after =
-    let same : u ≡ s = same_slab i s u x.slabs chunk.stands is in
-    let T : SlabCacheState → Type 0 = λ c. Puts i j s c (with_slabs x (set x.slabs i v)) t in
-    subst T view (record { chunk = chunk; after = ap (λ r. with_slabs x (set x.slabs i r)) (after ∙ ap (λ r. with_chunk r j true) same) })
+pub made_puts : (i j : ℕ) (s : SlabState) (slabs : List SlabState) (x old : SlabCacheState) (t : Tag) → x ≡ old → IsChunk i j s false t x → slabs ≡ set x.slabs i (with_chunk s j true) → Puts i j s old (with_slabs x slabs) t
+made_puts i j s slabs x old t view chunk after =
+    let T : SlabCacheState → Type 0 = λ c. Puts i j s c (with_slabs x slabs) t in
+    subst T view (record { chunk = chunk; after = ap (with_slabs x) after })
 
 pub made_reaps : (i : ℕ) (s u : SlabState) (slabs : List SlabState) (x old : SlabCacheState) (t : Tag) → x ≡ old → IsLowest IsComplete i s x.slabs → u ≡ get_or x.slabs i u → slabs ≡ remove x.slabs i → t ≡ span_tag x.arena u
     → Reaps i s old (with_slabs x slabs) t

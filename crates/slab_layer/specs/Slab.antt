@@ -8,6 +8,10 @@ use Rattle.std.specs.Prelude.{
   ◌/◌,
   ◌<◌,
   ◌≤◌,
+  ◌==◌,
+  ◌&&◌,
+  nat_lt,
+  count_by,
   Bool,
   true,
   false,
@@ -90,6 +94,18 @@ IsAllOut s = All (λ b. b ≡ false) s.home
 abbrev pub IsPartial : SlabState → Type 0
 IsPartial s = Contains s.home true × Contains s.home false
 
+-- how many chunks are at home
+abbrev pub idle_count : SlabState → ℕ
+idle_count s = count_by (λ b. b) s.home
+
+-- by that, whether all are
+abbrev pub is_complete : SlabState → Bool
+is_complete s = idle_count s == length s.home
+
+-- and whether some are, and others aren't
+abbrev pub is_partial : SlabState → Bool
+is_partial s = nat_lt 0 (idle_count s) && nat_lt (idle_count s) (length s.home)
+
 -- the lowest chunk that is at home
 pub record IsLowestIdle (j : ℕ) (home : List Bool) : Type 0 where
   pub within : j < length home
@@ -124,3 +140,9 @@ pub record PartsAreStored (s : SlabState) (first : Option Holding) (row : List (
   pub gap : first ≡ gap_of s
   pub chunks : row ≡ stored_row (chunk_at s) 0 s.home
   pub tail : last ≡ tail_of s
+
+-- so they are, and the chunks at home are counted
+pub record IsStored (s : SlabState) (first : Option Holding) (row : List (Option Holding))
+    (last : Option Holding) (idle : ℕ) : Type 0 where
+  pub parts : PartsAreStored s first row last
+  pub counted : idle ≡ idle_count s

@@ -40,9 +40,9 @@ ghost use Rattle.slab_layer.specs.Calls.{IsAlike, TakeOf, PutOf, AddOf, ReapOf};
 
 use crate::faults::{AddFault, PutFault};
 use crate::reports::{SlabReport, are_empty, discard_all, total};
-use crate::search::{find_chunk, index_for, lowest_complete, next_chunk, overlaps};
+use crate::slab_lists::SlabList;
 use crate::slabs::Slab;
-use deed_core::{Deed, Route, Segment, Stored, insert_reserved};
+use deed_core::{Deed, Route, Segment, Stored};
 use std::alloc::Global;
 use std::marker::Model;
 
@@ -54,7 +54,7 @@ pub struct SlabCache<D: Deed> {
     k: u8,
     quantum: u64,
     slab_size: u64,
-    slabs: Vec<Slab<D>>,
+    slabs: SlabList<D>,
     colour: u64,
 }
 
@@ -104,7 +104,7 @@ impl<D: Deed> SlabCache<D> {
             k,
             quantum,
             slab_size,
-            slabs: Vec::new(alloc),
+            slabs: SlabList::new(alloc),
             colour: 0,
         }
     }
@@ -158,9 +158,8 @@ impl<D: Deed> SlabCache<D> {
             Loses (deeds_of self.old) (deeds_of self.new) t.holding) }
         ensures spans { span_tags self.new ≡ span_tags self.old }
     {
-        let (i, j) = next_chunk(&self.slabs)?;
-        let slab = &mut self.slabs[i];
-        let deed = slab.take(j);
+        let (i, j) = self.slabs.next_chunk()?;
+        let deed = self.slabs.take(i, j);
         Some(Segment::new(self.arena, Route::Cached(self.k), deed.into_deed()))
     }
 
@@ -182,13 +181,13 @@ impl<D: Deed> SlabCache<D> {
         if !self.is_routed_here(&segment) {
             return Err(PutFault::NotMine(segment));
         }
-        let Some((i, j)) = find_chunk(&self.slabs, segment.root(), segment.range()) else {
+        let Some((i, j)) = self.slabs.find_chunk(segment.root(), segment.range()) else {
             return Err(PutFault::NotMine(segment));
         };
-        if self.slabs[i].is_home(j) {
+        if self.slabs.is_home(i, j) {
             return Err(PutFault::AtHome(segment));
         }
-        self.slabs[i].put(j, Stored::new(segment.into_deed()));
+        self.slabs.put(i, j, Stored::new(segment.into_deed()));
         Ok(())
     }
 
@@ -222,10 +221,10 @@ impl<D: Deed> SlabCache<D> {
         if range.len() != self.slab_size {
             return Err(AddFault::WrongSize(span));
         }
-        if overlaps(&self.slabs, range) {
+        if self.slabs.overlaps(range) {
             return Err(AddFault::Overlaps(span));
         }
-        let Ok(()) = self.slabs.reserve(1) else {
+        let Ok(()) = self.slabs.reserve(self.alloc) else {
             return Err(AddFault::NoMemory(span));
         };
         let deed = Stored::new(span.into_deed());
@@ -238,8 +237,8 @@ impl<D: Deed> SlabCache<D> {
         };
         let first = slab.take(0);
         self.colour = next;
-        let place = index_for(&self.slabs, range.base());
-        insert_reserved(&mut self.slabs, place, slab);
+        let place = self.slabs.index_for(range.base());
+        self.slabs.insert(place, slab);
         Ok(Segment::new(self.arena, Route::Cached(self.k), first.into_deed()))
     }
 
@@ -294,7 +293,7 @@ impl<D: Deed> SlabCache<D> {
             ≡ covering_held u (deeds_of self.new) + covers_tag u t) }
         ensures spans { IfSome result (λ t. Loses (span_tags self.old) (span_tags self.new) t) }
     {
-        let i = lowest_complete(&self.slabs)?;
+        let i = self.slabs.lowest_complete()?;
         let slab = self.slabs.remove(i);
         Some(Segment::new(self.arena, Route::Direct, slab.into_span().into_deed()))
     }
@@ -312,7 +311,7 @@ impl<D: Deed> SlabCache<D> {
             → covering_held u (deeds_of self.now) + covering_tags u (chunks_out self.now)
             ≡ covering_tags u (span_tags self.now) }
     {
-        total(&self.slabs)
+        total(self.slabs.as_slice())
     }
 
     /// Ends the cache where no deed lies in it. Chunks that are out then have no slab to go back
@@ -321,7 +320,7 @@ impl<D: Deed> SlabCache<D> {
         ensures empty { IsOk result ↔ (deeds_of self ≡ []) }
         ensures handed_back { IfErr result (λ same. same ≡ self) }
     {
-        if !are_empty(&self.slabs) {
+        if !are_empty(self.slabs.as_slice()) {
             return Err(self);
         }
         let SlabCache {
@@ -333,7 +332,7 @@ impl<D: Deed> SlabCache<D> {
             slabs,
             colour: _,
         } = self;
-        discard_all(slabs);
+        discard_all(slabs.into_slabs());
         Ok(())
     }
 }

@@ -25,6 +25,7 @@
 //! call answers and does). `laws` has what follows from them for those above.
 #![tactic(auto)]
 
+mod bases;
 mod caches;
 mod faults;
 mod laws;
@@ -32,6 +33,7 @@ mod parts;
 mod reports;
 mod rows;
 mod search;
+mod slab_lists;
 mod slabs;
 
 pub use caches::SlabCache;

@@ -6,7 +6,6 @@ ghost use Rattle.std.specs.Prelude.{
   ◌*◌,
   ◌<◌,
   ◌≤◌,
-  ◌↔◌,
   [],
   true,
   false,
@@ -14,9 +13,7 @@ ghost use Rattle.std.specs.Prelude.{
   map,
   is_some,
   replicate,
-  count_by,
   All,
-  IsTrue,
   vec_capacity,
   MatchOption,
   IfOk,
@@ -42,32 +39,6 @@ pub(crate) fn first_some<D: Deed>(row: &[Option<Stored<D>>]) -> Option<usize>
         }
     }
     None
-}
-
-/// Whether each place has a deed.
-pub(crate) fn are_some<D: Deed>(row: &[Option<Stored<D>>]) -> bool
-    ensures { IsTrue result ↔ All (λ b. b ≡ true) (map is_some row.now) }
-{
-    for deed in row {
-        if deed.is_none() {
-            return false;
-        }
-    }
-    true
-}
-
-/// How many places have a deed.
-pub(crate) fn count_some<D: Deed>(row: &[Option<Stored<D>>]) -> usize
-    ensures count { result ≡ count_by (λ b. b) (map is_some row.now) }
-    ensures bound { result ≤ length row.now }
-{
-    let mut count = 0;
-    for deed in row {
-        if deed.is_some() {
-            count += 1;
-        }
-    }
-    count
 }
 
 /// Joins a row of parts and what is behind it.

@@ -1,4 +1,4 @@
-//! Searches in the slabs of a cache, and changes of one of them.
+//! Searches in the slabs of a cache.
 ghost use Rattle.std.specs.Prelude.{
   ◌≡◌,
   ◌≢◌,
@@ -6,6 +6,10 @@ ghost use Rattle.std.specs.Prelude.{
   ◌<◌,
   ◌≤◌,
   ◌↔◌,
+  Bool,
+  true,
+  false,
+  nat_lt,
   length,
   slice_index_or,
   All,
@@ -15,71 +19,25 @@ ghost use Rattle.std.specs.Prelude.{
   MatchOption,
 };
 ghost use Rattle.deed_core.specs.Extent.{Overlap};
-ghost use Rattle.slab_layer.specs.Slab.{
-  SlabState,
-  IsAllOut,
-  IsComplete,
-  IsPartial,
-  IsLowestIdle,
-  chunk_at,
-};
+ghost use Rattle.slab_layer.specs.Slab.{SlabState, IsSlab, chunk_at};
 ghost use Rattle.slab_layer.specs.Cache.{IsBelow};
-ghost use Rattle.slab_layer.specs.Calls.{StandsAt, IsLowest, IsNext};
+ghost use Rattle.slab_layer.specs.Bases.{bases_where};
+ghost use Rattle.slab_layer.specs.Calls.{StandsAt, IsLowest};
 
+use crate::bases::Bases;
 use crate::slabs::Slab;
 use deed_core::{Deed, Range};
 
-/// The lowest slab with a chunk at home and another out.
-pub(crate) fn lowest_partial<D: Deed>(slabs: &[Slab<D>]) -> Option<usize>
-    requires { AllPairs IsBelow slabs.now }
-    ensures { MatchOption result (All (λ s. ¬ IsPartial s) slabs.now)
-        (λ i. (s : SlabState) × IsLowest IsPartial i s slabs.now) }
-{
-    for (i, slab) in slabs.iter().enumerate() {
-        if slab.is_partial() {
-            return Some(i);
-        }
-    }
-    None
-}
-
-/// The lowest slab with all chunks at home.
-pub(crate) fn lowest_complete<D: Deed>(slabs: &[Slab<D>]) -> Option<usize>
-    requires { AllPairs IsBelow slabs.now }
-    ensures { MatchOption result (All (λ s. ¬ IsComplete s) slabs.now)
-        (λ i. (s : SlabState) × IsLowest IsComplete i s slabs.now) }
-{
-    for (i, slab) in slabs.iter().enumerate() {
-        if slab.is_complete() {
-            return Some(i);
-        }
-    }
-    None
-}
-
-// The slab that gives the next chunk.
-fn next_slab<D: Deed>(slabs: &[Slab<D>]) -> Option<usize>
-    requires { AllPairs IsBelow slabs.now }
-    ensures { MatchOption result (All (λ s. ¬ IsPartial s) slabs.now
-        × All (λ s. ¬ IsComplete s) slabs.now)
-        (λ i. (s : SlabState) × IsNext i s slabs.now) }
-{
-    let Some(i) = lowest_partial(slabs) else {
-        return lowest_complete(slabs);
-    };
-    Some(i)
-}
-
-/// The next chunk: its slab's index, and its place in it.
-pub(crate) fn next_chunk<D: Deed>(slabs: &[Slab<D>]) -> Option<(usize, usize)>
+/// The lowest of the slabs whose bases are listed.
+pub(crate) fn lowest<D: Deed>(slabs: &[Slab<D>], bases: &Bases) -> Option<usize>
     requires ascending { AllPairs IsBelow slabs.now }
-    requires some { All (λ s. 0 < length s.home) slabs.now }
-    ensures { MatchOption result (All IsAllOut slabs.now)
-        (λ p. (s : SlabState) × IsNext p.0 s slabs.now × IsLowestIdle p.1 s.home) }
+    requires some { All (λ s. 0 < s.span.range.len) slabs.now }
+    ensures { (test : SlabState → Bool) → bases.now.items ≡ bases_where test slabs.now
+        → MatchOption result (All (λ s. test s ≡ false) slabs.now)
+        (λ i. (s : SlabState) × IsLowest (λ t. test t ≡ true) i s slabs.now) }
 {
-    let i = next_slab(slabs)?;
-    let j = slabs[i].first_idle()?;
-    Some((i, j))
+    let base = bases.lowest()?;
+    Some(index_for(slabs, base))
 }
 
 /// The chunk that covers this range of this root: its slab's index, and its place in it.
@@ -88,44 +46,43 @@ pub(crate) fn find_chunk<D: Deed>(
     root: u32,
     range: Range,
 ) -> Option<(usize, usize)>
+    requires ascending { AllPairs IsBelow slabs.now }
+    requires slabs { All IsSlab slabs.now }
     ensures { MatchOption result
         (All (λ s. (j : ℕ) → j < length s.home
         → chunk_at s j ≢ record { root = root; range = range }) slabs.now)
         (λ p. (s : SlabState) × StandsAt p.0 s slabs.now × (p.1 < length s.home)
         × (chunk_at s p.1 ≡ record { root = root; range = range })) }
 {
-    for (i, slab) in slabs.iter().enumerate() {
-        if let Some(j) = slab.place_of(root, range) {
-            return Some((i, j));
-        }
-    }
-    None
+    let i = index_for(slabs, range.end()).checked_sub(1)?;
+    let j = slabs[i].place_of(root, range)?;
+    Some((i, j))
 }
 
-/// Whether a slab has a unit in common with the range.
+/// Whether a slab has a unit in common with the range: the last that begins below the range's end,
+/// if any.
 pub(crate) fn overlaps<D: Deed>(slabs: &[Slab<D>], range: Range) -> bool
+    requires { AllPairs IsBelow slabs.now }
     ensures { IsTrue result ↔ Any (λ s. Overlap s.span.range range) slabs.now }
 {
-    for slab in slabs {
-        if slab.span().overlaps(&range) {
-            return true;
-        }
+    match index_for(slabs, range.end()).checked_sub(1) {
+        None => false,
+        Some(i) => slabs[i].span().overlaps(&range),
     }
-    false
 }
 
 /// The first index from which on no slab begins below `base`.
 pub(crate) fn index_for<D: Deed>(slabs: &[Slab<D>], base: u64) -> usize
+    requires { AllPairs IsBelow slabs.now }
     ensures within { result ≤ length slabs.now }
     ensures below { (k : ℕ) (d : SlabState) → k < result
         → (slice_index_or slabs.now k d).span.range.base < base }
     ensures above { result < length slabs.now → (d : SlabState)
         → base ≤ (slice_index_or slabs.now result d).span.range.base }
 {
-    for (i, slab) in slabs.iter().enumerate() {
-        if slab.span().base() >= base {
-            return i;
-        }
-    }
-    slabs.len()
+    slabs.partition_point(
+        |slab: &Slab<D>| -> bool
+            ensures { result ≡ nat_lt slab.now.span.range.base base }
+        { slab.span().base() < base },
+    )
 }

@@ -26,8 +26,9 @@ ghost use Rattle.deed_core.specs.Extent.{IsRange};
 ghost use Rattle.slab_layer.specs.Slab.{
   SlabState,
   IsComplete,
-  IsPartial,
   IsLowestIdle,
+  is_complete as is_complete_state,
+  is_partial as is_partial_state,
   chunk_at,
   new_slab,
   with_chunk,
@@ -38,7 +39,7 @@ ghost use Rattle.slab_layer.specs.Slab.{
 };
 
 use crate::parts::{cut, join};
-use crate::rows::{are_some, chop, count_some, first_some, unchop};
+use crate::rows::{chop, first_some, unchop};
 use deed_core::{Deed, Range, Stored};
 use std::alloc::Global;
 use std::marker::Model;
@@ -53,11 +54,13 @@ pub(crate) struct Slab<D: Deed> {
     gap: Option<Stored<D>>,
     home: Vec<Option<Stored<D>>>,
     tail: Option<Stored<D>>,
+    /// How many chunks are at home.
+    idle: usize,
 }
 
 impl<D: Deed> Model for Slab<D> {
     ghost use Rattle.std.specs.Prelude.{map, is_some};
-    ghost use Rattle.slab_layer.specs.Slab.{SlabState, PartsAreStored};
+    ghost use Rattle.slab_layer.specs.Slab.{SlabState, IsStored};
 
     ghost Value = { SlabState };
 
@@ -68,12 +71,12 @@ impl<D: Deed> Model for Slab<D> {
       home = map is_some s.home.items;
     } };
 
-    ghost invariant = { λ s. PartsAreStored (record {
+    ghost invariant = { λ s. IsStored (record {
       span = record { root = s.root; range = s.span };
       colour = s.colour;
       chunk = s.chunk;
       home = map is_some s.home.items;
-    }) s.gap s.home.items s.tail };
+    }) s.gap s.home.items s.tail s.idle };
 }
 
 impl<D: Deed> Slab<D> {
@@ -112,6 +115,7 @@ impl<D: Deed> Slab<D> {
                 gap,
                 home,
                 tail,
+                idle: count,
             }),
             Err(rest) => {
                 home.destroy_empty();
@@ -133,6 +137,7 @@ impl<D: Deed> Slab<D> {
             gap,
             mut home,
             tail,
+            idle: _,
         } = self;
         // For its clause: the span has a unit.
         let _ = span.len();
@@ -164,19 +169,18 @@ impl<D: Deed> Slab<D> {
         first_some(&self.home)
     }
 
+    /// Whether all chunks are at home.
     pub(crate) fn is_complete(&self) -> bool
-        ensures { IsTrue result ↔ IsComplete self.now }
+        ensures { result ≡ is_complete_state self.now }
     {
-        are_some(&self.home)
+        self.idle == self.home.len()
     }
 
+    /// Whether a chunk is at home and another out.
     pub(crate) fn is_partial(&self) -> bool
-        ensures { IsTrue result ↔ IsPartial self.now }
+        ensures { result ≡ is_partial_state self.now }
     {
-        if self.is_complete() {
-            return false;
-        }
-        self.first_idle().is_some()
+        0 < self.idle && self.idle < self.home.len()
     }
 
     pub(crate) fn is_home(&self, j: usize) -> bool
@@ -216,6 +220,7 @@ impl<D: Deed> Slab<D> {
         ensures chunk { result ≡ chunk_at self.old j }
         ensures after { self.new ≡ with_chunk self.old j false }
     {
+        self.idle -= 1;
         mem::replace(&mut self.home[j], None).unwrap()
     }
 
@@ -226,6 +231,9 @@ impl<D: Deed> Slab<D> {
         requires chunk { deed ≡ chunk_at self.old j }
         ensures { self.new ≡ with_chunk self.old j true }
     {
+        // For its clause: a `usize` holds the number of all chunks.
+        let _ = self.home.len();
+        self.idle += 1;
         match mem::replace(&mut self.home[j], Some(deed)) {
             None => {}
             Some(_) => unreachable!(),
@@ -239,7 +247,7 @@ impl<D: Deed> Slab<D> {
     {
         // For its clause: the span's units fit a `u64`, and the chunks are no more.
         let _ = self.span.len();
-        count_some(&self.home) as u64 * self.chunk
+        self.idle as u64 * self.chunk
     }
 
     /// The units before the first chunk.
@@ -286,6 +294,7 @@ impl<D: Deed> Slab<D> {
             gap,
             mut home,
             tail,
+            idle: _,
         } = self;
         match gap {
             None => {}

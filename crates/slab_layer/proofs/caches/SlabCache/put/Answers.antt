@@ -1,8 +1,9 @@
-use Rattle.std.proofs.Common.{◌≡◌, true, false, refl, ◌∙◌, sym, subst}
+use Rattle.std.proofs.Common.{◌≡◌, true, false, refl, ◌∙◌, ap, sym, subst}
+use Rattle.deed_core.specs.Tag.{Tag}
 use Rattle.slab_layer.specs.Cache.{SlabCacheState, IsSoundCache}
 use Rattle.slab_layer.specs.Calls.{IsChunk}
 use Rattle.slab_layer.proofs.SoundLemmas.{made_puts, sound_puts}
-use Rattle.slab_layer.proofs.MoveLemmas.{puts_out, puts_kept, puts_spans}
+use Rattle.slab_layer.proofs.MoveLemmas.{all_slabs, puts_out, puts_kept, puts_spans}
 use Rattle.slab_layer.proofs.MineLemmas.{IsAbsent, SomeChunk, not_routed, not_found, made_chunk, chunk_is_out, chunk_is_idle, out_is_chunk, never_both}
 use Rattle.slab_layer.proofs.ChunkLemmas.{alike}
 use Rattle.slab_layer.proofs.caches.SlabCache.put.Goals as goal
@@ -19,11 +20,16 @@ pub returns-then-not-is_routed_here-clause-put : goal.returns-then-not-is_routed
 returns-then-not-is_routed_here-clause-put g c =
     ((elsewhere g c).not_out, (elsewhere g c).not_idle, record { handed_back = refl; unchanged = refl })
 
+pub find_chunk-requires : goal.find_chunk-requires
+find_chunk-requires g c = all_slabs _ c.self.invariant
+
+pub is_home-requires : goal.is_home-requires
+is_home-requires g c = let found = c.in-Some.ensures in (found.0, found.1, found.2)
+
 -- it covers no chunk
 uncovered : (g : given.Over) (c : goal.In_default g) → IsAbsent c.args.segment c.args.self.now
 uncovered g c =
-    let none = rw c.deref.ensures.value at c.in_default.ensures in
-    not_found _ _ _ _ _ c.self.view_is c.root.ensures c.range.ensures.value none
+    not_found _ _ _ _ _ c.self.view_is c.root.ensures c.range.ensures.value c.in_default.ensures
 
 pub returns-in_default-clause-mine : goal.returns-in_default-clause-mine
 returns-in_default-clause-mine g c = (λ e. cc, λ has. absurd ((uncovered g c).not_out has))
@@ -35,13 +41,13 @@ returns-in_default-clause-put g c =
 -- it is at home
 here : (g : given.Over) (c : goal.Then-is_home g) → SomeChunk true c.args.segment c.args.self.now
 here g c =
-    let found = rw c.deref.ensures.value at c.in-Some.ensures in
+    let found = c.in-Some.ensures in
     let routed = c.is_routed_here.ensures.0 c.if-not-is_routed_here.false in
     record {
       i = c.in-Some.i;
       j = c.in-Some.j;
       s = found.0;
-      chunk = made_chunk _ _ _ c.index.result.now true _ _ _ _ _ c.self.view_is found.1 found.2 found.3 c.root.ensures c.range.ensures.value routed c.index.ensures (sym c.is_home.ensures ∙ c.if-is_home.true);
+      chunk = made_chunk _ _ _ true _ _ _ _ _ c.self.view_is found.1 found.2 found.3 c.root.ensures c.range.ensures.value routed (sym (c.is_home.ensures found.0 found.1) ∙ c.if-is_home.true);
     }
 
 pub returns-then-is_home-clause-mine : goal.returns-then-is_home-clause-mine
@@ -55,23 +61,30 @@ returns-then-is_home-clause-put g c =
     (chunk_is_idle _ _ _ _ _ some.chunk, record { handed_back = refl; unchanged = refl })
 
 -- it is out
-gone : (g : given.Over) (c : goal.After-self-1 g) → SomeChunk false c.args.segment c.args.self.now
+gone : (g : given.Over) (c : goal.After-put g) → SomeChunk false c.args.segment c.args.self.now
 gone g c =
-    let found = rw c.deref.ensures.value at c.in-Some.ensures in
+    let found = c.in-Some.ensures in
     let routed = c.is_routed_here.ensures.0 c.if-not-is_routed_here.false in
     record {
       i = c.in-Some.i;
       j = c.in-Some.j;
       s = found.0;
-      chunk = made_chunk _ _ _ c.index.result.now false _ _ _ _ _ c.self.view_is found.1 found.2 found.3 c.root.ensures c.range.ensures.value routed c.index.ensures (sym c.is_home.ensures ∙ c.if-is_home.false);
+      chunk = made_chunk _ _ _ false _ _ _ _ _ c.self.view_is found.1 found.2 found.3 c.root.ensures c.range.ensures.value routed (sym (c.is_home.ensures found.0 found.1) ∙ c.if-is_home.false);
     }
+
+pub put-requires : goal.put-requires
+put-requires g c =
+    let found = c.in-Some.ensures in
+    let routed = c.is_routed_here.ensures.0 c.if-not-is_routed_here.false in
+    let chunk = made_chunk c.in-Some.i c.in-Some.j found.0 false _ _ _ _ _ c.self.view_is found.1 found.2 found.3 c.root.ensures c.range.ensures.value routed (sym (c.is_home.ensures found.0 found.1) ∙ c.if-is_home.false) in
+    (found.0, found.1, found.2, chunk.home, c.new.ensures ∙ c.into_deed.ensures ∙ ap (λ (t : Tag). t.holding) chunk.tag)
 
 pub returns-clause-put : goal.returns-clause-put
 unfolding gone
 returns-clause-put g c =
     let some = gone g c in
     let before = subst (λ (x : SlabCacheState). IsChunk some.i some.j some.s false c.args.segment x) (sym c.self.view_is) some.chunk in
-    (some.i, some.j, some.s, made_puts some.i some.j some.s c.index_mut.result.now c.put.new.self _ _ _ c.self.view_is before c.index_mut.ensures.value c.put.ensures)
+    (some.i, some.j, some.s, made_puts some.i some.j some.s c.put.new.self.items _ _ _ c.self.view_is before (c.put.ensures some.s before.stands))
 
 pub invariant_of-self : goal.invariant_of-self
 invariant_of-self g c =

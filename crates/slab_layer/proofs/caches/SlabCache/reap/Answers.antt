@@ -12,15 +12,15 @@ use Rattle.slab_layer.proofs.caches.SlabCache.reap.Goals as goal
 
 pub into_span-requires : goal.into_span-requires
 into_span-requires g c =
-    let lowest = rw c.deref.ensures.value at c.in_ok-i.ensures in
-    let same = same_slab c.in_ok-i.i lowest.0 c.remove-slab.result c.self.inside.slabs.items lowest.1.stands c.remove-slab.ensures.value in
+    let lowest = c.in_ok-i.ensures in
+    let same = same_slab c.in_ok-i.i lowest.0 c.remove-slab.result c.self.inside.slabs.items lowest.1.stands c.remove-slab.ensures.slab in
     subst (λ (s : SlabState). IsComplete s) (sym same) lowest.1.so
 
 pub returns-clause-reaped : goal.returns-clause-reaped
 returns-clause-reaped g c =
-    let lowest = rw c.deref.ensures.value at c.in_ok-i.ensures in
+    let lowest = c.in_ok-i.ensures in
     let tag = c.new.ensures ∙ ap (λ (h : Holding). let t : Tag = record { arena = c.self.inside.arena; route = Direct; holding = h } in t) (c.into_deed.ensures ∙ c.into_span.ensures) in
-    (c.in_ok-i.i, lowest.0, made_reaps c.in_ok-i.i lowest.0 c.remove-slab.result c.remove-slab.new.self.items _ _ _ c.self.view_is lowest.1 c.remove-slab.ensures.value c.remove-slab.ensures.items tag)
+    (c.in_ok-i.i, lowest.0, made_reaps c.in_ok-i.i lowest.0 c.remove-slab.result c.remove-slab.new.self.items _ _ _ c.self.view_is lowest.1 c.remove-slab.ensures.slab c.remove-slab.ensures.items tag)
 
 pub invariant_of-self : goal.invariant_of-self
 invariant_of-self g c =
@@ -32,7 +32,7 @@ returns-clause-sound g c = invariant_of-self g c
 
 pub returns-in_err-i-clause-reaped : goal.returns-in_err-i-clause-reaped
 returns-in_err-i-clause-reaped g c =
-    let none = rw c.deref.ensures.value at c.in_err-i.ensures in
+    let none = c.in_err-i.ensures in
     let here = subst (λ (x : SlabCacheState). All (λ s. IsComplete s → ⊥) x.slabs) c.self.view_is none in
     rw c.from_residual.ensures (here, refl)
 

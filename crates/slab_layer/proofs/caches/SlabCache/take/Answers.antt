@@ -3,16 +3,23 @@ use Rattle.deed_core.specs.Holding.{Holding}
 use Rattle.deed_core.specs.Tag.{Tag}
 use Rattle.deed_core.specs.declared.segments.Route.TheVariants.{Cached}
 use Rattle.slab_layer.specs.Cache.{SlabCacheState, IsSoundCache}
+use Rattle.slab_layer.proofs.SearchLemmas.{next_stands}
 use Rattle.slab_layer.proofs.SoundLemmas.{made_takes, sound_takes}
 use Rattle.slab_layer.proofs.MoveLemmas.{takes_out, takes_kept, takes_spans}
 use Rattle.slab_layer.proofs.ChunkLemmas.{alike, takes_chunk}
 use Rattle.slab_layer.proofs.caches.SlabCache.take.Goals as goal
 
+pub take-deed-requires : goal.take-deed-requires
+take-deed-requires g c =
+    let next = c.in_ok-i.ensures in
+    (next.0, next_stands c.in_ok-i.i next.0 _ next.1, next.2.within, next.2.idle)
+
 pub returns-clause-taken : goal.returns-clause-taken
 returns-clause-taken g c =
-    let next = rw c.deref.ensures.value at c.in_ok-i.ensures in
-    let tag = c.new.ensures ∙ ap (λ (h : Holding). let t : Tag = record { arena = c.self.inside.arena; route = Cached c.self.inside.k; holding = h } in t) (c.into_deed.ensures ∙ c.take-deed.ensures.chunk) in
-    (c.in_ok-i.i, c.in_ok-i.j, next.0, made_takes c.in_ok-i.i c.in_ok-i.j next.0 c.index_mut-slab.result.now c.take-deed.new.self _ _ _ c.self.view_is next.1 next.2 c.index_mut-slab.ensures.value c.take-deed.ensures.after tag)
+    let next = c.in_ok-i.ensures in
+    let stands = next_stands c.in_ok-i.i next.0 _ next.1 in
+    let tag = c.new.ensures ∙ ap (λ (h : Holding). let t : Tag = record { arena = c.self.inside.arena; route = Cached c.self.inside.k; holding = h } in t) (c.into_deed.ensures ∙ c.take-deed.ensures.chunk next.0 stands) in
+    (c.in_ok-i.i, c.in_ok-i.j, next.0, made_takes c.in_ok-i.i c.in_ok-i.j next.0 c.take-deed.new.self.items _ _ _ c.self.view_is next.1 next.2 (c.take-deed.ensures.items next.0 stands) tag)
 
 pub invariant_of-self : goal.invariant_of-self
 invariant_of-self g c =

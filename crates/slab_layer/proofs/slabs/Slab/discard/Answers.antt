@@ -7,7 +7,7 @@ use Rattle.slab_layer.proofs.slabs.Slab.discard.Goals as goal
 
 pub loop-chunk-init : goal.loop-chunk-init
 loop-chunk-init g c =
-    let held = subst (λ (s : SlabState). PartsAreStored s c.self.inside.gap c.self.inside.home.items c.self.inside.tail) c.self.view_is c.self.invariant in
+    let held = subst (λ (s : SlabState). PartsAreStored s c.self.inside.gap c.self.inside.home.items c.self.inside.tail) c.self.view_is c.self.invariant.parts in
     (bare c.args.self c.self.inside.gap c.self.inside.tail c.self.inside.home.items held c.requires).row_out
 
 pub loop-chunk-preserved : goal.loop-chunk-preserved

@@ -5,5 +5,5 @@ use Rattle.slab_layer.proofs.slabs.Slab.is_empty.Goals as goal
 
 pub returns : goal.returns
 returns g c =
-    let held = subst (λ (s : SlabState). PartsAreStored s c.self.inside.gap c.self.inside.home.items c.self.inside.tail) c.self.view_is c.self.invariant in
+    let held = subst (λ (s : SlabState). PartsAreStored s c.self.inside.gap c.self.inside.home.items c.self.inside.tail) c.self.view_is c.self.invariant.parts in
     empty_is c.args.self.now c.self.inside.gap c.self.inside.tail c.self.inside.home.items c.first_idle.result c.is_none.result held (sym c.if-is_some.ensures) (sym c.if-is_some-2.ensures) c.is_none.ensures c.first_idle.ensures

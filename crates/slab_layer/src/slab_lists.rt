@@ -1,0 +1,252 @@
+//! The slabs of a cache.
+ghost use Rattle.std.specs.Prelude.{
+  ◌≡◌,
+  ◌≢◌,
+  ℕ,
+  ◌<◌,
+  ◌≤◌,
+  ◌↔◌,
+  [],
+  true,
+  false,
+  length,
+  take,
+  drop,
+  slice_index_or,
+  slice_set,
+  All,
+  AllPairs,
+  Any,
+  IsTrue,
+  MatchOption,
+  OnOk,
+};
+ghost use Rattle.std.specs.List.{insert, remove};
+ghost use Rattle.deed_core.specs.Extent.{Overlap, end_of};
+ghost use Rattle.slab_layer.specs.Slab.{
+  SlabState,
+  IsSlab,
+  IsAllOut,
+  IsComplete,
+  IsPartial,
+  IsLowestIdle,
+  chunk_at,
+  with_chunk,
+};
+ghost use Rattle.slab_layer.specs.Cache.{IsBelow};
+ghost use Rattle.slab_layer.specs.Calls.{StandsAt, IsLowest, IsNext};
+
+use crate::bases::Bases;
+use crate::search::{find_chunk, index_for, lowest, overlaps};
+use crate::slabs::Slab;
+use deed_core::{Deed, Range, Stored, insert_reserved};
+use std::alloc::{AllocError, Global};
+use std::marker::Model;
+
+/// Slabs in order of their bases.
+pub(crate) struct SlabList<D: Deed> {
+    slabs: Vec<Slab<D>>,
+    /// Of the slabs with a chunk at home and another out.
+    partial: Bases,
+    /// Of those with all chunks at home.
+    complete: Bases,
+}
+
+impl<D: Deed> Model for SlabList<D> {
+    ghost use Rattle.std.specs.Prelude.{min, vec_capacity};
+    ghost use Rattle.slab_layer.specs.Bases.{SlabListState, AreListed};
+
+    ghost Value = { SlabListState };
+
+    ghost view = { λ l. record {
+      items = l.slabs.items;
+      room = min (vec_capacity l.slabs) (min l.partial.room l.complete.room);
+    } };
+
+    ghost invariant = { λ l. AreListed l.slabs.items l.partial l.complete };
+}
+
+impl<D: Deed> SlabList<D> {
+    /// No slab, and no room for one.
+    pub(crate) fn new(alloc: Global) -> SlabList<D>
+        ensures { result.items ≡ [] }
+    {
+        SlabList {
+            slabs: Vec::new(alloc),
+            partial: Bases::new(alloc),
+            complete: Bases::new(alloc),
+        }
+    }
+
+    /// Makes room for one more.
+    pub(crate) fn reserve(&mut self, alloc: Global) -> Result<(), AllocError>
+        ensures room { OnOk result (length self.new.items < self.new.room) }
+        ensures items { self.new.items ≡ self.old.items }
+    {
+        let Some(room) = self.slabs.len().checked_add(1) else {
+            return Err(AllocError);
+        };
+        self.slabs.reserve(1)?;
+        self.partial.reserve(alloc, room)?;
+        self.complete.reserve(alloc, room)
+    }
+
+    pub(crate) fn as_slice(&self) -> &[Slab<D>]
+        ensures { result.now ≡ self.now.items }
+    {
+        &self.slabs
+    }
+
+    /// The lowest slab with all chunks at home.
+    pub(crate) fn lowest_complete(&self) -> Option<usize>
+        ensures { MatchOption result (All (λ s. ¬ IsComplete s) self.now.items)
+            (λ i. (s : SlabState) × IsLowest IsComplete i s self.now.items) }
+    {
+        lowest(&self.slabs, &self.complete)
+    }
+
+    // The lowest slab with a chunk at home and another out.
+    fn lowest_partial(&self) -> Option<usize>
+        ensures { MatchOption result (All (λ s. ¬ IsPartial s) self.now.items)
+            (λ i. (s : SlabState) × IsLowest IsPartial i s self.now.items) }
+    {
+        lowest(&self.slabs, &self.partial)
+    }
+
+    // The slab that gives the next chunk.
+    fn next_slab(&self) -> Option<usize>
+        ensures { MatchOption result (All (λ s. ¬ IsPartial s) self.now.items
+            × All (λ s. ¬ IsComplete s) self.now.items)
+            (λ i. (s : SlabState) × IsNext i s self.now.items) }
+    {
+        let Some(i) = self.lowest_partial() else {
+            return self.lowest_complete();
+        };
+        Some(i)
+    }
+
+    /// The next chunk: its slab's index, and its place in it.
+    pub(crate) fn next_chunk(&self) -> Option<(usize, usize)>
+        requires { All (λ s. 0 < length s.home) self.now.items }
+        ensures { MatchOption result (All IsAllOut self.now.items)
+            (λ p. (s : SlabState) × IsNext p.0 s self.now.items × IsLowestIdle p.1 s.home) }
+    {
+        let i = self.next_slab()?;
+        let j = self.slabs[i].first_idle()?;
+        Some((i, j))
+    }
+
+    /// The chunk that covers this range of this root: its slab's index, and its place in it.
+    pub(crate) fn find_chunk(&self, root: u32, range: Range) -> Option<(usize, usize)>
+        requires { All IsSlab self.now.items }
+        ensures { MatchOption result
+            (All (λ s. (j : ℕ) → j < length s.home
+            → chunk_at s j ≢ record { root = root; range = range }) self.now.items)
+            (λ p. (s : SlabState) × StandsAt p.0 s self.now.items × (p.1 < length s.home)
+            × (chunk_at s p.1 ≡ record { root = root; range = range })) }
+    {
+        find_chunk(&self.slabs, root, range)
+    }
+
+    /// Whether a slab has a unit in common with the range.
+    pub(crate) fn overlaps(&self, range: Range) -> bool
+        ensures { IsTrue result ↔ Any (λ s. Overlap s.span.range range) self.now.items }
+    {
+        overlaps(&self.slabs, range)
+    }
+
+    /// The first index from which on no slab begins below `base`.
+    pub(crate) fn index_for(&self, base: u64) -> usize
+        ensures within { result ≤ length self.now.items }
+        ensures below { (k : ℕ) (d : SlabState) → k < result
+            → (slice_index_or self.now.items k d).span.range.base < base }
+        ensures above { result < length self.now.items → (d : SlabState)
+            → base ≤ (slice_index_or self.now.items result d).span.range.base }
+    {
+        index_for(&self.slabs, base)
+    }
+
+    /// Whether the j-th chunk of the i-th slab is at home.
+    pub(crate) fn is_home(&self, i: usize, j: usize) -> bool
+        requires { (s : SlabState) × StandsAt i s self.now.items × (j < length s.home) }
+        ensures { (s : SlabState) → StandsAt i s self.now.items
+            → result ≡ slice_index_or s.home j false }
+    {
+        self.slabs[i].is_home(j)
+    }
+
+    /// Takes the j-th chunk of the i-th slab, which is at home.
+    pub(crate) fn take(&mut self, i: usize, j: usize) -> Stored<D>
+        requires { (s : SlabState) × StandsAt i s self.old.items × (j < length s.home)
+            × (slice_index_or s.home j false ≡ true) }
+        ensures chunk { (s : SlabState) → StandsAt i s self.old.items → result ≡ chunk_at s j }
+        ensures items { (s : SlabState) → StandsAt i s self.old.items
+            → self.new.items ≡ slice_set self.old.items i (with_chunk s j false) }
+    {
+        let slab = &mut self.slabs[i];
+        let base = slab.span().base();
+        let was_partial = slab.is_partial();
+        let was_complete = slab.is_complete();
+        let deed = slab.take(j);
+        self.partial.relist(base, was_partial, slab.is_partial());
+        self.complete.relist(base, was_complete, slab.is_complete());
+        deed
+    }
+
+    /// Puts the j-th chunk of the i-th slab back, which is out.
+    pub(crate) fn put(&mut self, i: usize, j: usize, deed: Stored<D>)
+        requires { (s : SlabState) × StandsAt i s self.old.items × (j < length s.home)
+            × (slice_index_or s.home j false ≡ false) × (deed ≡ chunk_at s j) }
+        ensures { (s : SlabState) → StandsAt i s self.old.items
+            → self.new.items ≡ slice_set self.old.items i (with_chunk s j true) }
+    {
+        let slab = &mut self.slabs[i];
+        let base = slab.span().base();
+        let was_partial = slab.is_partial();
+        let was_complete = slab.is_complete();
+        slab.put(j, deed);
+        self.partial.relist(base, was_partial, slab.is_partial());
+        self.complete.relist(base, was_complete, slab.is_complete());
+    }
+
+    /// Puts in a slab where it belongs. It takes no memory.
+    pub(crate) fn insert(&mut self, place: usize, slab: Slab<D>)
+        requires room { length self.old.items < self.old.room }
+        requires within { place ≤ length self.old.items }
+        requires below { All (λ s. end_of s.span.range ≤ slab.span.range.base)
+            (take place self.old.items) }
+        requires above { All (λ s. end_of slab.span.range ≤ s.span.range.base)
+            (drop place self.old.items) }
+        ensures { self.new.items ≡ insert self.old.items place slab }
+    {
+        let base = slab.span().base();
+        self.partial.relist(base, false, slab.is_partial());
+        self.complete.relist(base, false, slab.is_complete());
+        insert_reserved(&mut self.slabs, place, slab);
+    }
+
+    /// Takes a slab out. Its room stays.
+    pub(crate) fn remove(&mut self, i: usize) -> Slab<D>
+        requires { i < length self.old.items }
+        ensures slab { result ≡ slice_index_or self.old.items i result }
+        ensures items { self.new.items ≡ remove self.old.items i }
+    {
+        let slab = self.slabs.remove(i);
+        let base = slab.span().base();
+        self.partial.relist(base, slab.is_partial(), false);
+        self.complete.relist(base, slab.is_complete(), false);
+        slab
+    }
+
+    /// The slabs alone.
+    pub(crate) fn into_slabs(self) -> Vec<Slab<D>>
+        ensures { result.items ≡ self.items }
+    {
+        let SlabList {
+            slabs,
+            partial: _,
+            complete: _,
+        } = self;
+        slabs
+    }
+}
