@@ -170,6 +170,58 @@ impl<T> Vec<T> {
     pub fn destroy_empty(self) {}
 }
 
+/// Where the shorter side moves.
+#[derive(Debug)]
+pub struct VecDeque<T>(std::collections::VecDeque<T>);
+
+impl<T> std::ops::Index<usize> for VecDeque<T> {
+    type Output = T;
+    #[inline]
+    fn index(&self, at: usize) -> &T {
+        &self.0[at]
+    }
+}
+
+impl<T> std::ops::IndexMut<usize> for VecDeque<T> {
+    #[inline]
+    fn index_mut(&mut self, at: usize) -> &mut T {
+        &mut self.0[at]
+    }
+}
+
+impl<T> VecDeque<T> {
+    pub fn new(_: Global) -> Self {
+        VecDeque(std::collections::VecDeque::new())
+    }
+    #[inline]
+    pub fn len(&self) -> usize {
+        self.0.len()
+    }
+    #[inline]
+    pub fn insert(&mut self, at: usize, item: T) -> Result<(), T> {
+        self.0.insert(at, item);
+        Ok(())
+    }
+    #[inline]
+    pub fn remove(&mut self, at: usize) -> Option<T> {
+        self.0.remove(at)
+    }
+    #[inline]
+    pub fn pop_back(&mut self) -> Option<T> {
+        self.0.pop_back()
+    }
+    #[inline]
+    pub fn partition_point<P: FnMut(&T) -> bool>(&self, test: P) -> usize {
+        self.0.partition_point(test)
+    }
+    #[inline]
+    pub fn reserve(&mut self, more: usize) -> Result<(), AllocError> {
+        self.0.reserve(more);
+        Ok(())
+    }
+    pub fn destroy_empty(self) {}
+}
+
 /// Rattle's FoldHasher, of numbers.
 #[derive(Debug, Default)]
 pub struct Folded(u64);

@@ -70,7 +70,7 @@ def plain(text):
     text = without_attributes(text)
     text = re.sub(r"#\[derive_where\(([^)]*)\)\]\s*((?:pub )?(?:struct|enum) )(\w+)(<[^>]*>)?", derived_where, text)
     text = re.sub(r"#\[derive\(([^)]*)\)\]", lambda found: derived(names_in(found[1], ("Drop", "Error"))), text)
-    text = re.sub(r"use std::(marker::Model|alloc::[^;]*|collections::HashMap);", "", text)
+    text = re.sub(r"use std::(marker::Model|alloc::[^;]*|collections::(?:HashMap|VecDeque));", "", text)
     text = re.sub(r"use std::marker::\{Model, ([^}]*)\};", r"use std::marker::{\1};", text)
     text = text.replace("use thiserror::Error;", "")
     text = re.sub(r"\bpub trait (\w+)(<[^>]*>)? \{", r"pub trait \1\2: Sized {", text)

@@ -311,7 +311,7 @@ impl<D: Deed> SlabCache<D> {
             → covering_held u (deeds_of self.now) + covering_tags u (chunks_out self.now)
             ≡ covering_tags u (span_tags self.now) }
     {
-        total(self.slabs.as_slice())
+        total(self.slabs.as_deque())
     }
 
     /// Ends the cache where no deed lies in it. Chunks that are out then have no slab to go back
@@ -320,7 +320,7 @@ impl<D: Deed> SlabCache<D> {
         ensures empty { IsOk result ↔ (deeds_of self ≡ []) }
         ensures handed_back { IfErr result (λ same. same ≡ self) }
     {
-        if !are_empty(self.slabs.as_slice()) {
+        if !are_empty(self.slabs.as_deque()) {
             return Err(self);
         }
         let SlabCache {

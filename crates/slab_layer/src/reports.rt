@@ -6,6 +6,7 @@ ghost use Rattle.slab_layer.specs.Slab.{chunk_at, gap_of, tail_of, idle_chunks_b
 
 use crate::slabs::Slab;
 use deed_core::Deed;
+use std::collections::VecDeque;
 
 /// What lies in a cache, in units: the idle chunks, the colour gaps and the tails.
 #[derive(Clone, Copy, PartialEq, Eq, Debug)]
@@ -19,17 +20,18 @@ pub struct SlabReport {
 }
 
 /// The sums over the slabs.
-pub(crate) fn total<D: Deed>(slabs: &[Slab<D>]) -> SlabReport
-    requires { sum_by (λ s. s.span.range.len) slabs.now ≤ 2 ^ 62 }
+pub(crate) fn total<D: Deed>(slabs: &VecDeque<Slab<D>>) -> SlabReport
+    requires { sum_by (λ s. s.span.range.len) slabs.now.items ≤ 2 ^ 62 }
     ensures idle { result.idle
-        ≡ sum_by (λ s. units_held (idle_chunks_by (chunk_at s) s)) slabs.now }
-    ensures gap { result.gap ≡ sum_by (λ s. units_held (option_to_list (gap_of s))) slabs.now }
-    ensures tail { result.tail ≡ sum_by (λ s. units_held (option_to_list (tail_of s))) slabs.now }
+        ≡ sum_by (λ s. units_held (idle_chunks_by (chunk_at s) s)) slabs.now.items }
+    ensures gap { result.gap ≡ sum_by (λ s. units_held (option_to_list (gap_of s))) slabs.now.items }
+    ensures tail { result.tail ≡ sum_by (λ s. units_held (option_to_list (tail_of s))) slabs.now.items }
 {
     let mut idle = 0;
     let mut gap = 0;
     let mut tail = 0;
-    for slab in slabs {
+    for i in 0..slabs.len() {
+        let slab = &slabs[i];
         idle += slab.idle();
         gap += slab.gap();
         tail += slab.tail();
@@ -38,11 +40,11 @@ pub(crate) fn total<D: Deed>(slabs: &[Slab<D>]) -> SlabReport
 }
 
 /// Whether no deed lies in any slab.
-pub(crate) fn are_empty<D: Deed>(slabs: &[Slab<D>]) -> bool
-    ensures { IsTrue result ↔ All (λ s. deeds_in s ≡ []) slabs.now }
+pub(crate) fn are_empty<D: Deed>(slabs: &VecDeque<Slab<D>>) -> bool
+    ensures { IsTrue result ↔ All (λ s. deeds_in s ≡ []) slabs.now.items }
 {
-    for slab in slabs {
-        if !slab.is_empty() {
+    for i in 0..slabs.len() {
+        if !slabs[i].is_empty() {
             return false;
         }
     }
@@ -50,11 +52,11 @@ pub(crate) fn are_empty<D: Deed>(slabs: &[Slab<D>]) -> bool
 }
 
 /// Ends slabs in which no deed lies.
-pub(crate) fn discard_all<D: Deed>(slabs: Vec<Slab<D>>)
+pub(crate) fn discard_all<D: Deed>(slabs: VecDeque<Slab<D>>)
     requires { All (λ s. deeds_in s ≡ []) slabs.items }
 {
     let mut slabs = slabs;
-    while let Some(slab) = slabs.pop() {
+    while let Some(slab) = slabs.pop_back() {
         slab.discard();
     }
     slabs.destroy_empty();

@@ -27,14 +27,15 @@ ghost use Rattle.slab_layer.specs.Calls.{StandsAt, IsLowest};
 use crate::bases::Bases;
 use crate::slabs::Slab;
 use deed_core::{Deed, Range};
+use std::collections::VecDeque;
 
 /// The lowest of the slabs whose bases are listed.
-pub(crate) fn lowest<D: Deed>(slabs: &[Slab<D>], bases: &Bases) -> Option<usize>
-    requires ascending { AllPairs IsBelow slabs.now }
-    requires some { All (λ s. 0 < s.span.range.len) slabs.now }
-    ensures { (test : SlabState → Bool) → bases.now.items ≡ bases_where test slabs.now
-        → MatchOption result (All (λ s. test s ≡ false) slabs.now)
-        (λ i. (s : SlabState) × IsLowest (λ t. test t ≡ true) i s slabs.now) }
+pub(crate) fn lowest<D: Deed>(slabs: &VecDeque<Slab<D>>, bases: &Bases) -> Option<usize>
+    requires ascending { AllPairs IsBelow slabs.now.items }
+    requires some { All (λ s. 0 < s.span.range.len) slabs.now.items }
+    ensures { (test : SlabState → Bool) → bases.now.items ≡ bases_where test slabs.now.items
+        → MatchOption result (All (λ s. test s ≡ false) slabs.now.items)
+        (λ i. (s : SlabState) × IsLowest (λ t. test t ≡ true) i s slabs.now.items) }
 {
     let base = bases.lowest()?;
     Some(index_for(slabs, base))
@@ -42,16 +43,16 @@ pub(crate) fn lowest<D: Deed>(slabs: &[Slab<D>], bases: &Bases) -> Option<usize>
 
 /// The chunk that covers this range of this root: its slab's index, and its place in it.
 pub(crate) fn find_chunk<D: Deed>(
-    slabs: &[Slab<D>],
+    slabs: &VecDeque<Slab<D>>,
     root: u32,
     range: Range,
 ) -> Option<(usize, usize)>
-    requires ascending { AllPairs IsBelow slabs.now }
-    requires slabs { All IsSlab slabs.now }
+    requires ascending { AllPairs IsBelow slabs.now.items }
+    requires slabs { All IsSlab slabs.now.items }
     ensures { MatchOption result
         (All (λ s. (j : ℕ) → j < length s.home
-        → chunk_at s j ≢ record { root = root; range = range }) slabs.now)
-        (λ p. (s : SlabState) × StandsAt p.0 s slabs.now × (p.1 < length s.home)
+        → chunk_at s j ≢ record { root = root; range = range }) slabs.now.items)
+        (λ p. (s : SlabState) × StandsAt p.0 s slabs.now.items × (p.1 < length s.home)
         × (chunk_at s p.1 ≡ record { root = root; range = range })) }
 {
     let i = index_for(slabs, range.end()).checked_sub(1)?;
@@ -61,9 +62,9 @@ pub(crate) fn find_chunk<D: Deed>(
 
 /// Whether a slab has a unit in common with the range: the last that begins below the range's end,
 /// if any.
-pub(crate) fn overlaps<D: Deed>(slabs: &[Slab<D>], range: Range) -> bool
-    requires { AllPairs IsBelow slabs.now }
-    ensures { IsTrue result ↔ Any (λ s. Overlap s.span.range range) slabs.now }
+pub(crate) fn overlaps<D: Deed>(slabs: &VecDeque<Slab<D>>, range: Range) -> bool
+    requires { AllPairs IsBelow slabs.now.items }
+    ensures { IsTrue result ↔ Any (λ s. Overlap s.span.range range) slabs.now.items }
 {
     match index_for(slabs, range.end()).checked_sub(1) {
         None => false,
@@ -72,13 +73,13 @@ pub(crate) fn overlaps<D: Deed>(slabs: &[Slab<D>], range: Range) -> bool
 }
 
 /// The first index from which on no slab begins below `base`.
-pub(crate) fn index_for<D: Deed>(slabs: &[Slab<D>], base: u64) -> usize
-    requires { AllPairs IsBelow slabs.now }
-    ensures within { result ≤ length slabs.now }
+pub(crate) fn index_for<D: Deed>(slabs: &VecDeque<Slab<D>>, base: u64) -> usize
+    requires { AllPairs IsBelow slabs.now.items }
+    ensures within { result ≤ length slabs.now.items }
     ensures below { (k : ℕ) (d : SlabState) → k < result
-        → (slice_index_or slabs.now k d).span.range.base < base }
-    ensures above { result < length slabs.now → (d : SlabState)
-        → base ≤ (slice_index_or slabs.now result d).span.range.base }
+        → (slice_index_or slabs.now.items k d).span.range.base < base }
+    ensures above { result < length slabs.now.items → (d : SlabState)
+        → base ≤ (slice_index_or slabs.now.items result d).span.range.base }
 {
     slabs.partition_point(
         |slab: &Slab<D>| -> bool

@@ -39,13 +39,14 @@ ghost use Rattle.slab_layer.specs.Calls.{StandsAt, IsLowest, IsNext};
 use crate::bases::Bases;
 use crate::search::{find_chunk, index_for, lowest, overlaps};
 use crate::slabs::Slab;
-use deed_core::{Deed, Range, Stored, insert_reserved};
+use deed_core::{Deed, Range, Stored};
 use std::alloc::{AllocError, Global};
+use std::collections::VecDeque;
 use std::marker::Model;
 
 /// Slabs in order of their bases.
 pub(crate) struct SlabList<D: Deed> {
-    slabs: Vec<Slab<D>>,
+    slabs: VecDeque<Slab<D>>,
     /// Of the slabs with a chunk at home and another out.
     partial: Bases,
     /// Of those with all chunks at home.
@@ -53,14 +54,15 @@ pub(crate) struct SlabList<D: Deed> {
 }
 
 impl<D: Deed> Model for SlabList<D> {
-    ghost use Rattle.std.specs.Prelude.{min, vec_capacity};
+    ghost use Rattle.std.specs.Prelude.{min};
+    ghost use Rattle.std.specs.VecDeque.{deque_capacity};
     ghost use Rattle.slab_layer.specs.Bases.{SlabListState, AreListed};
 
     ghost Value = { SlabListState };
 
     ghost view = { λ l. record {
       items = l.slabs.items;
-      room = min (vec_capacity l.slabs) (min l.partial.room l.complete.room);
+      room = min (deque_capacity l.slabs) (min l.partial.room l.complete.room);
     } };
 
     ghost invariant = { λ l. AreListed l.slabs.items l.partial l.complete };
@@ -72,7 +74,7 @@ impl<D: Deed> SlabList<D> {
         ensures { result.items ≡ [] }
     {
         SlabList {
-            slabs: Vec::new(alloc),
+            slabs: VecDeque::new(alloc),
             partial: Bases::new(alloc),
             complete: Bases::new(alloc),
         }
@@ -91,8 +93,8 @@ impl<D: Deed> SlabList<D> {
         self.complete.reserve(alloc, room)
     }
 
-    pub(crate) fn as_slice(&self) -> &[Slab<D>]
-        ensures { result.now ≡ self.now.items }
+    pub(crate) fn as_deque(&self) -> &VecDeque<Slab<D>>
+        ensures { result.now.items ≡ self.now.items }
     {
         &self.slabs
     }
@@ -222,7 +224,10 @@ impl<D: Deed> SlabList<D> {
         let base = slab.span().base();
         self.partial.relist(base, false, slab.is_partial());
         self.complete.relist(base, false, slab.is_complete());
-        insert_reserved(&mut self.slabs, place, slab);
+        match self.slabs.insert(place, slab) {
+            Ok(()) => {}
+            Err(_) => unreachable!(),
+        }
     }
 
     /// Takes a slab out. Its room stays.
@@ -231,7 +236,7 @@ impl<D: Deed> SlabList<D> {
         ensures slab { result ≡ slice_index_or self.old.items i result }
         ensures items { self.new.items ≡ remove self.old.items i }
     {
-        let slab = self.slabs.remove(i);
+        let slab = self.slabs.remove(i).unwrap();
         let base = slab.span().base();
         self.partial.relist(base, slab.is_partial(), false);
         self.complete.relist(base, slab.is_complete(), false);
@@ -239,7 +244,7 @@ impl<D: Deed> SlabList<D> {
     }
 
     /// The slabs alone.
-    pub(crate) fn into_slabs(self) -> Vec<Slab<D>>
+    pub(crate) fn into_slabs(self) -> VecDeque<Slab<D>>
         ensures { result.items ≡ self.items }
     {
         let SlabList {

@@ -5,7 +5,7 @@ use Rattle.slab_layer.proofs.caches.SlabCache.close.Goals as goal
 
 pub returns-then-not-are_empty-clause-empty : goal.returns-then-not-are_empty-clause-empty
 returns-then-not-are_empty-clause-empty g c =
-    let said = rw c.as_slice.ensures at c.are_empty.ensures in (
+    let said = rw c.as_deque.ensures at c.are_empty.ensures in (
       λ e. cc,
       λ none.
           let here = subst (λ (x : SlabCacheState). deeds_of x ≡ []) (sym c.self.view_is) none in
@@ -16,10 +16,10 @@ returns-then-not-are_empty-clause-empty g c =
 
 pub discard_all-requires : goal.discard_all-requires
 discard_all-requires g c =
-    let said = rw c.as_slice.ensures at c.are_empty.ensures in
+    let said = rw c.as_deque.ensures at c.are_empty.ensures in
     rw c.into_slabs.ensures (said.0 c.if-not-are_empty.false)
 
 pub returns-clause-empty : goal.returns-clause-empty
 returns-clause-empty g c =
-    let said = rw c.as_slice.ensures at c.are_empty.ensures in
+    let said = rw c.as_deque.ensures at c.are_empty.ensures in
     (λ e. subst (λ (x : SlabCacheState). deeds_of x ≡ []) c.self.view_is (none_kept c.self.inside.slabs.items (said.0 c.if-not-are_empty.false)), λ none. refl)

@@ -9,23 +9,23 @@ use Rattle.slab_layer.proofs.ReportLemmas.{spans_fit, kept_units, tiled, once}
 use Rattle.slab_layer.proofs.caches.SlabCache.report.Goals as goal
 
 pub total-requires : goal.total-requires
-total-requires g c = rw c.as_slice.ensures (spans_fit _ c.self.invariant)
+total-requires g c = rw c.as_deque.ensures (spans_fit _ c.self.invariant)
 
 pub returns-clause-idle : goal.returns-clause-idle
 returns-clause-idle g c =
-    let said = rw c.as_slice.ensures at c.total.ensures.idle in
+    let said = rw c.as_deque.ensures at c.total.ensures.idle in
     let all = said ∙ sym (sum_by-flat_map (λ (h : Holding). h.range.len) (λ (s : SlabState). idle_chunks_by (chunk_at s) s) c.self.inside.slabs.items) in
     subst (λ (x : SlabCacheState). c.total.result.idle ≡ units_held (idle_deeds x)) c.self.view_is all
 
 pub returns-clause-gap : goal.returns-clause-gap
 returns-clause-gap g c =
-    let said = rw c.as_slice.ensures at c.total.ensures.gap in
+    let said = rw c.as_deque.ensures at c.total.ensures.gap in
     let all = said ∙ sym (sum_by-flat_map (λ (h : Holding). h.range.len) (λ (s : SlabState). option_to_list (gap_of s)) c.self.inside.slabs.items) in
     subst (λ (x : SlabCacheState). c.total.result.gap ≡ units_held (gaps x)) c.self.view_is all
 
 pub returns-clause-tail : goal.returns-clause-tail
 returns-clause-tail g c =
-    let said = rw c.as_slice.ensures at c.total.ensures.tail in
+    let said = rw c.as_deque.ensures at c.total.ensures.tail in
     let all = said ∙ sym (sum_by-flat_map (λ (h : Holding). h.range.len) (λ (s : SlabState). option_to_list (tail_of s)) c.self.inside.slabs.items) in
     subst (λ (x : SlabCacheState). c.total.result.tail ≡ units_held (tails x)) c.self.view_is all
 

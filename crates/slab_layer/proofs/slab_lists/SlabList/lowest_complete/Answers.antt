@@ -1,12 +1,12 @@
-use Rattle.std.proofs.Common.{sym, ◌∙◌, ap}
+use Rattle.std.proofs.Common.{ap}
 use Rattle.slab_layer.specs.Slab.{IsComplete, is_complete}
-use Rattle.slab_layer.specs.Bases.{SlabListState, bases_where}
+use Rattle.slab_layer.specs.Bases.{SlabListState}
 use Rattle.slab_layer.proofs.CountLemmas.{complete_true, complete_is, lowest_of}
 use Rattle.slab_layer.proofs.slab_lists.SlabList.lowest_complete.Goals as goal
 
 pub returns : goal.returns
 returns g c =
-    let items = c.deref.ensures.value ∙ ap (λ (l : SlabListState). l.items) c.self.view_is in
-    let listed = c.self.invariant.complete_is ∙ ap (bases_where is_complete) (sym c.deref.ensures.value) in
+    let items = ap (λ (l : SlabListState). l.items) c.self.view_is in
+    let listed = c.self.invariant.complete_is in
     let lowest = rw items at (c.lowest.ensures is_complete listed) in
     lowest_of is_complete IsComplete c.args.self.now.items c.lowest.result complete_true complete_is lowest

@@ -13,33 +13,33 @@ pub relist-requires-clause-place : goal.relist-requires-clause-place
 relist-requires-clause-place g c =
     let within : c.args.i < length c.self.inside.slabs.items = subst (λ (l : SlabListState). c.args.i < length l.items) (sym c.self.view_is) c.requires in
     let base = c.base-base.ensures.value ∙ ap (λ (e : Extent). e.base) c.span.ensures.value in
-    place_of is_partial c.self.inside.slabs.items c.args.i c.remove-slab.result c.base-base.result c.self.inside.partial.items c.is_partial.result c.self.invariant.ascending c.self.invariant.some within c.remove-slab.ensures.value base c.self.invariant.partial_is c.is_partial.ensures
+    place_of is_partial c.self.inside.slabs.items c.args.i c.unwrap-slab.result c.base-base.result c.self.inside.partial.items c.is_partial.result c.self.invariant.ascending c.self.invariant.some within (rw c.unwrap-slab.ensures at c.remove.ensures.value) base c.self.invariant.partial_is c.is_partial.ensures
 
 pub relist-requires-clause-room : goal.relist-requires-clause-room
 relist-requires-clause-room g c =
     let within : c.args.i < length c.self.inside.slabs.items = subst (λ (l : SlabListState). c.args.i < length l.items) (sym c.self.view_is) c.requires in
-    room_of is_partial c.self.inside.slabs.items c.args.i c.remove-slab.result c.self.inside.partial.items c.is_partial.result c.self.inside.partial.room within c.remove-slab.ensures.value c.self.invariant.partial_is c.is_partial.ensures c.self.invariant.partial_room
+    room_of is_partial c.self.inside.slabs.items c.args.i c.unwrap-slab.result c.self.inside.partial.items c.is_partial.result c.self.inside.partial.room within (rw c.unwrap-slab.ensures at c.remove.ensures.value) c.self.invariant.partial_is c.is_partial.ensures c.self.invariant.partial_room
 
 pub relist-requires-2-clause-place : goal.relist-requires-2-clause-place
 relist-requires-2-clause-place g c =
     let within : c.args.i < length c.self.inside.slabs.items = subst (λ (l : SlabListState). c.args.i < length l.items) (sym c.self.view_is) c.requires in
     let base = c.base-base.ensures.value ∙ ap (λ (e : Extent). e.base) c.span.ensures.value in
-    place_of is_complete c.self.inside.slabs.items c.args.i c.remove-slab.result c.base-base.result c.self.inside.complete.items c.is_complete.result c.self.invariant.ascending c.self.invariant.some within c.remove-slab.ensures.value base c.self.invariant.complete_is c.is_complete.ensures
+    place_of is_complete c.self.inside.slabs.items c.args.i c.unwrap-slab.result c.base-base.result c.self.inside.complete.items c.is_complete.result c.self.invariant.ascending c.self.invariant.some within (rw c.unwrap-slab.ensures at c.remove.ensures.value) base c.self.invariant.complete_is c.is_complete.ensures
 
 pub relist-requires-2-clause-room : goal.relist-requires-2-clause-room
 relist-requires-2-clause-room g c =
     let within : c.args.i < length c.self.inside.slabs.items = subst (λ (l : SlabListState). c.args.i < length l.items) (sym c.self.view_is) c.requires in
-    room_of is_complete c.self.inside.slabs.items c.args.i c.remove-slab.result c.self.inside.complete.items c.is_complete.result c.self.inside.complete.room within c.remove-slab.ensures.value c.self.invariant.complete_is c.is_complete.ensures c.self.invariant.complete_room
+    room_of is_complete c.self.inside.slabs.items c.args.i c.unwrap-slab.result c.self.inside.complete.items c.is_complete.result c.self.inside.complete.room within (rw c.unwrap-slab.ensures at c.remove.ensures.value) c.self.invariant.complete_is c.is_complete.ensures c.self.invariant.complete_room
 
 pub invariant_of-self : goal.invariant_of-self
 invariant_of-self g c =
     let slabs = c.self.inside.slabs.items in
-    let s = c.remove-slab.result in
+    let s = c.unwrap-slab.result in
     let kept = c.self.invariant in
     let within : c.args.i < length c.self.inside.slabs.items = subst (λ (l : SlabListState). c.args.i < length l.items) (sym c.self.view_is) c.requires in
     let base = c.base-base.ensures.value ∙ ap (λ (e : Extent). e.base) c.span.ensures.value in
-    let is = c.remove-slab.ensures.value in
-    let left = c.remove-slab.ensures.items in
+    let is = (rw c.unwrap-slab.ensures at c.remove.ensures.value) in
+    let left = rw c.unwrap-slab.ensures at c.remove.ensures.items in
     let long = length-remove slabs c.args.i within in
     let partial = after_remove is_partial slabs c.args.i s c.base-base.result c.self.inside.partial.items c.relist.new.self.items c.is_partial.result kept.ascending kept.some within is base kept.partial_is c.is_partial.ensures c.relist.ensures.items in
     let complete = after_remove is_complete slabs c.args.i s c.base-base.result c.self.inside.complete.items c.relist-2.new.self.items c.is_complete.result kept.ascending kept.some within is base kept.complete_is c.is_complete.ensures c.relist-2.ensures.items in
