@@ -16,9 +16,14 @@
 //! The gap and the tail are never handed out. Each chunk is out or at home. The colours go 0, 1, 2,
 //! 3, 0, .. from slab to slab.
 //!
-//! With s slabs of n chunks, `take` and `reap` look at s * n places at most, `put` and `add` at s
-//! slabs; `add` splits n deeds off and `reap` joins them. How many units they cover costs nothing.
-//! A cache has a place for each chunk, and a few numbers for each slab.
+//! A slab is found by its base, by halving. The bases of the slabs with a chunk at home and another
+//! out, and of those with all at home, stand in two sorted lists: so the slab that gives the next
+//! chunk, and the one that is reaped, is the first of a list. With s slabs of n chunks `take` and
+//! `put` look at some log s slabs, and `take` at n places of one at most. `add` and `reap` move the
+//! slabs on one side of theirs, at most s / 2, and none where it is the highest or the lowest;
+//! `add` splits n deeds off and `reap` joins them. How many units they cover costs nothing.
+//! `report` and `close` go along all slabs. A cache has a place for each chunk, and for each slab
+//! a few numbers and room for its base in both lists.
 //!
 //! Begin with [`SlabCache`]; its contracts speak of the words in `specs/Slab.antt` (a slab),
 //! `specs/Cache.antt` (a cache, what lies in it and what it keeps) and `specs/Calls.antt` (what a

@@ -1,4 +1,4 @@
-//! The slabs of a cache.
+//! The slabs of a cache: in order, with those listed apart that have a chunk at home.
 ghost use Rattle.std.specs.Prelude.{
   ◌≡◌,
   ◌≢◌,
@@ -44,12 +44,13 @@ use std::alloc::{AllocError, Global};
 use std::collections::VecDeque;
 use std::marker::Model;
 
-/// Slabs in order of their bases.
+/// Slabs in order of their bases. The lowest goes first where all are reaped, which moves none in
+/// a deque.
 pub(crate) struct SlabList<D: Deed> {
     slabs: VecDeque<Slab<D>>,
-    /// Of the slabs with a chunk at home and another out.
+    /// The bases of those with a chunk at home and another out.
     partial: Bases,
-    /// Of those with all chunks at home.
+    /// And of those with all chunks at home.
     complete: Bases,
 }
 
@@ -93,6 +94,7 @@ impl<D: Deed> SlabList<D> {
         self.complete.reserve(alloc, room)
     }
 
+    /// For what goes along all of them.
     pub(crate) fn as_deque(&self) -> &VecDeque<Slab<D>>
         ensures { result.now.items ≡ self.now.items }
     {
@@ -243,7 +245,7 @@ impl<D: Deed> SlabList<D> {
         slab
     }
 
-    /// The slabs alone.
+    /// The slabs, no longer listed.
     pub(crate) fn into_slabs(self) -> VecDeque<Slab<D>>
         ensures { result.items ≡ self.items }
     {
