@@ -1,14 +1,13 @@
 -- The chunks at home, and those that are out, whatever is counted.
-use Rattle.std.proofs.Common.{◌≡◌, ℕ, zero, suc, ◌+◌, ◌*◌, ◌<◌, Bool, true, false, not, cond, List, [], ◌∷◌, length, get_or, set, All, Option, Some, None, refl, sym, ap, ◌∙◌, arith, if◌then◌else◌}
-use Rattle.std.specs.Prelude.{sum_by, count_by, Contains, MatchOption, is_some, ◌↔◌}
-use Rattle.std.proofs.lemmas.List.{get_or_default}
+use Rattle.std.proofs.Common.{◌≡◌, ℕ, zero, suc, ◌+◌, ◌*◌, ◌<◌, Bool, true, false, not, cond, List, [], ◌∷◌, length, get_or, set, All, refl, sym, ap, ◌∙◌, arith, if◌then◌else◌}
+use Rattle.std.specs.Prelude.{sum_by, count_by, Contains}
 use Rattle.std.proofs.lemmas.List.Sums.{sum_by-cons}
 use Rattle.std.proofs.lemmas.List.Elements.{All-nil, All-cons, All-head, All-tail, All-contains}
 use Rattle.deed_core.specs.Extent.{Extent}
 use Rattle.deed_core.specs.Holding.{Holding}
 use Rattle.deed_core.specs.Covering.{covers, covers_held, covering_held, units_held}
 use Rattle.deed_core.proofs.LawProofs.{covers_is, covers_cut}
-use Rattle.slab_layer.specs.Slab.{items_where, IsLowestIdle}
+use Rattle.slab_layer.specs.Slab.{items_where}
 
 -- what a value counts, if it is there
 abbrev pub counted : Bool → ℕ → ℕ
@@ -96,12 +95,5 @@ some_false (true ∷ xs) none =
     let rest : Contains xs false = some_false xs (λ all. none (All-cons (λ b. b ≡ true) true xs refl all)) in
     (suc rest.0, omega (arith, rest.1), rest.2)
 
-pub no_false : (xs : List Bool) → All (λ b. b ≡ true) xs → Contains xs false → ⊥
-no_false xs all has = let e : false ≡ true = All-contains (λ b. b ≡ true) xs false all has in cc
-
 pub no_true : (xs : List Bool) → All (λ b. b ≡ false) xs → Contains xs true → ⊥
 no_true xs all has = let e : true ≡ false = All-contains (λ b. b ≡ false) xs true all has in cc
-
-pub partial_is : (xs : List Bool) (o : Option ℕ) → (All (λ b. b ≡ true) xs → ⊥) → MatchOption o (All (λ b. b ≡ false) xs) (λ j. IsLowestIdle j xs) → (is_some o ≡ true) ↔ (Contains xs true × Contains xs false)
-partial_is xs None some out = (λ e. cc, λ has. absurd (no_true xs out has.0))
-partial_is xs (Some j) some idle = (λ e. ((j, idle.within, get_or_default xs j true false idle.within ∙ idle.idle), some_false xs some), λ has. refl)

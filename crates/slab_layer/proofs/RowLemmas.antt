@@ -1,11 +1,9 @@
 -- A row of chunks.
-use Rattle.std.proofs.Common.{◌≡◌, inl, inr, cond, take, ℕ, zero, suc, ◌+◌, ◌-◌, ◌*◌, ◌<◌, ◌≤◌, Bool, true, false, List, [], ◌∷◌, ◌++◌, length, get_or, set, All, Option, Some, None, map, is_some, refl, sym, ap, ◌∙◌, arith, if◌then◌else◌}
+use Rattle.std.proofs.Common.{◌≡◌, inl, inr, ℕ, zero, suc, ◌+◌, ◌-◌, ◌*◌, ◌<◌, ◌≤◌, Bool, true, false, List, [], ◌∷◌, ◌++◌, length, get_or, set, All, Option, Some, None, map, is_some, refl, sym, ap, ◌∙◌, arith, if◌then◌else◌}
 use Rattle.std.proofs.Math.ListN.{replicate}
 use Rattle.std.proofs.Math.Nat.{mul-le-mul_right}
 use Rattle.std.proofs.lemmas.Grind.{replicate_next}
-use Rattle.std.specs.Prelude.{count_by}
 use Rattle.std.proofs.lemmas.Bool.{cases_lt}
-use Rattle.std.proofs.lemmas.List.Sums.{sum_by_more}
 use Rattle.std.proofs.lemmas.List.{length-replicate, length-map, get_or-map}
 use Rattle.std.proofs.lemmas.List.Elements.{All-head, All-tail}
 use Rattle.deed_core.specs.Holding.{Holding, piece}
@@ -99,11 +97,3 @@ more_places row k x b within is this below j d before = elim (cases_lt j k) [
 
 pub all_places : {X : Type 0} (row : List (Option X)) (k : ℕ) (b : Bool) → length row ≤ k → ((j : ℕ) (d : Bool) → j < k → get_or (map is_some row) j d ≡ b) → All (λ y. y ≡ b) (map is_some row)
 all_places row k b end below j d within = below j d (omega (arith, length-map row is_some))
-
--- one more place counted
-pub more_count : {X : Type 0} (row : List (Option X)) (k : ℕ) (x : Option X) → k < length row → x ≡ get_or row k x
-    → count_by (λ b. b) (take (k + 1) (map is_some row)) ≡ count_by (λ b. b) (take k (map is_some row)) + cond (is_some x) 1 0
-more_count row k x within is =
-    let e : get_or (map is_some row) k false ≡ is_some x = some_at row k x false within is in
-    let long : length (map is_some row) ≡ length row = length-map row is_some in
-    sum_by_more (λ b. cond b 1 0) (map is_some row) k false (omega arith) ∙ rw e refl

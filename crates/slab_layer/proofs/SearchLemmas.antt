@@ -1,5 +1,5 @@
 -- Slabs by ascending base, and the choice among them.
-use Rattle.std.proofs.Common.{◌≡◌, inl, inr, ℕ, ◌+◌, ◌<◌, ◌≤◌, Bool, true, false, cond, nat_lt, zero, suc, List, [], ◌∷◌, length, get_or, map, All, AllPairs, refl, sym, ap, ◌∙◌, arith, subst}
+use Rattle.std.proofs.Common.{◌≡◌, inl, inr, ℕ, ◌<◌, ◌≤◌, Bool, true, false, cond, nat_lt, zero, suc, List, [], ◌∷◌, length, get_or, map, All, AllPairs, refl, sym, ap, ◌∙◌, arith, subst}
 use Rattle.std.specs.Prelude.{Contains}
 use Rattle.std.specs.List.{filter}
 use Rattle.std.specs.List.Sorted.{IsPartitionedBy}
@@ -9,23 +9,11 @@ use Rattle.std.proofs.lemmas.List.{get_or_default, get_or_read}
 use Rattle.std.proofs.lemmas.List.Elements.{All-get_or, All-nil, All-cons}
 use Rattle.slab_layer.specs.Slab.{SlabState, IsAllOut, IsComplete, IsPartial, IsLowestIdle}
 use Rattle.slab_layer.specs.Cache.{IsBelow}
+use Rattle.slab_layer.specs.declared.standings.Standing.{Standing}
+use Rattle.slab_layer.specs.Standings.{standing_of}
 use Rattle.slab_layer.specs.Bases.{bases_where}
 use Rattle.slab_layer.specs.Calls.{StandsAt, IsLowest, IsNext}
 use Rattle.slab_layer.proofs.PassingLemmas.{some_false, no_true}
-
--- what holds of none so far, and not of the next
-pub none_more : {X : Type 0} (P : X → Type 0) (xs : List X) (i : ℕ) (x : X) → i < length xs → x ≡ get_or xs i x → (P x → ⊥)
-    → ((k : ℕ) (d : X) → k < i → P (get_or xs k d) → ⊥) → (k : ℕ) (d : X) → k < i + 1 → P (get_or xs k d) → ⊥
-none_more P xs i x within is not_here below k d before has = elim (cases_lt k i) [
-  | inl earlier ↦ below k d earlier has
-  | inr later ↦
-      let e : k ≡ i = omega arith in
-      let here : get_or xs k d ≡ x = ap (λ (n : ℕ). get_or xs n d) e ∙ sym (get_or_read xs i x within is d) in
-      not_here (subst P here has)
-]
-
-pub none_all : {X : Type 0} (P : X → Type 0) (xs : List X) (i : ℕ) → length xs ≤ i → ((k : ℕ) (d : X) → k < i → P (get_or xs k d) → ⊥) → (k : ℕ) (d : X) → k < length xs → P (get_or xs k d) → ⊥
-none_all P xs i end below k d within has = below k d (omega arith) has
 
 -- the first of its kind is the lowest
 pub lowest_here : (P : SlabState → Type 0) (slabs : List SlabState) (i : ℕ) (s : SlabState) → AllPairs IsBelow slabs → i < length slabs → s ≡ get_or slabs i s → P s
@@ -103,31 +91,31 @@ from_cut base i slabs ascending cut k d reach within = elim (cases_lt i k) [
 ]
 
 -- the first slab that passes, and its base
-pub record IsFirst (test : SlabState → Bool) (base i : ℕ) (s : SlabState) (slabs : List SlabState) : Type 0 where
+pub record IsFirst (has : Standing → Bool) (base i : ℕ) (s : SlabState) (slabs : List SlabState) : Type 0 where
   pub within : i < length slabs
   pub is : s ≡ get_or slabs i s
-  pub passes : test s ≡ true
+  pub passes : has (standing_of s) ≡ true
   pub base_is : s.span.range.base ≡ base
-  pub before : (k : ℕ) (d : SlabState) → k < i → test (get_or slabs k d) ≡ false
+  pub before : (k : ℕ) (d : SlabState) → k < i → has (standing_of (get_or slabs k d)) ≡ false
 
-none_before : (test : SlabState → Bool) (s : SlabState) (ss : List SlabState) (i : ℕ) → test s ≡ false → ((k : ℕ) (d : SlabState) → k < i → test (get_or ss k d) ≡ false) → (k : ℕ) (d : SlabState) → k < suc i → test (get_or (s ∷ ss) k d) ≡ false
-none_before test s ss i out rest zero d before = out
-none_before test s ss i out rest (suc k) d before = rest k d (omega arith)
+none_before : (has : Standing → Bool) (s : SlabState) (ss : List SlabState) (i : ℕ) → has (standing_of s) ≡ false → ((k : ℕ) (d : SlabState) → k < i → has (standing_of (get_or ss k d)) ≡ false) → (k : ℕ) (d : SlabState) → k < suc i → has (standing_of (get_or (s ∷ ss) k d)) ≡ false
+none_before has s ss i out rest zero d before = out
+none_before has s ss i out rest (suc k) d before = rest k d (omega arith)
 
-first_listed : (test : SlabState → Bool) (base : ℕ) (rest : List ℕ) (slabs : List SlabState) → bases_where test slabs ≡ base ∷ rest → (i : ℕ) × (s : SlabState) × IsFirst test base i s slabs
-first_listed test base rest [] first = cc
-first_listed test base rest (s ∷ ss) first = elim (test s) as (λ b. test s ≡ b → map (λ (x : SlabState). x.span.range.base) (cond b (s ∷ filter test ss) (filter test ss)) ≡ base ∷ rest → (i : ℕ) × (r : SlabState) × IsFirst test base i r (s ∷ ss)) [
+first_listed : (has : Standing → Bool) (base : ℕ) (rest : List ℕ) (slabs : List SlabState) → bases_where has slabs ≡ base ∷ rest → (i : ℕ) × (s : SlabState) × IsFirst has base i s slabs
+first_listed has base rest [] first = cc
+first_listed has base rest (s ∷ ss) first = elim (has (standing_of s)) as (λ b. has (standing_of s) ≡ b → map (λ (x : SlabState). x.span.range.base) (cond b (s ∷ filter (λ (y : SlabState). has (standing_of y)) ss) (filter (λ (y : SlabState). has (standing_of y)) ss)) ≡ base ∷ rest → (i : ℕ) × (r : SlabState) × IsFirst has base i r (s ∷ ss)) [
   | true ↦ λ e listed. (0, s, record { within = omega arith; is = refl; passes = e; base_is = ap (λ (bs : List ℕ). get_or bs 0 0) listed; before = λ k d before. absurd (omega arith) })
-  | false ↦ λ e listed. let r = first_listed test base rest ss listed in (suc r.0, r.1, record { within = omega (arith, r.2.within); is = r.2.is; passes = r.2.passes; base_is = r.2.base_is; before = none_before test s ss r.0 e r.2.before })
+  | false ↦ λ e listed. let r = first_listed has base rest ss listed in (suc r.0, r.1, record { within = omega (arith, r.2.within); is = r.2.is; passes = r.2.passes; base_is = r.2.base_is; before = none_before has s ss r.0 e r.2.before })
 ] refl first
 
 -- where a base that is listed is cut off, its slab stands
-pub cut_at : (test : SlabState → Bool) (base i : ℕ) (rest : List ℕ) (slabs : List SlabState) → AllPairs IsBelow slabs → All (λ s. 0 < s.span.range.len) slabs → bases_where test slabs ≡ base ∷ rest → IsCut base i slabs → (s : SlabState) × IsLowest (λ t. test t ≡ true) i s slabs
-cut_at test base i rest slabs ascending some listed cut =
-    let f = first_listed test base rest slabs listed in
+pub cut_at : (has : Standing → Bool) (base i : ℕ) (rest : List ℕ) (slabs : List SlabState) → AllPairs IsBelow slabs → All (λ s. 0 < s.span.range.len) slabs → bases_where has slabs ≡ base ∷ rest → IsCut base i slabs → (s : SlabState) × IsLowest (λ t. has (standing_of t) ≡ true) i s slabs
+cut_at has base i rest slabs ascending some listed cut =
+    let f = first_listed has base rest slabs listed in
     let s = f.1 in
     let first = f.2 in
-    let lowest : IsLowest (λ t. test t ≡ true) f.0 s slabs = lowest_here (λ t. test t ≡ true) slabs f.0 s ascending first.within first.is first.passes (λ k d before passes. let out = first.before k d before in cc) in
+    let lowest : IsLowest (λ t. has (standing_of t) ≡ true) f.0 s slabs = lowest_here (λ t. has (standing_of t) ≡ true) slabs f.0 s ascending first.within first.is first.passes (λ k d before passes. let out = first.before k d before in cc) in
     let same : f.0 ≡ i = elim (cases_order f.0 i) [
       | inl here ↦ here
       | inr other ↦ elim other [
@@ -140,12 +128,12 @@ cut_at test base i rest slabs ascending some listed cut =
             absurd (omega (arith, high, up, units, at, first.base_is))
       ]
     ] in
-    (s, subst (λ (n : ℕ). IsLowest (λ t. test t ≡ true) n s slabs) same lowest)
+    (s, subst (λ (n : ℕ). IsLowest (λ t. has (standing_of t) ≡ true) n s slabs) same lowest)
 
 -- none is listed where none passes
-pub none_listed : (test : SlabState → Bool) (slabs : List SlabState) → bases_where test slabs ≡ [] → All (λ s. test s ≡ false) slabs
-none_listed test [] none = All-nil (λ s. test s ≡ false)
-none_listed test (s ∷ ss) none = elim (test s) as (λ b. test s ≡ b → map (λ (x : SlabState). x.span.range.base) (cond b (s ∷ filter test ss) (filter test ss)) ≡ [] → All (λ x. test x ≡ false) (s ∷ ss)) [
+pub none_listed : (has : Standing → Bool) (slabs : List SlabState) → bases_where has slabs ≡ [] → All (λ s. has (standing_of s) ≡ false) slabs
+none_listed has [] none = All-nil (λ s. has (standing_of s) ≡ false)
+none_listed has (s ∷ ss) none = elim (has (standing_of s)) as (λ b. has (standing_of s) ≡ b → map (λ (x : SlabState). x.span.range.base) (cond b (s ∷ filter (λ (y : SlabState). has (standing_of y)) ss) (filter (λ (y : SlabState). has (standing_of y)) ss)) ≡ [] → All (λ x. has (standing_of x) ≡ false) (s ∷ ss)) [
   | true ↦ λ e listed. cc
-  | false ↦ λ e listed. All-cons (λ x. test x ≡ false) s ss e (none_listed test ss listed)
+  | false ↦ λ e listed. All-cons (λ x. has (standing_of x) ≡ false) s ss e (none_listed has ss listed)
 ] refl none

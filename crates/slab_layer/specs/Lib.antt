@@ -1,5 +1,6 @@
 pub mod Parts
 pub mod Slab
+pub mod Standings
 pub mod Cache
 pub mod Bases
 pub mod Calls

@@ -8,9 +8,6 @@ use Rattle.std.specs.Prelude.{
   ◌/◌,
   ◌<◌,
   ◌≤◌,
-  ◌==◌,
-  ◌&&◌,
-  nat_lt,
   count_by,
   Bool,
   true,
@@ -97,14 +94,6 @@ IsPartial s = Contains s.home true × Contains s.home false
 -- how many chunks are at home
 abbrev pub idle_count : SlabState → ℕ
 idle_count s = count_by (λ b. b) s.home
-
--- by that, whether all are
-abbrev pub is_complete : SlabState → Bool
-is_complete s = idle_count s == length s.home
-
--- and whether some are, and others aren't
-abbrev pub is_partial : SlabState → Bool
-is_partial s = nat_lt 0 (idle_count s) && nat_lt (idle_count s) (length s.home)
 
 -- the lowest chunk that is at home
 pub record IsLowestIdle (j : ℕ) (home : List Bool) : Type 0 where

@@ -9,6 +9,7 @@ ghost use Rattle.std.specs.Prelude.{
   max,
   length,
   List,
+  true,
   false,
   MatchOption,
   OnOk,
@@ -22,7 +23,7 @@ use std::marker::Model;
 
 /// A base as it stands in a sorted list.
 #[derive(Clone, Copy, Debug)]
-pub(crate) struct SlabBase {
+struct SlabBase {
     base: u64,
 }
 
@@ -102,20 +103,22 @@ impl Bases {
         Some(lowest.base)
     }
 
-    /// Lists a base if it `is` to be listed, where it `was` or wasn't. It takes no memory.
-    pub(crate) fn relist(&mut self, base: u64, was: bool, is: bool)
+    /// Lists a base, or takes it off, or neither: it `was_listed` or not, and is to be or not. It
+    /// takes no memory.
+    pub(crate) fn relist(&mut self, base: u64, was_listed: bool, listed: bool)
         requires place { (low : List ℕ) × (high : List ℕ) × IsAround base low high
-            × (self.old.items ≡ low ++ (base_if was base ++ high)) }
-        requires room { was ≡ false → length self.old.items < self.old.room }
+            × (self.old.items ≡ low ++ (base_if was_listed base ++ high)) }
+        requires room { was_listed ≡ false → listed ≡ true
+            → length self.old.items < self.old.room }
         ensures items { (low high : List ℕ) → IsAround base low high
-            → self.old.items ≡ low ++ (base_if was base ++ high)
-            → self.new.items ≡ low ++ (base_if is base ++ high) }
+            → self.old.items ≡ low ++ (base_if was_listed base ++ high)
+            → self.new.items ≡ low ++ (base_if listed base ++ high) }
         ensures room { self.new.room ≡ self.old.room }
     {
-        if was == is {
+        if was_listed == listed {
             return;
         }
-        if is {
+        if listed {
             self.rows.insert(SlabBase { base });
         } else {
             let _ = self.rows.remove(u128::from(base));

@@ -17,13 +17,17 @@
 //! 3, 0, .. from slab to slab.
 //!
 //! A slab is found by its base, by halving. The bases of the slabs with a chunk at home and another
-//! out, and of those with all at home, stand in two sorted lists: so the slab that gives the next
-//! chunk, and the one that is reaped, is the first of a list. With s slabs of n chunks `take` and
-//! `put` look at some log s slabs, and `take` at n places of one at most. `add` and `reap` move the
-//! slabs on one side of theirs, at most s / 2, and none where it is the highest or the lowest;
-//! `add` splits n deeds off and `reap` joins them. How many units they cover costs nothing.
-//! `report` and `close` go along all slabs. A cache has a place for each chunk, and for each slab
-//! a few numbers and room for its base in both lists.
+//! out, and of those with all at home, stand in two lists of `sorted_rows`: so the slab that gives
+//! the next chunk, and the one that is reaped, is the first of a list. With s slabs of n chunks
+//! `take` and `put` look at some log s slabs, and `take` at n places of one at most. `add` and
+//! `reap` move the slabs on one side of theirs, at most s / 2, and none where it is the highest or
+//! the lowest; `add` splits n deeds off and `reap` joins them. How many units they cover costs
+//! nothing. A base that comes to a list, or goes, moves bases there, as that crate says. `add`
+//! moves all slabs where it has to take a larger block for them, ever more seldom. `report` and
+//! `close` go along all slabs.
+//!
+//! A cache has a place for each chunk, a few numbers for each slab, and room for all bases in
+//! both lists: 2 kilobytes with the first slab, and 64 bytes or more for each.
 //!
 //! Begin with [`SlabCache`]; its contracts speak of the words in `specs/Slab.antt` (a slab),
 //! `specs/Cache.antt` (a cache, what lies in it and what it keeps) and `specs/Calls.antt` (what a
@@ -33,6 +37,7 @@
 mod bases;
 mod caches;
 mod faults;
+mod idle_slabs;
 mod laws;
 mod parts;
 mod reports;
@@ -40,6 +45,7 @@ mod rows;
 mod search;
 mod slab_lists;
 mod slabs;
+mod standings;
 
 pub use caches::SlabCache;
 pub use faults::{AddFault, PutFault};

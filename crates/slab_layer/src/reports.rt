@@ -24,8 +24,10 @@ pub(crate) fn total<D: Deed>(slabs: &VecDeque<Slab<D>>) -> SlabReport
     requires { sum_by (λ s. s.span.range.len) slabs.now.items ≤ 2 ^ 62 }
     ensures idle { result.idle
         ≡ sum_by (λ s. units_held (idle_chunks_by (chunk_at s) s)) slabs.now.items }
-    ensures gap { result.gap ≡ sum_by (λ s. units_held (option_to_list (gap_of s))) slabs.now.items }
-    ensures tail { result.tail ≡ sum_by (λ s. units_held (option_to_list (tail_of s))) slabs.now.items }
+    ensures gap { result.gap
+        ≡ sum_by (λ s. units_held (option_to_list (gap_of s))) slabs.now.items }
+    ensures tail { result.tail
+        ≡ sum_by (λ s. units_held (option_to_list (tail_of s))) slabs.now.items }
 {
     let mut idle = 0;
     let mut gap = 0;

@@ -9,7 +9,6 @@ ghost use Rattle.std.specs.Prelude.{
   [],
   true,
   false,
-  length,
   map,
   is_some,
   replicate,

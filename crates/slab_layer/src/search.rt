@@ -21,6 +21,8 @@ ghost use Rattle.std.specs.Prelude.{
 ghost use Rattle.deed_core.specs.Extent.{Overlap};
 ghost use Rattle.slab_layer.specs.Slab.{SlabState, IsSlab, chunk_at};
 ghost use Rattle.slab_layer.specs.Cache.{IsBelow};
+ghost use Rattle.slab_layer.specs.declared.standings.Standing.{Standing};
+ghost use Rattle.slab_layer.specs.Standings.{standing_of};
 ghost use Rattle.slab_layer.specs.Bases.{bases_where};
 ghost use Rattle.slab_layer.specs.Calls.{StandsAt, IsLowest};
 
@@ -33,9 +35,10 @@ use std::collections::VecDeque;
 pub(crate) fn lowest<D: Deed>(slabs: &VecDeque<Slab<D>>, bases: &Bases) -> Option<usize>
     requires ascending { AllPairs IsBelow slabs.now.items }
     requires some { All (λ s. 0 < s.span.range.len) slabs.now.items }
-    ensures { (test : SlabState → Bool) → bases.now.items ≡ bases_where test slabs.now.items
-        → MatchOption result (All (λ s. test s ≡ false) slabs.now.items)
-        (λ i. (s : SlabState) × IsLowest (λ t. test t ≡ true) i s slabs.now.items) }
+    ensures { (has : Standing → Bool) → bases.now.items ≡ bases_where has slabs.now.items
+        → MatchOption result (All (λ s. has (standing_of s) ≡ false) slabs.now.items)
+        (λ i. (s : SlabState) × IsLowest (λ t. has (standing_of t) ≡ true) i s
+        slabs.now.items) }
 {
     let base = bases.lowest()?;
     Some(index_for(slabs, base))

@@ -15,7 +15,6 @@ ghost use Rattle.std.specs.Prelude.{
   slice_index_or,
   slice_set,
   All,
-  AllPairs,
   Any,
   IsTrue,
   MatchOption,
@@ -33,12 +32,12 @@ ghost use Rattle.slab_layer.specs.Slab.{
   chunk_at,
   with_chunk,
 };
-ghost use Rattle.slab_layer.specs.Cache.{IsBelow};
 ghost use Rattle.slab_layer.specs.Calls.{StandsAt, IsLowest, IsNext};
 
-use crate::bases::Bases;
+use crate::idle_slabs::IdleSlabs;
 use crate::search::{find_chunk, index_for, lowest, overlaps};
 use crate::slabs::Slab;
+use crate::standings::Standing;
 use deed_core::{Deed, Range, Stored};
 use std::alloc::{AllocError, Global};
 use std::collections::VecDeque;
@@ -48,10 +47,7 @@ use std::marker::Model;
 /// a deque.
 pub(crate) struct SlabList<D: Deed> {
     slabs: VecDeque<Slab<D>>,
-    /// The bases of those with a chunk at home and another out.
-    partial: Bases,
-    /// And of those with all chunks at home.
-    complete: Bases,
+    idle: IdleSlabs,
 }
 
 impl<D: Deed> Model for SlabList<D> {
@@ -63,35 +59,35 @@ impl<D: Deed> Model for SlabList<D> {
 
     ghost view = { λ l. record {
       items = l.slabs.items;
-      room = min (deque_capacity l.slabs) (min l.partial.room l.complete.room);
+      room = min (deque_capacity l.slabs) l.idle.room;
     } };
 
-    ghost invariant = { λ l. AreListed l.slabs.items l.partial l.complete };
+    ghost invariant = { λ l. AreListed l.slabs.items l.idle };
 }
 
 impl<D: Deed> SlabList<D> {
     /// No slab, and no room for one.
     pub(crate) fn new(alloc: Global) -> SlabList<D>
-        ensures { result.items ≡ [] }
+        ensures items { result.items ≡ [] }
+        ensures room { result.room ≡ 0 }
     {
         SlabList {
             slabs: VecDeque::new(alloc),
-            partial: Bases::new(alloc),
-            complete: Bases::new(alloc),
+            idle: IdleSlabs::new(alloc),
         }
     }
 
     /// Makes room for one more.
     pub(crate) fn reserve(&mut self, alloc: Global) -> Result<(), AllocError>
         ensures room { OnOk result (length self.new.items < self.new.room) }
+        ensures kept { self.old.room ≤ self.new.room }
         ensures items { self.new.items ≡ self.old.items }
     {
         let Some(room) = self.slabs.len().checked_add(1) else {
             return Err(AllocError);
         };
         self.slabs.reserve(1)?;
-        self.partial.reserve(alloc, room)?;
-        self.complete.reserve(alloc, room)
+        self.idle.reserve(alloc, room)
     }
 
     /// For what goes along all of them.
@@ -106,7 +102,7 @@ impl<D: Deed> SlabList<D> {
         ensures { MatchOption result (All (λ s. ¬ IsComplete s) self.now.items)
             (λ i. (s : SlabState) × IsLowest IsComplete i s self.now.items) }
     {
-        lowest(&self.slabs, &self.complete)
+        lowest(&self.slabs, self.idle.complete())
     }
 
     // The lowest slab with a chunk at home and another out.
@@ -114,7 +110,7 @@ impl<D: Deed> SlabList<D> {
         ensures { MatchOption result (All (λ s. ¬ IsPartial s) self.now.items)
             (λ i. (s : SlabState) × IsLowest IsPartial i s self.now.items) }
     {
-        lowest(&self.slabs, &self.partial)
+        lowest(&self.slabs, self.idle.partial())
     }
 
     // The slab that gives the next chunk.
@@ -186,14 +182,12 @@ impl<D: Deed> SlabList<D> {
         ensures chunk { (s : SlabState) → StandsAt i s self.old.items → result ≡ chunk_at s j }
         ensures items { (s : SlabState) → StandsAt i s self.old.items
             → self.new.items ≡ slice_set self.old.items i (with_chunk s j false) }
+        ensures room { self.new.room ≡ self.old.room }
     {
         let slab = &mut self.slabs[i];
-        let base = slab.span().base();
-        let was_partial = slab.is_partial();
-        let was_complete = slab.is_complete();
+        let was = slab.standing();
         let deed = slab.take(j);
-        self.partial.relist(base, was_partial, slab.is_partial());
-        self.complete.relist(base, was_complete, slab.is_complete());
+        self.idle.relist(slab.span().base(), was, slab.standing());
         deed
     }
 
@@ -201,16 +195,15 @@ impl<D: Deed> SlabList<D> {
     pub(crate) fn put(&mut self, i: usize, j: usize, deed: Stored<D>)
         requires { (s : SlabState) × StandsAt i s self.old.items × (j < length s.home)
             × (slice_index_or s.home j false ≡ false) × (deed ≡ chunk_at s j) }
-        ensures { (s : SlabState) → StandsAt i s self.old.items
+        ensures items { (s : SlabState) → StandsAt i s self.old.items
             → self.new.items ≡ slice_set self.old.items i (with_chunk s j true) }
+        ensures room { self.new.room ≡ self.old.room }
     {
         let slab = &mut self.slabs[i];
-        let base = slab.span().base();
-        let was_partial = slab.is_partial();
-        let was_complete = slab.is_complete();
+        let before = slab.standing();
         slab.put(j, deed);
-        self.partial.relist(base, was_partial, slab.is_partial());
-        self.complete.relist(base, was_complete, slab.is_complete());
+        self.idle
+            .relist(slab.span().base(), before, slab.standing());
     }
 
     /// Puts in a slab where it belongs. It takes no memory.
@@ -221,11 +214,12 @@ impl<D: Deed> SlabList<D> {
             (take place self.old.items) }
         requires above { All (λ s. end_of slab.span.range ≤ s.span.range.base)
             (drop place self.old.items) }
-        ensures { self.new.items ≡ insert self.old.items place slab }
+        ensures items { self.new.items ≡ insert self.old.items place slab }
+        ensures room { self.old.room ≤ self.new.room }
     {
-        let base = slab.span().base();
-        self.partial.relist(base, false, slab.is_partial());
-        self.complete.relist(base, false, slab.is_complete());
+        // As if it had come with all its chunks out: so it stands in no list.
+        self.idle
+            .relist(slab.span().base(), Standing::AllOut, slab.standing());
         match self.slabs.insert(place, slab) {
             Ok(()) => {}
             Err(_) => unreachable!(),
@@ -237,11 +231,11 @@ impl<D: Deed> SlabList<D> {
         requires { i < length self.old.items }
         ensures slab { result ≡ slice_index_or self.old.items i result }
         ensures items { self.new.items ≡ remove self.old.items i }
+        ensures room { self.new.room ≡ self.old.room }
     {
         let slab = self.slabs.remove(i).unwrap();
-        let base = slab.span().base();
-        self.partial.relist(base, slab.is_partial(), false);
-        self.complete.relist(base, slab.is_complete(), false);
+        self.idle
+            .relist(slab.span().base(), slab.standing(), Standing::AllOut);
         slab
     }
 
@@ -249,11 +243,7 @@ impl<D: Deed> SlabList<D> {
     pub(crate) fn into_slabs(self) -> VecDeque<Slab<D>>
         ensures { result.items ≡ self.items }
     {
-        let SlabList {
-            slabs,
-            partial: _,
-            complete: _,
-        } = self;
+        let SlabList { slabs, idle: _ } = self;
         slabs
     }
 }

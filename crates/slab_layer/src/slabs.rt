@@ -23,12 +23,11 @@ ghost use Rattle.std.specs.Prelude.{
 ghost use Rattle.std.specs.Option.{option_to_list};
 ghost use Rattle.deed_core.specs.Covering.{units_held};
 ghost use Rattle.deed_core.specs.Extent.{IsRange};
+ghost use Rattle.slab_layer.specs.Standings.{standing_of};
 ghost use Rattle.slab_layer.specs.Slab.{
   SlabState,
   IsComplete,
   IsLowestIdle,
-  is_complete as is_complete_state,
-  is_partial as is_partial_state,
   chunk_at,
   new_slab,
   with_chunk,
@@ -40,6 +39,7 @@ ghost use Rattle.slab_layer.specs.Slab.{
 
 use crate::parts::{cut, join};
 use crate::rows::{chop, first_some, unchop};
+use crate::standings::Standing;
 use deed_core::{Deed, Range, Stored};
 use std::alloc::Global;
 use std::marker::Model;
@@ -146,12 +146,6 @@ impl<D: Deed> Slab<D> {
         join(gap, body).unwrap()
     }
 
-    pub(crate) fn root(&self) -> u32
-        ensures { result ≡ self.now.span.root }
-    {
-        self.root
-    }
-
     pub(crate) fn span(&self) -> Range
         ensures value { result ≡ self.now.span.range }
         ensures range { IsRange result }
@@ -169,18 +163,17 @@ impl<D: Deed> Slab<D> {
         first_some(&self.home)
     }
 
-    /// Whether all chunks are at home.
-    pub(crate) fn is_complete(&self) -> bool
-        ensures { result ≡ is_complete_state self.now }
+    /// Which of its chunks are at home. It looks at none of them.
+    pub(crate) fn standing(&self) -> Standing
+        ensures { result ≡ standing_of self.now }
     {
-        self.idle == self.home.len()
-    }
-
-    /// Whether a chunk is at home and another out.
-    pub(crate) fn is_partial(&self) -> bool
-        ensures { result ≡ is_partial_state self.now }
-    {
-        0 < self.idle && self.idle < self.home.len()
+        if self.idle == self.home.len() {
+            return Standing::Complete;
+        }
+        if self.idle == 0 {
+            return Standing::AllOut;
+        }
+        Standing::Partial
     }
 
     pub(crate) fn is_home(&self, j: usize) -> bool

@@ -67,7 +67,7 @@ returns-clause-added g c =
     let within = rw slabs at c.index_for-place.ensures.within in
     let below = rw (slabs, c.base.ensures.value) at c.index_for-place.ensures.below in
     let above = rw (slabs, c.base.ensures.value) at c.index_for-place.ensures.above in
-    let put = rw slabs at c.insert.ensures in
+    let put = rw slabs at c.insert.ensures.items in
     let tag = c.new-2.ensures
     ∙ ap (λ (h : Holding). let t : Tag = record { arena = c.self.inside.arena; route = Cached c.self.inside.k; holding = h } in t) (c.into_deed-2.ensures ∙ c.take-first.ensures.chunk ∙ ap (λ (s : SlabState). chunk_at s 0) slab) in (
       c.index_for-place.result,

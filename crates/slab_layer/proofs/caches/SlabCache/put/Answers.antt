@@ -84,7 +84,7 @@ unfolding gone
 returns-clause-put g c =
     let some = gone g c in
     let before = subst (λ (x : SlabCacheState). IsChunk some.i some.j some.s false c.args.segment x) (sym c.self.view_is) some.chunk in
-    (some.i, some.j, some.s, made_puts some.i some.j some.s c.put.new.self.items _ _ _ c.self.view_is before (c.put.ensures some.s before.stands))
+    (some.i, some.j, some.s, made_puts some.i some.j some.s c.put.new.self.items _ _ _ c.self.view_is before (c.put.ensures.items some.s before.stands))
 
 pub invariant_of-self : goal.invariant_of-self
 invariant_of-self g c =

@@ -1,0 +1,25 @@
+//! How a slab stands.
+ghost use Rattle.std.specs.Prelude.{◌≡◌};
+ghost use Rattle.slab_layer.specs.Standings.{lists_partial, lists_complete};
+
+/// Which of a slab's chunks are at home: none, some or all.
+#[derive(Clone, Copy, Debug)]
+pub(crate) enum Standing {
+    AllOut,
+    Partial,
+    Complete,
+}
+
+impl Standing {
+    pub(crate) fn is_partial(self) -> bool
+        ensures { result ≡ lists_partial self }
+    {
+        matches!(self, Standing::Partial)
+    }
+
+    pub(crate) fn is_complete(self) -> bool
+        ensures { result ≡ lists_complete self }
+    {
+        matches!(self, Standing::Complete)
+    }
+}
