@@ -194,6 +194,10 @@ impl<T> VecDeque<T> {
         VecDeque(std::collections::VecDeque::new())
     }
     #[inline]
+    pub fn is_empty(&self) -> bool {
+        self.0.is_empty()
+    }
+    #[inline]
     pub fn len(&self) -> usize {
         self.0.len()
     }
@@ -207,12 +211,25 @@ impl<T> VecDeque<T> {
         self.0.remove(at)
     }
     #[inline]
+    pub fn push_back_reserved(&mut self, item: T) {
+        debug_assert!(self.0.len() < self.0.capacity());
+        self.0.push_back(item)
+    }
+    #[inline]
+    pub fn pop_front(&mut self) -> Option<T> {
+        self.0.pop_front()
+    }
+    #[inline]
     pub fn pop_back(&mut self) -> Option<T> {
         self.0.pop_back()
     }
     #[inline]
     pub fn partition_point<P: FnMut(&T) -> bool>(&self, test: P) -> usize {
         self.0.partition_point(test)
+    }
+    pub fn append(&mut self, other: &mut VecDeque<T>) -> Result<(), AllocError> {
+        self.0.append(&mut other.0);
+        Ok(())
     }
     #[inline]
     pub fn reserve(&mut self, more: usize) -> Result<(), AllocError> {

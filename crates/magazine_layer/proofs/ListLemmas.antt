@@ -1,5 +1,6 @@
 -- What a depot's calls keep of its lists.
-use Rattle.std.proofs.Common.{◌≡◌, ℕ, ◌+◌, ◌-◌, ◌<◌, ◌≤◌, List, [], ◌∷◌, ◌++◌, length, All, arith, ap, length-append, Some}
+use Rattle.std.proofs.Common.{◌≡◌, ℕ, ◌+◌, ◌-◌, ◌<◌, ◌≤◌, List, [], ◌∷◌, ◌++◌, length, drop, get_or, All, arith, ap, sym, ◌∙◌, length-append, Some}
+use Rattle.std.proofs.lemmas.List.{drop_more}
 use Rattle.std.proofs.lemmas.List.Elements.{All-append, All-push, All-pop, All-rest, All-nil, All-head, All-weaker}
 use Rattle.deed_core.specs.Tag.{Tag}
 use Rattle.magazine_layer.specs.Magazines.{IsSize, MagazineState}
@@ -94,3 +95,9 @@ old_rounds d stocked some none =
     let rounds : 0 < length (all_rounds d.old_full) = some_rounds d.old_full stocked.some some in
     let both : length (all_rounds d.old_full) + (length (all_rounds d.full) + length d.draining) ≡ 0 = simp length-append at (ap length none) in
     omega arith
+
+-- of what is left of a list behind the first i, the next one and the others
+pub next_of : {X : Type 0} (xs left rest : List X) (x : X) (i : ℕ) → i < length xs → left ≡ drop i xs → left ≡ x ∷ rest → (x ≡ get_or xs i x) × (rest ≡ drop (i + 1) xs)
+next_of xs left rest x i within is next =
+    let both : x ∷ rest ≡ get_or xs i x ∷ drop (i + 1) xs = sym next ∙ is ∙ drop_more xs i x within in
+    (ap (λ ys. get_or ys 0 x) both, ap (drop 1) both)

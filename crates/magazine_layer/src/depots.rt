@@ -17,6 +17,7 @@ use crate::lists::{discard_oldest, drain, reserve_one, take_first};
 use crate::magazines::{Magazine, units_of_rounds};
 use deed_core::{Deed, Segment};
 use std::alloc::Global;
+use std::collections::VecDeque;
 use std::marker::Model;
 
 /// The full and the empty magazines that no CPU has. Both lists are last in, first out. As many as
@@ -25,16 +26,17 @@ use std::marker::Model;
 /// dropped: `close` ends it where it has no round.
 pub struct Depot<D: Deed> {
     size: usize,
-    full: Vec<FullMagazine<D>>,
+    full: VecDeque<FullMagazine<D>>,
     full_reapable: usize,
-    empty: Vec<Magazine<D>>,
+    empty: VecDeque<Magazine<D>>,
     empty_reapable: usize,
-    old_full: Vec<FullMagazine<D>>,
+    old_full: VecDeque<FullMagazine<D>>,
     draining: Vec<Segment<D>>,
 }
 
 impl<D: Deed> Model for Depot<D> {
-    ghost use Rattle.std.specs.Prelude.{◌≡◌, [], All, vec_len, vec_capacity};
+    ghost use Rattle.std.specs.Prelude.{◌≡◌, [], All};
+    ghost use Rattle.std.specs.VecDeque.{deque_capacity, deque_len};
     ghost use Rattle.magazine_layer.specs.Depots.{DepotState, IsDepot, ListsHaveRoom};
 
     ghost Value = { DepotState };
@@ -43,7 +45,7 @@ impl<D: Deed> Model for Depot<D> {
       size = d.size;
       full = d.full.items;
       full_reapable = d.full_reapable;
-      empty = vec_len d.empty;
+      empty = deque_len d.empty;
       empty_reapable = d.empty_reapable;
       old_full = d.old_full.items;
       draining = d.draining.items;
@@ -53,14 +55,14 @@ impl<D: Deed> Model for Depot<D> {
       size = d.size;
       full = d.full.items;
       full_reapable = d.full_reapable;
-      empty = vec_len d.empty;
+      empty = deque_len d.empty;
       empty_reapable = d.empty_reapable;
       old_full = d.old_full.items;
       draining = d.draining.items;
     })
         × All (λ m. m ≡ record { size = d.size; rounds = [] }) d.empty.items
-        × ListsHaveRoom (vec_len d.full) (vec_len d.empty) (vec_len d.old_full)
-        (vec_capacity d.full) (vec_capacity d.empty) (vec_capacity d.old_full) };
+        × ListsHaveRoom (deque_len d.full) (deque_len d.empty) (deque_len d.old_full)
+        (deque_capacity d.full) (deque_capacity d.empty) (deque_capacity d.old_full) };
 }
 
 impl<D: Deed> Depot<D> {
@@ -71,11 +73,11 @@ impl<D: Deed> Depot<D> {
     {
         Depot {
             size,
-            full: Vec::new(alloc),
+            full: VecDeque::new(alloc),
             full_reapable: 0,
-            empty: Vec::new(alloc),
+            empty: VecDeque::new(alloc),
             empty_reapable: 0,
-            old_full: Vec::new(alloc),
+            old_full: VecDeque::new(alloc),
             draining: Vec::new(alloc),
         }
     }
@@ -122,11 +124,11 @@ impl<D: Deed> Depot<D> {
         if cpu.size() != self.size {
             return Err(FullFault::OldSize(self.size));
         }
-        let Some(full) = self.full.pop() else {
+        let Some(full) = self.full.pop_back() else {
             return Err(FullFault::NoneFull);
         };
         let empty = cpu.rotate(full.into_magazine());
-        self.empty.push_reserved(empty);
+        self.empty.push_back_reserved(empty);
         self.full_reapable = self.full_reapable.min(self.full.len());
         self.empty_reapable = self.empty_reapable.min(self.empty.len());
         Ok(())
@@ -148,11 +150,11 @@ impl<D: Deed> Depot<D> {
         if cpu.size() != self.size {
             return Err(EmptyFault::OldSize(self.size));
         }
-        let Some(empty) = self.empty.pop() else {
+        let Some(empty) = self.empty.pop_back() else {
             return Err(EmptyFault::NoneEmpty);
         };
         let full = cpu.rotate(empty);
-        self.full.push_reserved(FullMagazine::new(full));
+        self.full.push_back_reserved(FullMagazine::new(full));
         self.full_reapable = self.full_reapable.min(self.full.len());
         self.empty_reapable = self.empty_reapable.min(self.empty.len());
         Ok(())
@@ -185,7 +187,7 @@ impl<D: Deed> Depot<D> {
             return Err(PutFullFault::NoMemory(magazine));
         };
         let full = cpu.rotate(magazine);
-        self.full.push_reserved(FullMagazine::new(full));
+        self.full.push_back_reserved(FullMagazine::new(full));
         self.full_reapable = self.full_reapable.min(self.full.len());
         self.empty_reapable = self.empty_reapable.min(self.empty.len());
         Ok(())
@@ -230,7 +232,6 @@ impl<D: Deed> Depot<D> {
     /// Takes one round of the magazine being drained, else of the oldest full one of an old size,
     /// else of the oldest full one outside the working set. It discards the empty ones outside the
     /// working set in any case, also where it has no round to give. It takes no memory.
-    #[tactic(auto, using(crate::proofs::Weighing::reaps_weigh))]
     pub fn reap(&mut self) -> Option<Segment<D>>
         // what it does
         ensures of { DepotReapOf self.old result self.new }

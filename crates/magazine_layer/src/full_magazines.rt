@@ -5,6 +5,7 @@ ghost use Rattle.magazine_layer.specs.Depots.{all_rounds};
 
 use crate::magazines::Magazine;
 use deed_core::Deed;
+use std::collections::VecDeque;
 use std::marker::Model;
 
 /// A full magazine. A contract sees its rounds.
@@ -47,12 +48,12 @@ impl<D: Deed> FullMagazine<D> {
 }
 
 // The units of some full magazines, or the greatest number where they are more.
-pub(crate) fn units_of_all<D: Deed>(magazines: &[FullMagazine<D>]) -> u128
-    ensures { result ≡ min (units_tagged (all_rounds magazines.now)) (2 ^ 128 - 1) }
+pub(crate) fn units_of_all<D: Deed>(magazines: &VecDeque<FullMagazine<D>>) -> u128
+    ensures { result ≡ min (units_tagged (all_rounds magazines.now.items)) (2 ^ 128 - 1) }
 {
     let mut total: u128 = 0;
-    for magazine in magazines {
-        total = total.saturating_add(magazine.units());
+    for i in 0..magazines.len() {
+        total = total.saturating_add(magazines[i].units());
     }
     total
 }

@@ -20,9 +20,11 @@
 //! number makes it that length. So it is the least length since the tick, less what was reaped.
 //!
 //! What a call costs: `take`, `give` and the swaps take constant time, `put_full` too but for the
-//! growth of lists; `change` moves the cache's rounds, at most 62. The oldest magazines stand first
-//! in their lists, so `reap`, `resize` and a depot's `close` move the rest of a list for each
-//! magazine that they take out of it. `units` goes over all rounds.
+//! growth of lists; `change` moves the cache's rounds, at most 62. The lists are deques, so the
+//! oldest magazine goes without a move of the others: `reap` takes constant time, and constant time
+//! more for each empty magazine that it discards. `resize` takes constant time for each magazine
+//! that the depot has of its size, full or empty, and a depot's `close` for each empty one. `units`
+//! goes over all rounds.
 //!
 //! What contracts see of each type stands in `specs/`: begin with `Magazines.antt`. What a call
 //! did, by its answer, stands in `Calls.antt`. Runs of the whole are in `cross_tests`.

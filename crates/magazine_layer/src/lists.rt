@@ -1,34 +1,35 @@
 //! Edits of a depot's lists.
-ghost use Rattle.std.specs.Prelude.{◌≡◌, ◌+◌, ◌-◌, ◌<◌, ◌≤◌, [], ◌∷◌, drop, All, OnOk, vec_len};
-ghost use Rattle.std.specs.Prelude.{vec_capacity};
+ghost use Rattle.std.specs.Prelude.{◌≡◌, ◌+◌, ◌-◌, ◌<◌, ◌≤◌, [], ◌∷◌, drop, All, OnOk};
+ghost use Rattle.std.specs.VecDeque.{deque_capacity, deque_len};
 
 use crate::full_magazines::FullMagazine;
 use crate::magazines::{Magazine, discard_empty};
 use deed_core::{Deed, Segment};
 use std::alloc::AllocError;
+use std::collections::VecDeque;
 use std::mem;
 
 // Ends the first `count` magazines of a list, none of which has a round.
-pub(crate) fn discard_oldest<D: Deed>(empty: &mut Vec<Magazine<D>>, count: usize)
+pub(crate) fn discard_oldest<D: Deed>(empty: &mut VecDeque<Magazine<D>>, count: usize)
     requires none { All (λ m. m.rounds ≡ []) empty.old.items }
-    requires count { count ≤ vec_len empty.old }
+    requires count { count ≤ deque_len empty.old }
     ensures items { empty.new.items ≡ drop count empty.old.items }
-    ensures len { vec_len empty.new ≡ vec_len empty.old - count }
-    ensures capacity { vec_capacity empty.new ≡ vec_capacity empty.old }
+    ensures len { deque_len empty.new ≡ deque_len empty.old - count }
+    ensures capacity { deque_capacity empty.new ≡ deque_capacity empty.old }
 {
     for done in 0..count {
-        discard_empty(empty.remove(0));
+        discard_empty(take_first(empty));
     }
 }
 
-// Takes the first of a list.
-pub(crate) fn take_first<T>(items: &mut Vec<T>) -> T
-    requires { 0 < vec_len items.old }
+// Takes the first of a list, without a move of the others.
+pub(crate) fn take_first<T>(items: &mut VecDeque<T>) -> T
+    requires { 0 < deque_len items.old }
     ensures items { items.old.items ≡ result ∷ items.new.items }
-    ensures len { vec_len items.new + 1 ≡ vec_len items.old }
-    ensures capacity { vec_capacity items.new ≡ vec_capacity items.old }
+    ensures len { deque_len items.new + 1 ≡ deque_len items.old }
+    ensures capacity { deque_capacity items.new ≡ deque_capacity items.old }
 {
-    items.remove(0)
+    items.pop_front().unwrap()
 }
 
 // Has a full magazine drained.
@@ -43,27 +44,27 @@ pub(crate) fn drain<D: Deed>(draining: &mut Vec<Segment<D>>, magazine: FullMagaz
 
 // Makes room for one more full magazine, wherever it goes later.
 pub(crate) fn reserve_one<D: Deed>(
-    full: &mut Vec<FullMagazine<D>>,
-    empty: &mut Vec<Magazine<D>>,
-    old_full: &mut Vec<FullMagazine<D>>,
+    full: &mut VecDeque<FullMagazine<D>>,
+    empty: &mut VecDeque<Magazine<D>>,
+    old_full: &mut VecDeque<FullMagazine<D>>,
 ) -> Result<(), AllocError>
-    requires { vec_len full.old + vec_len empty.old ≤ vec_capacity full.old }
+    requires { deque_len full.old + deque_len empty.old ≤ deque_capacity full.old }
     ensures full_items { full.new.items ≡ full.old.items }
-    ensures full_len { vec_len full.new ≡ vec_len full.old }
+    ensures full_len { deque_len full.new ≡ deque_len full.old }
     ensures full_room { OnOk result
-        (vec_len full.old + vec_len empty.old + 1 ≤ vec_capacity full.new) }
-    ensures full_keeps { vec_capacity full.old ≤ vec_capacity full.new }
+        (deque_len full.old + deque_len empty.old + 1 ≤ deque_capacity full.new) }
+    ensures full_keeps { deque_capacity full.old ≤ deque_capacity full.new }
     ensures empty_items { empty.new.items ≡ empty.old.items }
-    ensures empty_len { vec_len empty.new ≡ vec_len empty.old }
+    ensures empty_len { deque_len empty.new ≡ deque_len empty.old }
     ensures empty_room { OnOk result
-        (vec_len full.old + vec_len empty.old + 1 ≤ vec_capacity empty.new) }
-    ensures empty_keeps { vec_capacity empty.old ≤ vec_capacity empty.new }
+        (deque_len full.old + deque_len empty.old + 1 ≤ deque_capacity empty.new) }
+    ensures empty_keeps { deque_capacity empty.old ≤ deque_capacity empty.new }
     ensures old_items { old_full.new.items ≡ old_full.old.items }
-    ensures old_len { vec_len old_full.new ≡ vec_len old_full.old }
+    ensures old_len { deque_len old_full.new ≡ deque_len old_full.old }
     ensures old_room { OnOk result
-        (vec_len old_full.old + (vec_len full.old + vec_len empty.old + 1)
-        ≤ vec_capacity old_full.new) }
-    ensures old_keeps { vec_capacity old_full.old ≤ vec_capacity old_full.new }
+        (deque_len old_full.old + (deque_len full.old + deque_len empty.old + 1)
+        ≤ deque_capacity old_full.new) }
+    ensures old_keeps { deque_capacity old_full.old ≤ deque_capacity old_full.new }
 {
     let count = full.len() + empty.len() + 1;
     full.reserve(empty.len() + 1)?;

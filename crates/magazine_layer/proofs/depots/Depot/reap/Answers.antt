@@ -1,19 +1,23 @@
-use Rattle.std.proofs.Common.{rules, vec_len}
-use Rattle.std.specs.Prelude.{Some, None}
-use Rattle.magazine_layer.proofs.Belonging.{reap_among}
+use Rattle.std.proofs.Common.{rules, deque_len}
+use Rattle.std.specs.Prelude.{None}
+use Rattle.magazine_layer.proofs.Belonging.{reap_among, taken_are_among}
+use Rattle.magazine_layer.proofs.Weighing.{reaps_weigh}
 use Rattle.magazine_layer.proofs.depots.Depot.reap.Goals as goal
 
 pub returns-then-not-begin-clause-kinds : goal.returns-then-not-begin-clause-kinds
 returns-then-not-begin-clause-kinds g c = reap_among c.args.self.now c.begin.new.self None (search rules)
 
-pub returns-clause-kinds : goal.returns-clause-kinds
-returns-clause-kinds g c = reap_among c.args.self.now
+pub returns-clause-weights : goal.returns-clause-weights
+returns-clause-weights g c = reaps_weigh c.in-Some.segment c.args.self.now
     (record {
       size = c.self.inside.size;
       full = c.self.inside.full.items;
       full_reapable = c.self.inside.full_reapable;
-      empty = vec_len c.self.inside.empty;
+      empty = deque_len c.self.inside.empty;
       empty_reapable = c.self.inside.empty_reapable;
       old_full = c.self.inside.old_full.items;
       draining = c.pop.new.self.items;
-    }) (Some c.in-Some.segment) (search rules)
+    }) (search rules)
+
+pub returns-clause-kinds : goal.returns-clause-kinds
+returns-clause-kinds g c = taken_are_among _ _ c.in-Some.segment (returns-clause-weights g c)

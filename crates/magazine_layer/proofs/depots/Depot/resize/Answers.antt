@@ -1,4 +1,4 @@
-use Rattle.std.proofs.Common.{◌≡◌, vec_len, sum_by, arith, ap, sym, ◌∙◌, refl}
+use Rattle.std.proofs.Common.{◌≡◌, deque_len, sum_by, arith, ap, sym, ◌∙◌, refl}
 use Rattle.magazine_layer.specs.Depots.{depot_rounds}
 use Rattle.magazine_layer.proofs.Belonging.{among_itself, moved_are_among}
 use Rattle.magazine_layer.proofs.Weighing.{resize_weigh}
@@ -7,7 +7,7 @@ use Rattle.magazine_layer.proofs.depots.Depot.resize.Goals as goal
 
 pub invariant_of-self : goal.invariant_of-self
 invariant_of-self g c =
-    let none : vec_len c.discard_oldest.new.empty ≡ 0 = omega arith in (
+    let none : deque_len c.discard_oldest.new.empty ≡ 0 = omega arith in (
       rw (c.in-Ok.ensures.items, c.in-Ok.ensures.other_items, none) (stocked_resize _ c.args.size c.requires c.self.invariant.0),
       (λ k d below. absurd (omega (arith, c.discard_oldest.new.empty.ok.0))),
       room_resize _ _ _ _ _ _ _ _ _ _ _ _ c.self.invariant.2 c.in-Ok.ensures.other_len none c.in-Ok.ensures.len c.in-Ok.ensures.other_capacity c.discard_oldest.ensures.capacity c.in-Ok.ensures.capacity,
@@ -15,7 +15,7 @@ invariant_of-self g c =
 
 pub returns-clause-of : goal.returns-clause-of
 returns-clause-of g c =
-    let none : vec_len c.discard_oldest.new.empty ≡ 0 = omega arith in
+    let none : deque_len c.discard_oldest.new.empty ≡ 0 = omega arith in
     rw (← c.self.view_is, c.in-Ok.ensures.items, c.in-Ok.ensures.other_items, none) (omega arith, refl)
 
 pub returns-clause-weights : goal.returns-clause-weights
