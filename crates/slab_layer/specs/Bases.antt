@@ -12,7 +12,7 @@ abbrev pub base_if : Bool → ℕ → List ℕ
 base_if true base = base ∷ []
 base_if false base = []
 
--- the ones lie below a base, the others above it
+-- these lie below a base, those above it
 pub record IsAround (base : ℕ) (low high : List ℕ) : Type 0 where
   pub below : All (λ b. b < base) low
   pub above : All (λ b. base < b) high

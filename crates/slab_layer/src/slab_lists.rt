@@ -175,7 +175,7 @@ impl<D: Deed> SlabList<D> {
         self.slabs[i].is_home(j)
     }
 
-    /// Takes the j-th chunk of the i-th slab, which is at home.
+    /// Takes the j-th chunk of the i-th slab, which is at home. It takes no memory.
     pub(crate) fn take(&mut self, i: usize, j: usize) -> Stored<D>
         requires { (s : SlabState) × StandsAt i s self.old.items × (j < length s.home)
             × (slice_index_or s.home j false ≡ true) }
@@ -191,7 +191,7 @@ impl<D: Deed> SlabList<D> {
         deed
     }
 
-    /// Puts the j-th chunk of the i-th slab back, which is out.
+    /// Puts the j-th chunk of the i-th slab back, which is out. It takes no memory.
     pub(crate) fn put(&mut self, i: usize, j: usize, deed: Stored<D>)
         requires { (s : SlabState) × StandsAt i s self.old.items × (j < length s.home)
             × (slice_index_or s.home j false ≡ false) × (deed ≡ chunk_at s j) }
@@ -226,7 +226,7 @@ impl<D: Deed> SlabList<D> {
         }
     }
 
-    /// Takes a slab out. Its room stays.
+    /// Takes a slab out. Its room stays. It takes no memory.
     pub(crate) fn remove(&mut self, i: usize) -> Slab<D>
         requires { i < length self.old.items }
         ensures slab { result ≡ slice_index_or self.old.items i result }

@@ -55,7 +55,7 @@ pub(crate) struct Slab<D: Deed> {
     home: Vec<Option<Stored<D>>>,
     tail: Option<Stored<D>>,
     /// How many chunks are at home.
-    idle: usize,
+    idle_count: usize,
 }
 
 impl<D: Deed> Model for Slab<D> {
@@ -76,7 +76,7 @@ impl<D: Deed> Model for Slab<D> {
       colour = s.colour;
       chunk = s.chunk;
       home = map is_some s.home.items;
-    }) s.gap s.home.items s.tail s.idle };
+    }) s.gap s.home.items s.tail s.idle_count };
 }
 
 impl<D: Deed> Slab<D> {
@@ -115,7 +115,7 @@ impl<D: Deed> Slab<D> {
                 gap,
                 home,
                 tail,
-                idle: count,
+                idle_count: count,
             }),
             Err(rest) => {
                 home.destroy_empty();
@@ -137,7 +137,7 @@ impl<D: Deed> Slab<D> {
             gap,
             mut home,
             tail,
-            idle: _,
+            idle_count: _,
         } = self;
         // For its clause: the span has a unit.
         let _ = span.len();
@@ -163,14 +163,14 @@ impl<D: Deed> Slab<D> {
         first_some(&self.home)
     }
 
-    /// Which of its chunks are at home. It looks at none of them.
+    /// Whether none, some or all of its chunks are at home. It looks at none of them.
     pub(crate) fn standing(&self) -> Standing
         ensures { result ≡ standing_of self.now }
     {
-        if self.idle == self.home.len() {
+        if self.idle_count == self.home.len() {
             return Standing::Complete;
         }
-        if self.idle == 0 {
+        if self.idle_count == 0 {
             return Standing::AllOut;
         }
         Standing::Partial
@@ -213,7 +213,7 @@ impl<D: Deed> Slab<D> {
         ensures chunk { result ≡ chunk_at self.old j }
         ensures after { self.new ≡ with_chunk self.old j false }
     {
-        self.idle -= 1;
+        self.idle_count -= 1;
         mem::replace(&mut self.home[j], None).unwrap()
     }
 
@@ -226,7 +226,7 @@ impl<D: Deed> Slab<D> {
     {
         // For its clause: a `usize` holds the number of all chunks.
         let _ = self.home.len();
-        self.idle += 1;
+        self.idle_count += 1;
         match mem::replace(&mut self.home[j], Some(deed)) {
             None => {}
             Some(_) => unreachable!(),
@@ -240,7 +240,7 @@ impl<D: Deed> Slab<D> {
     {
         // For its clause: the span's units fit a `u64`, and the chunks are no more.
         let _ = self.span.len();
-        self.idle as u64 * self.chunk
+        self.idle_count as u64 * self.chunk
     }
 
     /// The units before the first chunk.
@@ -287,7 +287,7 @@ impl<D: Deed> Slab<D> {
             gap,
             mut home,
             tail,
-            idle: _,
+            idle_count: _,
         } = self;
         match gap {
             None => {}

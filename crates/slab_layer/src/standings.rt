@@ -2,7 +2,7 @@
 ghost use Rattle.std.specs.Prelude.{◌≡◌};
 ghost use Rattle.slab_layer.specs.Standings.{lists_partial, lists_complete};
 
-/// Which of a slab's chunks are at home: none, some or all.
+/// Whether none, some or all of a slab's chunks are at home.
 #[derive(Clone, Copy, Debug)]
 pub(crate) enum Standing {
     AllOut,

@@ -19,7 +19,7 @@ invariant_of-self g c =
     let is = c.replace.ensures.after ∙ ap Some chunk in
     record {
       parts = changed _ _ _ _ _ _ c.args.j true c.replace.new.dest c.self.invariant.parts is;
-      counted = one_more c.self.inside.home.items c.args.j c.replace.new.dest c.self.inside.idle (c.self.inside.idle + 1) is within out c.self.invariant.counted refl;
+      counted = one_more c.self.inside.home.items c.args.j c.replace.new.dest c.self.inside.idle_count (c.self.inside.idle_count + 1) is within out c.self.invariant.counted refl;
     }
 
 pub returns : goal.returns

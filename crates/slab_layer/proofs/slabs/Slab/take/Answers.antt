@@ -16,7 +16,7 @@ invariant_of-self g c =
     let is = c.replace.ensures.after in
     record {
       parts = changed _ _ _ _ _ _ c.args.j false c.replace.new.dest c.self.invariant.parts is;
-      counted = one_less c.self.inside.home.items c.args.j c.replace.new.dest c.self.inside.idle (c.self.inside.idle - 1) is within idle c.self.invariant.counted refl;
+      counted = one_less c.self.inside.home.items c.args.j c.replace.new.dest c.self.inside.idle_count (c.self.inside.idle_count - 1) is within idle c.self.invariant.counted refl;
     }
 
 pub returns-clause-chunk : goal.returns-clause-chunk
