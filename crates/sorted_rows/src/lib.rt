@@ -1,5 +1,5 @@
 //! A strictly sorted list, kept as short sorted rows: for the free ranges of an arena by length and
-//! base, by base, for its spans, and for slabs with a chunk at home. It stands on nothing of ours.
+//! base, by base, for its spans, and for the slabs of a cache. It stands on nothing of ours.
 //!
 //! A row has at most 64 entries in a vector of its own. What is known of it without a look at them
 //! is its head, in two vectors for all rows: the key of its first entry, and its top, which is its
