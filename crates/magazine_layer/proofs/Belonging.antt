@@ -9,7 +9,7 @@ use Rattle.deed_core.proofs.LawProofs.{counts_where_it_is}
 use Rattle.magazine_layer.specs.Magazines.{AreAmong, MagazineState, CpuCacheState, Pushes, cache_rounds, after_change}
 use Rattle.magazine_layer.specs.Depots.{DepotState, depot_rounds}
 use Rattle.magazine_layer.specs.Calls.{MagazineTakeOf, PopOf, DepotReapOf}
-use Rattle.magazine_layer.proofs.Weighing.{last_weighs, pops_weigh, pushes_weigh, reaps_weigh}
+use Rattle.magazine_layer.proofs.Weighing.{last_weighs, pops_weigh, pushes_weigh}
 
 among : (new old : List Tag) → ((f : Tag → ℕ) → sum_by f new ≤ sum_by f old) → AreAmong new old
 among new old less = record {
@@ -49,6 +49,5 @@ push_among x c c' pushes = among (cache_rounds c') (x ∷ cache_rounds c) (λ f.
 pub change_among : (m : ℕ) (c c' : CpuCacheState) → c' ≡ after_change m c → AreAmong (cache_rounds c') (cache_rounds c)
 change_among m c c' after = rw after (among_itself (cache_rounds c))
 
-pub reap_among : (d d' : DepotState) (r : Option Tag) → DepotReapOf d r d' → AreAmong (option_to_list r ++ depot_rounds d') (depot_rounds d)
-reap_among d d' (Some x) reaps = taken_are_among (depot_rounds d) (depot_rounds d') x (reaps_weigh x d d' reaps)
-reap_among d d' None none = rw none.1 (among_itself (depot_rounds d))
+pub none_reaped_among : (d d' : DepotState) → DepotReapOf d None d' → AreAmong (depot_rounds d') (depot_rounds d)
+none_reaped_among d d' none = rw none.1 (among_itself (depot_rounds d))

@@ -1,11 +1,10 @@
 use Rattle.std.proofs.Common.{rules, deque_len}
-use Rattle.std.specs.Prelude.{None}
-use Rattle.magazine_layer.proofs.Belonging.{reap_among, taken_are_among}
+use Rattle.magazine_layer.proofs.Belonging.{none_reaped_among, taken_are_among}
 use Rattle.magazine_layer.proofs.Weighing.{reaps_weigh}
 use Rattle.magazine_layer.proofs.depots.Depot.reap.Goals as goal
 
 pub returns-then-not-begin-clause-kinds : goal.returns-then-not-begin-clause-kinds
-returns-then-not-begin-clause-kinds g c = reap_among c.args.self.now c.begin.new.self None (search rules)
+returns-then-not-begin-clause-kinds g c = none_reaped_among c.args.self.now c.begin.new.self (search rules)
 
 pub returns-clause-weights : goal.returns-clause-weights
 returns-clause-weights g c = reaps_weigh c.in-Some.segment c.args.self.now
