@@ -417,7 +417,7 @@ impl<D: Deed> Arena<D> {
         // The order of bases is searched while the head of the chain is waited for.
         let first = self.tags.head(base);
         if first.get().is_some() {
-            self.free.go_to(base);
+            self.free.go_to(base, 0);
             self.tags.go_to(first, base);
         }
     }

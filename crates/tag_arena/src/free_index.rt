@@ -129,12 +129,13 @@ impl<D: Deed> FreeIndex<D> {
         Ok(())
     }
 
-    /// Goes to where a range with this base lies. It is for speed alone: the calls that follow
-    /// there need no search in the order of bases.
-    pub fn go_to(&mut self, base: u64)
+    /// Goes to where the range with this base and length lies, or with length 0 one that begins
+    /// there or behind it. It is for speed alone: the calls that follow there need no search in the
+    /// order of bases.
+    pub fn go_to(&mut self, base: u64, len: u64)
         ensures unchanged { self.new ≡ self.old }
     {
-        self.rising.go_to(base, 0);
+        self.rising.go_to(base, len);
     }
 
     /// A range becomes free: it is the newest. The answer is its slot. It takes no memory.
@@ -442,7 +443,8 @@ impl<D: Deed> FreeIndex<D> {
         ensures ticks { self.old.ticks ≤ self.new.ticks + 2 }
     {
         let Fit { range, base, slot } = found;
-        self.go_to(range.base());
+        let units = range.len();
+        self.go_to(range.base(), units);
         // For their clauses: each of these ranges has units.
         let _ = range.end();
         let _ = self.len();

@@ -77,7 +77,7 @@ impl<D: Deed> FreeIndex<D> {
     {
         let range = deed.range();
         let base = range.base();
-        self.go_to(base);
+        self.go_to(base, 0);
         let low = self.take_left(span.base(), base, beside.left);
         let high = self.take_right(range.end(), span.end(), beside.right);
         let sides = Sides {
