@@ -14,10 +14,11 @@ use crate::probes::Probes;
 use crate::reaches::Measure;
 use crate::searches::{Fit, range_with};
 use crate::slots::Slots;
-use deed_core::{Deed, Request};
+use deed_core::{Deed, Range, Request};
 
 /// The least address from `start` on that serves the request, where none does in a range that
-/// begins below `first`. Ranges of fewer than `units` are passed by.
+/// begins below `first`. Ranges of fewer than `units` are passed by, and of those that are tried the
+/// one that serves is looked at in its slot.
 fn earliest_behind<D: Deed>(
     slots: &Slots<D>,
     rising: &mut OrderedIndex,
@@ -44,8 +45,11 @@ fn earliest_behind<D: Deed>(
 {
     let mut from = first;
     while let Some(entry) = rising.first_weighing(Measure::Minor, from, 0, units) {
-        let range = slots.range_at(entry.slot, entry.major, entry.minor);
+        let Some(range) = Range::new(entry.major, entry.minor) else {
+            unreachable!()
+        };
         if let Some(base) = probes.least_in(request, quantum, range, start) {
+            let range = slots.range_at(entry.slot, entry.major, entry.minor);
             return Some(Fit {
                 range,
                 base,
@@ -82,7 +86,7 @@ fn earliest_fit<D: Deed>(
     let units = request.units(quantum)?;
     rising.go_to(start, u64::MAX);
     if let Some(found) = range_with(slots, rising, start) {
-        if let Some(base) = probes.least_in(request, quantum, found.range, start) {
+        if let Some(base) = probes.least_in(request, quantum, found.range.range(), start) {
             return Some(Fit {
                 range: found.range,
                 base,

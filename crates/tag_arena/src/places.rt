@@ -2,11 +2,11 @@
 ghost use Rattle.std.specs.Prelude.{◌≡◌, ◌≢◌, ℕ, ◌+◌, ◌-◌, ◌*◌, ◌/◌, ◌%◌, ◌^◌, ◌<◌, ◌≤◌, IsTrue};
 ghost use Rattle.std.specs.Prelude.{◌↔◌};
 ghost use Rattle.std.specs.Int.{IsPowerOfTwo};
+ghost use Rattle.deed_core.specs.Holding.{Holding};
 ghost use Rattle.deed_core.specs.Request.{IsGood};
 ghost use Rattle.tag_arena.specs.Place.{IsLeast, IsPlace, Nest, OnGrid, ServesIn};
 
-use crate::held_ranges::HeldRange;
-use deed_core::Request;
+use deed_core::{Range, Request};
 
 /// What a number leaves when divided by a block of a power of two.
 pub fn rest_in(unit: u64, block: u64) -> u64
@@ -92,11 +92,12 @@ pub fn grid(request: &Request, quantum: u64) -> (u64, u64)
 
 /// The least base from `from` on at which the range serves the request, found in a number of steps
 /// that no member of the request changes.
-pub fn least_in(request: &Request, quantum: u64, range: HeldRange, from: u64) -> Option<u64>
+pub fn least_in(request: &Request, quantum: u64, range: Range, from: u64) -> Option<u64>
     requires quantum { IsPowerOfTwo quantum }
     requires good { IsGood quantum request.now }
     requires from { from ≤ 2 ^ 62 }
-    ensures { IsLeast (λ base. ServesIn quantum request.now range base × (from ≤ base)) result }
+    ensures { (r : Holding) → r.range ≡ range
+        → IsLeast (λ base. ServesIn quantum request.now r base × (from ≤ base)) result }
 {
     let len = request.units(quantum)?;
     let (align, phase) = grid(request, quantum);

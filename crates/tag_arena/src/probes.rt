@@ -1,12 +1,12 @@
 //! How many free ranges a search looks at.
 ghost use Rattle.std.specs.Prelude.{◌≡◌, ◌≤◌, ◌^◌};
 ghost use Rattle.std.specs.Int.{IsPowerOfTwo};
+ghost use Rattle.deed_core.specs.Holding.{Holding};
 ghost use Rattle.deed_core.specs.Request.{IsGood};
 ghost use Rattle.tag_arena.specs.Place.{IsLeast, ServesIn};
 
-use crate::held_ranges::HeldRange;
 use crate::places::least_in;
-use deed_core::Request;
+use deed_core::{Range, Request};
 
 /// A count of looks. Each look of a search is counted here as it is made.
 #[derive(Clone, Copy, Drop, Debug)]
@@ -34,13 +34,14 @@ impl Probes {
         &mut self,
         request: &Request,
         quantum: u64,
-        range: HeldRange,
+        range: Range,
         from: u64,
     ) -> Option<u64>
         requires quantum { IsPowerOfTwo quantum }
         requires good { IsGood quantum request.now }
         requires from { from ≤ 2 ^ 62 }
-        ensures { IsLeast (λ base. ServesIn quantum request.now range base × (from ≤ base)) result }
+        ensures { (r : Holding) → r.range ≡ range
+            → IsLeast (λ base. ServesIn quantum request.now r base × (from ≤ base)) result }
     {
         self.look();
         least_in(request, quantum, range, from)

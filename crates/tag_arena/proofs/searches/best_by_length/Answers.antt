@@ -1,4 +1,4 @@
-use Rattle.std.proofs.Common.{Contains, ◌≡◌, ℕ, ◌+◌, ◌*◌, ◌^◌, ◌<◌, ◌≤◌, Some, sym, ap, ◌∙◌, subst, arith}
+use Rattle.std.proofs.Common.{Contains, IfSome, ◌≡◌, ℕ, ◌+◌, ◌*◌, ◌^◌, ◌<◌, ◌≤◌, Some, sym, ap, ◌∙◌, subst, arith}
 use Rattle.sorted_rows.specs.Order.{place_below}
 use Rattle.deed_core.specs.Extent.{IsRange}
 use Rattle.tag_arena.specs.Place.{ServesIn}
@@ -7,10 +7,25 @@ use Rattle.tag_arena.specs.Orders.{rank_of}
 use Rattle.tag_arena.proofs.Indexing.{range_is_free, sizes_range}
 use Rattle.tag_arena.proofs.Searching.{is_first, place_grows}
 use Rattle.tag_arena.proofs.Fitting.{served_first, served_more, is_best, none_serves}
+use Rattle.std.proofs.lemmas.Bool.{false≢true}
 use Rattle.tag_arena.proofs.searches.best_by_length.Goals as goal
 
 pub loop-entry-init : goal.loop-entry-init
 loop-entry-init g c = served_first c.args.quantum c.args.request.now c.args.slots.now.tags c.args.units c.requires.units
+
+pub unreachable-requires : goal.unreachable-requires
+unreachable-requires g c =
+    let q = c.args.request.now in
+    let items = c.args.sizes.now.items in
+    let tags = c.args.slots.now.tags in
+    let m = c.requires.mirrors in
+    let rises = c.first_from.ensures.rises in
+    let key : ℕ = c.loop-entry.major * 2 ^ 64 + c.loop-entry.minor in
+    let e = c.in-Some.entry in
+    let first = is_first rank_of key items rises e (sym c.first_from.ensures.first ∙ c.in-Some.is) in
+    let w = m.from e (place_below rank_of key items, first.within, first.here) in
+    let valid : IsRange (record { base = e.minor; len = e.major }) = subst IsRange (sizes_range e w.0 w.2) (c.requires.tags.1 e.slot w.0 w.1).range in
+    false≢true (c.in_default-new.ensures.valid.1 valid)
 
 pub range_at-range-requires-clause-here : goal.range_at-range-requires-clause-here
 range_at-range-requires-clause-here g c =
@@ -49,13 +64,14 @@ returns-in-Some-least_in-clause-choice g c =
     let e = c.in-Some.entry in
     let first = is_first rank_of key items rises e (sym c.first_from.ensures.first ∙ c.in-Some.is) in
     let w = m.from e (place_below rank_of key items, first.within, first.here) in
+    let made : c.in-Some-new.range ≡ record { base = e.minor; len = e.major } = subst (λ o. IfSome o (λ x. x ≡ record { base = e.minor; len = e.major })) c.in-Some-new.is c.new.ensures.value in
+    let same_range : w.0.range.range ≡ c.in-Some-new.range = sizes_range e w.0 w.2 ∙ sym made in
     let t = w.0 in
     let at = w.1 in
     let is = w.2 in
-    let range = c.range_at-range.ensures w.0 w.1 in
-    let found = c.in-Some-least_in.ensures in
-    let serves = subst (λ h. ServesIn c.args.quantum q h c.in-Some-least_in.base) range found.0.0 in
-    let least : (b : ℕ) → ServesIn c.args.quantum q t.range b → c.in-Some-least_in.base ≤ b = λ b s. found.1 b (subst (λ h. ServesIn c.args.quantum q h b) (sym range) s, omega arith) in
+    let found = c.in-Some-least_in.ensures t.range same_range in
+    let serves = found.0.0 in
+    let least : (b : ℕ) → ServesIn c.args.quantum q t.range b → c.in-Some-least_in.base ≤ b = λ b s. found.1 b (s, omega arith) in
     let below : (k : ℕ) (u : FreeTag) → tag_at tags k ≡ Some u → u.range.range.base < 2 ^ 64 = λ k u here. let r = (c.requires.tags.1 k u here).range.below in omega (arith, r) in
     (t.range, is_best c.args.quantum q items tags m rises key e t first at is c.in-Some-least_in.base below c.loop-entry.invariant serves least)
 
@@ -70,14 +86,16 @@ returns-in-Some-least_in-clause-placed g c =
     let e = c.in-Some.entry in
     let first = is_first rank_of key items rises e (sym c.first_from.ensures.first ∙ c.in-Some.is) in
     let w = m.from e (place_below rank_of key items, first.within, first.here) in
+    let made : c.in-Some-new.range ≡ record { base = e.minor; len = e.major } = subst (λ o. IfSome o (λ x. x ≡ record { base = e.minor; len = e.major })) c.in-Some-new.is c.new.ensures.value in
+    let same_range : w.0.range.range ≡ c.in-Some-new.range = sizes_range e w.0 w.2 ∙ sym made in
     let t = w.0 in
     let at = w.1 in
     let is = w.2 in
     let range = c.range_at-range.ensures w.0 w.1 in
-    let found = c.in-Some-least_in.ensures in
+    let found = c.in-Some-least_in.ensures w.0.range same_range in
     record {
       among = subst (Contains (ranges_by_age tags)) (sym range) (range_is_free tags e.slot t at);
-      serves = found.0.0;
+      serves = subst (λ h. ServesIn c.args.quantum q h c.in-Some-least_in.base) (sym range) found.0.0;
     }
 
 pub loop-entry-smaller : goal.loop-entry-smaller
@@ -91,12 +109,13 @@ loop-entry-smaller g c =
     let e = c.in-Some.entry in
     let first = is_first rank_of key items rises e (sym c.first_from.ensures.first ∙ c.in-Some.is) in
     let w = m.from e (place_below rank_of key items, first.within, first.here) in
+    let made : c.in-Some-new.range ≡ record { base = e.minor; len = e.major } = subst (λ o. IfSome o (λ x. x ≡ record { base = e.minor; len = e.major })) c.in-Some-new.is c.new.ensures.value in
+    let same_range : w.0.range.range ≡ c.in-Some-new.range = sizes_range e w.0 w.2 ∙ sym made in
     let t = w.0 in
     let at = w.1 in
     let is = w.2 in
-    let range = c.range_at-range.ensures w.0 w.1 in
-    let long = c.len-major.ensures.value ∙ ap (λ h. h.range.len) range in
-    let base = c.base-minor.ensures.value ∙ ap (λ h. h.range.base) range in
+    let long = c.len-major.ensures.value ∙ sym (ap (λ x. x.len) same_range) in
+    let base = c.base-minor.ensures.value ∙ sym (ap (λ x. x.base) same_range) in
     let rank = ap rank_of is in
     let next : ℕ = c.len-major.result * 2 ^ 64 + (c.base-minor.result + 1) in
     let more : next ≡ rank_of e + 1 = omega (arith, long, base, rank) in
@@ -113,16 +132,17 @@ loop-entry-preserved g c =
     let e = c.in-Some.entry in
     let first = is_first rank_of key items rises e (sym c.first_from.ensures.first ∙ c.in-Some.is) in
     let w = m.from e (place_below rank_of key items, first.within, first.here) in
+    let made : c.in-Some-new.range ≡ record { base = e.minor; len = e.major } = subst (λ o. IfSome o (λ x. x ≡ record { base = e.minor; len = e.major })) c.in-Some-new.is c.new.ensures.value in
+    let same_range : w.0.range.range ≡ c.in-Some-new.range = sizes_range e w.0 w.2 ∙ sym made in
     let t = w.0 in
     let at = w.1 in
     let is = w.2 in
-    let range = c.range_at-range.ensures w.0 w.1 in
-    let long = c.len-major.ensures.value ∙ ap (λ h. h.range.len) range in
-    let base = c.base-minor.ensures.value ∙ ap (λ h. h.range.base) range in
+    let long = c.len-major.ensures.value ∙ sym (ap (λ x. x.len) same_range) in
+    let base = c.base-minor.ensures.value ∙ sym (ap (λ x. x.base) same_range) in
     let rank = ap rank_of is in
     let next : ℕ = c.len-major.result * 2 ^ 64 + (c.base-minor.result + 1) in
     let more : next ≡ rank_of e + 1 = omega (arith, long, base, rank) in
-    let none = λ (b : ℕ) (s : ServesIn c.args.quantum q t.range b). c.in_default-least_in.ensures b (subst (λ h. ServesIn c.args.quantum q h b) (sym range) s, omega arith) in
+    let none = λ (b : ℕ) (s : ServesIn c.args.quantum q t.range b). c.in_default-least_in.ensures t.range same_range b (s, omega arith) in
     served_more c.args.quantum q items tags m rises key e t first at is next more c.loop-entry.invariant none
 
 pub returns-clause-choice : goal.returns-clause-choice
