@@ -24,9 +24,7 @@
 //! the row the entries below the key are counted: by the last of each 8, and in one 8 one by one,
 //! so that at most 15 are looked at. To halve there would be slower: the processor guesses every
 //! second time wrong which half it is, and LLVM makes no branch of a count. Near the key that
-//! `Rows::go_to` was given last one of the searches, or both, fall away, and for `Rows::go_to`
-//! itself near the key before that too: who goes along the list at one place, and comes and goes
-//! elsewhere in between, mostly has one search for a row in place of two.
+//! `Rows::go_to` was given last one of the searches, or both, fall away.
 //!
 //! An entry that is taken out is struck first: it lies in its row until the next change or search
 //! by weight. One that is put in next and belongs in its place takes it, and nothing moves: so it

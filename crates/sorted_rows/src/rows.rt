@@ -9,11 +9,10 @@ use crate::entries::RowEntry;
 use crate::headed::HeadedRows;
 use crate::heavy::least_weighing;
 use crate::row::Row;
-use crate::seats::{Spot, seat_beside, spot_near};
+use crate::seats::{Spot, spot_near};
 use crate::struck::{clear, entry_at, greatest_left, least_left, put_over};
 use std::alloc::{AllocError, Global};
 use std::marker::Model;
-use std::mem;
 
 /// Entries in strict order of their keys. A contract sees them as one list, and how many may be in
 /// it before it needs more room.
@@ -28,8 +27,6 @@ pub struct Rows<T: RowEntry> {
     room: usize,
     /// Where it was last at, if that is still there: where a search looks first.
     last: Spot,
-    /// Where it was at before that: `go_to` looks there too.
-    earlier: Spot,
 }
 
 impl<T: RowEntry> Model for Rows<T> {
@@ -58,7 +55,6 @@ impl<T: RowEntry> Rows<T> {
             len: 0,
             room: 0,
             last: Spot { seat: 0, place: 0 },
-            earlier: Spot { seat: 0, place: 0 },
         }
     }
 
@@ -116,9 +112,6 @@ impl<T: RowEntry> Rows<T> {
     {
         if self.rows.is_empty() {
             return;
-        }
-        if seat_beside(&self.rows, self.last, key).is_none() {
-            mem::swap(&mut self.last, &mut self.earlier);
         }
         self.last = spot_near(&self.rows, self.last, key);
     }

@@ -108,27 +108,8 @@ pub fn belongs<T: RowEntry>(rows: &HeadedRows<T>, seat: usize, key: u128) -> boo
     seat + 1 == rows.len() || key < rows.first(seat + 1)
 }
 
-/// The row that the list was last at, or the one behind it, if the key belongs there. None is always
-/// a right answer: it is for speed alone.
-pub fn seat_beside<T: RowEntry>(rows: &HeadedRows<T>, last: Spot, key: u128) -> Option<usize>
-    requires laid { IsLaid T.rank rows.now.items }
-    ensures within { IfSome result (λ seat. seat < length rows.now.items) }
-    ensures seat { IfSome result (λ seat. IsSeat T.rank key rows.now.items seat) }
-    ensures first { IfSome result (λ seat. (d : T) → 0 < seat
-        → T.rank (slice_index_or (slice_index_or rows.now.items seat []) 0 d) ≤ key) }
-{
-    if belongs(rows, last.seat, key) {
-        return Some(last.seat);
-    }
-    let behind = last.seat.saturating_add(1);
-    if belongs(rows, behind, key) {
-        return Some(behind);
-    }
-    None
-}
-
 /// The row where the key belongs. It is searched for only where it isn't the one that the list was
-/// last at, nor the one behind it.
+/// last at.
 pub fn seat_near<T: RowEntry>(rows: &HeadedRows<T>, last: Spot, key: u128) -> usize
     requires laid { IsLaid T.rank rows.now.items }
     requires some { 0 < length rows.now.items }
@@ -137,10 +118,10 @@ pub fn seat_near<T: RowEntry>(rows: &HeadedRows<T>, last: Spot, key: u128) -> us
     ensures first { (d : T) → 0 < result
         → T.rank (slice_index_or (slice_index_or rows.now.items result []) 0 d) ≤ key }
 {
-    match seat_beside(rows, last, key) {
-        Some(seat) => seat,
-        None => seat_of(rows, key),
+    if belongs(rows, last.seat, key) {
+        return last.seat;
     }
+    seat_of(rows, key)
 }
 
 /// Where the key belongs.
