@@ -17,8 +17,8 @@ use crate::slots::Slots;
 use deed_core::{Deed, Range, Request};
 
 /// The least address from `start` on that serves the request, where none does in a range that
-/// begins below `first`. Ranges of fewer than `units` are passed by, and of those that are tried the
-/// one that serves is looked at in its slot.
+/// begins below `first`. Ranges of fewer than `units` are passed by, and of those that are tried
+/// only the one that serves is looked at in its slot.
 fn earliest_behind<D: Deed>(
     slots: &Slots<D>,
     rising: &mut OrderedIndex,

@@ -129,9 +129,9 @@ impl<D: Deed> FreeIndex<D> {
         Ok(())
     }
 
-    /// Goes to where the range with this base and length lies, or with length 0 one that begins
-    /// there or behind it. It is for speed alone: the calls that follow there need no search in the
-    /// order of bases.
+    /// Goes to where the range with this base and length lies, or with length 0 to the first that
+    /// begins there or behind it. It is for speed alone: the calls that follow there need no search
+    /// in the order of bases.
     pub fn go_to(&mut self, base: u64, len: u64)
         ensures unchanged { self.new ≡ self.old }
     {

@@ -18,7 +18,7 @@ use crate::orders::OrderedIndex;
 use crate::probes::Probes;
 use crate::reaches::{Grid, Measure};
 use crate::slots::Slots;
-use deed_core::{Deed, Range, Request};
+use deed_core::{Deed, Request};
 
 /// A free range, and an address in it.
 #[derive(Clone, Copy, Debug)]
@@ -56,7 +56,7 @@ pub fn best_fit<D: Deed>(
 }
 
 /// The best range for so many units that may stand on any quantum: without a window each that is as
-/// long serves. Of those that are tried the one that serves is looked at in its slot.
+/// long serves.
 fn best_by_length<D: Deed>(
     slots: &Slots<D>,
     sizes: &OrderedIndex,
@@ -78,11 +78,8 @@ fn best_by_length<D: Deed>(
     let mut major = units;
     let mut minor = 0;
     while let Some(entry) = sizes.first_from(major, minor) {
-        let Some(range) = Range::new(entry.minor, entry.major) else {
-            unreachable!()
-        };
-        if let Some(base) = probes.least_in(request, quantum, range, 0) {
-            let range = slots.range_at(entry.slot, entry.minor, entry.major);
+        let range = slots.range_at(entry.slot, entry.minor, entry.major);
+        if let Some(base) = probes.least_in(request, quantum, range.range(), 0) {
             return Some(Fit {
                 range,
                 base,
@@ -96,7 +93,7 @@ fn best_by_length<D: Deed>(
 }
 
 /// The best range for so many units on a grid: ranges that have no room for them on it are passed
-/// by, and of those that are tried the one that serves is looked at in its slot.
+/// by.
 fn best_by_reach<D: Deed>(
     slots: &Slots<D>,
     sizes: &mut OrderedIndex,
@@ -120,11 +117,8 @@ fn best_by_reach<D: Deed>(
     let mut major = units;
     let mut minor = 0;
     while let Some(entry) = sizes.first_weighing(Measure::Reach(grid), major, minor, units) {
-        let Some(range) = Range::new(entry.minor, entry.major) else {
-            unreachable!()
-        };
-        if let Some(base) = probes.least_in(request, quantum, range, 0) {
-            let range = slots.range_at(entry.slot, entry.minor, entry.major);
+        let range = slots.range_at(entry.slot, entry.minor, entry.major);
+        if let Some(base) = probes.least_in(request, quantum, range.range(), 0) {
             return Some(Fit {
                 range,
                 base,

@@ -17,9 +17,7 @@ use Rattle.tag_arena.proofs.earliest.earliest_behind.Goals as goal
 
 pub unreachable-requires : goal.unreachable-requires
 unreachable-requires g c =
-    let q = c.args.request.now in
     let items = c.args.rising.now.items in
-    let tags = c.args.slots.now.tags in
     let m = c.requires.mirrors in
     let are = c.requires.tags.1 in
     let same = ap (λ s. s.items) c.loop-entry.invariant.kept in

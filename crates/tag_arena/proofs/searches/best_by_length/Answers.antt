@@ -1,4 +1,4 @@
-use Rattle.std.proofs.Common.{Contains, IfSome, ◌≡◌, ℕ, ◌+◌, ◌*◌, ◌^◌, ◌<◌, ◌≤◌, Some, sym, ap, ◌∙◌, subst, arith}
+use Rattle.std.proofs.Common.{Contains, ◌≡◌, ℕ, ◌+◌, ◌*◌, ◌^◌, ◌<◌, ◌≤◌, Some, sym, ap, ◌∙◌, subst, arith}
 use Rattle.sorted_rows.specs.Order.{place_below}
 use Rattle.deed_core.specs.Extent.{IsRange}
 use Rattle.tag_arena.specs.Place.{ServesIn}
@@ -7,25 +7,10 @@ use Rattle.tag_arena.specs.Orders.{rank_of}
 use Rattle.tag_arena.proofs.Indexing.{range_is_free, sizes_range}
 use Rattle.tag_arena.proofs.Searching.{is_first, place_grows}
 use Rattle.tag_arena.proofs.Fitting.{served_first, served_more, is_best, none_serves}
-use Rattle.std.proofs.lemmas.Bool.{false≢true}
 use Rattle.tag_arena.proofs.searches.best_by_length.Goals as goal
 
 pub loop-entry-init : goal.loop-entry-init
 loop-entry-init g c = served_first c.args.quantum c.args.request.now c.args.slots.now.tags c.args.units c.requires.units
-
-pub unreachable-requires : goal.unreachable-requires
-unreachable-requires g c =
-    let q = c.args.request.now in
-    let items = c.args.sizes.now.items in
-    let tags = c.args.slots.now.tags in
-    let m = c.requires.mirrors in
-    let rises = c.first_from.ensures.rises in
-    let key : ℕ = c.loop-entry.major * 2 ^ 64 + c.loop-entry.minor in
-    let e = c.in-Some.entry in
-    let first = is_first rank_of key items rises e (sym c.first_from.ensures.first ∙ c.in-Some.is) in
-    let w = m.from e (place_below rank_of key items, first.within, first.here) in
-    let valid : IsRange (record { base = e.minor; len = e.major }) = subst IsRange (sizes_range e w.0 w.2) (c.requires.tags.1 e.slot w.0 w.1).range in
-    false≢true (c.in_default-new.ensures.valid.1 valid)
 
 pub range_at-range-requires-clause-here : goal.range_at-range-requires-clause-here
 range_at-range-requires-clause-here g c =
@@ -64,8 +49,8 @@ returns-in-Some-least_in-clause-choice g c =
     let e = c.in-Some.entry in
     let first = is_first rank_of key items rises e (sym c.first_from.ensures.first ∙ c.in-Some.is) in
     let w = m.from e (place_below rank_of key items, first.within, first.here) in
-    let made : c.in-Some-new.range ≡ record { base = e.minor; len = e.major } = subst (λ o. IfSome o (λ x. x ≡ record { base = e.minor; len = e.major })) c.in-Some-new.is c.new.ensures.value in
-    let same_range : w.0.range.range ≡ c.in-Some-new.range = sizes_range e w.0 w.2 ∙ sym made in
+    let range = c.range_at-range.ensures w.0 w.1 in
+    let same_range : w.0.range.range ≡ c.range.result = sym (c.range.ensures ∙ ap (λ h. h.range) range) in
     let t = w.0 in
     let at = w.1 in
     let is = w.2 in
@@ -86,12 +71,11 @@ returns-in-Some-least_in-clause-placed g c =
     let e = c.in-Some.entry in
     let first = is_first rank_of key items rises e (sym c.first_from.ensures.first ∙ c.in-Some.is) in
     let w = m.from e (place_below rank_of key items, first.within, first.here) in
-    let made : c.in-Some-new.range ≡ record { base = e.minor; len = e.major } = subst (λ o. IfSome o (λ x. x ≡ record { base = e.minor; len = e.major })) c.in-Some-new.is c.new.ensures.value in
-    let same_range : w.0.range.range ≡ c.in-Some-new.range = sizes_range e w.0 w.2 ∙ sym made in
+    let range = c.range_at-range.ensures w.0 w.1 in
+    let same_range : w.0.range.range ≡ c.range.result = sym (c.range.ensures ∙ ap (λ h. h.range) range) in
     let t = w.0 in
     let at = w.1 in
     let is = w.2 in
-    let range = c.range_at-range.ensures w.0 w.1 in
     let found = c.in-Some-least_in.ensures w.0.range same_range in
     record {
       among = subst (Contains (ranges_by_age tags)) (sym range) (range_is_free tags e.slot t at);
@@ -109,13 +93,12 @@ loop-entry-smaller g c =
     let e = c.in-Some.entry in
     let first = is_first rank_of key items rises e (sym c.first_from.ensures.first ∙ c.in-Some.is) in
     let w = m.from e (place_below rank_of key items, first.within, first.here) in
-    let made : c.in-Some-new.range ≡ record { base = e.minor; len = e.major } = subst (λ o. IfSome o (λ x. x ≡ record { base = e.minor; len = e.major })) c.in-Some-new.is c.new.ensures.value in
-    let same_range : w.0.range.range ≡ c.in-Some-new.range = sizes_range e w.0 w.2 ∙ sym made in
+    let range = c.range_at-range.ensures w.0 w.1 in
     let t = w.0 in
     let at = w.1 in
     let is = w.2 in
-    let long = c.len-major.ensures.value ∙ sym (ap (λ x. x.len) same_range) in
-    let base = c.base-minor.ensures.value ∙ sym (ap (λ x. x.base) same_range) in
+    let long = c.len-major.ensures.value ∙ ap (λ h. h.range.len) range in
+    let base = c.base-minor.ensures.value ∙ ap (λ h. h.range.base) range in
     let rank = ap rank_of is in
     let next : ℕ = c.len-major.result * 2 ^ 64 + (c.base-minor.result + 1) in
     let more : next ≡ rank_of e + 1 = omega (arith, long, base, rank) in
@@ -132,13 +115,13 @@ loop-entry-preserved g c =
     let e = c.in-Some.entry in
     let first = is_first rank_of key items rises e (sym c.first_from.ensures.first ∙ c.in-Some.is) in
     let w = m.from e (place_below rank_of key items, first.within, first.here) in
-    let made : c.in-Some-new.range ≡ record { base = e.minor; len = e.major } = subst (λ o. IfSome o (λ x. x ≡ record { base = e.minor; len = e.major })) c.in-Some-new.is c.new.ensures.value in
-    let same_range : w.0.range.range ≡ c.in-Some-new.range = sizes_range e w.0 w.2 ∙ sym made in
+    let range = c.range_at-range.ensures w.0 w.1 in
+    let same_range : w.0.range.range ≡ c.range.result = sym (c.range.ensures ∙ ap (λ h. h.range) range) in
     let t = w.0 in
     let at = w.1 in
     let is = w.2 in
-    let long = c.len-major.ensures.value ∙ sym (ap (λ x. x.len) same_range) in
-    let base = c.base-minor.ensures.value ∙ sym (ap (λ x. x.base) same_range) in
+    let long = c.len-major.ensures.value ∙ ap (λ h. h.range.len) range in
+    let base = c.base-minor.ensures.value ∙ ap (λ h. h.range.base) range in
     let rank = ap rank_of is in
     let next : ℕ = c.len-major.result * 2 ^ 64 + (c.base-minor.result + 1) in
     let more : next ≡ rank_of e + 1 = omega (arith, long, base, rank) in

@@ -1,4 +1,4 @@
-use Rattle.std.proofs.Common.{Contains, IfSome, ◌≡◌, ℕ, ◌+◌, ◌*◌, ◌^◌, ◌<◌, ◌≤◌, Some, None, refl, sym, ap, ◌∙◌, subst, arith}
+use Rattle.std.proofs.Common.{Contains, ◌≡◌, ℕ, ◌+◌, ◌*◌, ◌^◌, ◌<◌, ◌≤◌, Some, None, refl, sym, ap, ◌∙◌, subst, arith}
 use Rattle.sorted_rows.specs.Order.{Rises}
 use Rattle.sorted_rows.specs.Weights.{first_heavy_from}
 use Rattle.deed_core.specs.Extent.{IsRange}
@@ -11,7 +11,6 @@ use Rattle.tag_arena.proofs.Indexing.{range_is_free, sizes_range}
 use Rattle.tag_arena.proofs.Weighing.{is_heavy, heavy_grows}
 use Rattle.tag_arena.proofs.Fitting.{served_first, served_more, is_best}
 use Rattle.tag_arena.proofs.Reached.{IsGridOf, served_before, first_there, none_reached}
-use Rattle.std.proofs.lemmas.Bool.{false≢true}
 use Rattle.tag_arena.proofs.searches.best_by_reach.Goals as goal
 
 pub loop-entry-init : goal.loop-entry-init
@@ -19,24 +18,6 @@ loop-entry-init d c = record {
   kept = refl;
   served = served_first c.args.quantum c.args.request.now c.args.slots.now.tags c.args.units c.requires.units;
 }
-
-pub unreachable-requires : goal.unreachable-requires
-unreachable-requires d c =
-    let q = c.args.request.now in
-    let g = c.of-grid.result in
-    let items = c.args.sizes.now.items in
-    let tags = c.args.slots.now.tags in
-    let m = c.requires.mirrors in
-    let are = c.requires.tags.1 in
-    let same = ap (λ s. s.items) c.loop-entry.invariant.kept in
-    let rises = subst (Rises rank_of) same c.first_weighing.ensures.rises in
-    let key : ℕ = c.loop-entry.major * 2 ^ 64 + c.loop-entry.minor in
-    let e = c.in-Some.entry in
-    let found = subst (λ l. first_heavy_from rank_of (weight_of (Reach g)) key c.args.units l ≡ Some e) same (sym c.first_weighing.ensures.first ∙ c.in-Some.is) in
-    let heavy = is_heavy rank_of (weight_of (Reach g)) key c.args.units items rises e found in
-    let w = m.from e (heavy.place, heavy.within, heavy.here) in
-    let valid : IsRange (record { base = e.minor; len = e.major }) = subst IsRange (sizes_range e w.0 w.2) (c.requires.tags.1 e.slot w.0 w.1).range in
-    false≢true (c.in_default-new.ensures.valid.1 valid)
 
 pub range_at-range-requires-clause-here : goal.range_at-range-requires-clause-here
 range_at-range-requires-clause-here d c =
@@ -87,8 +68,8 @@ returns-in-Some-least_in-clause-choice d c =
     let found = subst (λ l. first_heavy_from rank_of (weight_of (Reach g)) key c.args.units l ≡ Some e) same (sym c.first_weighing.ensures.first ∙ c.in-Some.is) in
     let heavy = is_heavy rank_of (weight_of (Reach g)) key c.args.units items rises e found in
     let w = m.from e (heavy.place, heavy.within, heavy.here) in
-    let made : c.in-Some-new.range ≡ record { base = e.minor; len = e.major } = subst (λ o. IfSome o (λ x. x ≡ record { base = e.minor; len = e.major })) c.in-Some-new.is c.new.ensures.value in
-    let same_range : w.0.range.range ≡ c.in-Some-new.range = sizes_range e w.0 w.2 ∙ sym made in
+    let range = c.range_at-range.ensures w.0 w.1 in
+    let same_range : w.0.range.range ≡ c.range.result = sym (c.range.ensures ∙ ap (λ h. h.range) range) in
     let t = w.0 in
     let at = w.1 in
     let is = w.2 in
@@ -122,9 +103,8 @@ returns-in-Some-least_in-clause-placed d c =
     let found = subst (λ l. first_heavy_from rank_of (weight_of (Reach g)) key c.args.units l ≡ Some e) same (sym c.first_weighing.ensures.first ∙ c.in-Some.is) in
     let heavy = is_heavy rank_of (weight_of (Reach g)) key c.args.units items rises e found in
     let w = m.from e (heavy.place, heavy.within, heavy.here) in
-    let made : c.in-Some-new.range ≡ record { base = e.minor; len = e.major } = subst (λ o. IfSome o (λ x. x ≡ record { base = e.minor; len = e.major })) c.in-Some-new.is c.new.ensures.value in
-    let same_range : w.0.range.range ≡ c.in-Some-new.range = sizes_range e w.0 w.2 ∙ sym made in
     let range = c.range_at-range.ensures w.0 w.1 in
+    let same_range : w.0.range.range ≡ c.range.result = sym (c.range.ensures ∙ ap (λ h. h.range) range) in
     record {
       among = subst (Contains (ranges_by_age tags)) (sym range) (range_is_free tags e.slot w.0 w.1);
       serves = subst (λ h. ServesIn c.args.quantum q h c.in-Some-least_in.base) (sym range) (c.in-Some-least_in.ensures w.0.range same_range).0.0;
@@ -145,13 +125,12 @@ loop-entry-smaller d c =
     let found = subst (λ l. first_heavy_from rank_of (weight_of (Reach g)) key c.args.units l ≡ Some e) same (sym c.first_weighing.ensures.first ∙ c.in-Some.is) in
     let heavy = is_heavy rank_of (weight_of (Reach g)) key c.args.units items rises e found in
     let w = m.from e (heavy.place, heavy.within, heavy.here) in
-    let made : c.in-Some-new.range ≡ record { base = e.minor; len = e.major } = subst (λ o. IfSome o (λ x. x ≡ record { base = e.minor; len = e.major })) c.in-Some-new.is c.new.ensures.value in
-    let same_range : w.0.range.range ≡ c.in-Some-new.range = sizes_range e w.0 w.2 ∙ sym made in
+    let range = c.range_at-range.ensures w.0 w.1 in
     let t = w.0 in
     let at = w.1 in
     let is = w.2 in
-    let long = c.len-major.ensures.value ∙ sym (ap (λ x. x.len) same_range) in
-    let base = c.base-minor.ensures.value ∙ sym (ap (λ x. x.base) same_range) in
+    let long = c.len-major.ensures.value ∙ ap (λ h. h.range.len) range in
+    let base = c.base-minor.ensures.value ∙ ap (λ h. h.range.base) range in
     let rank = ap rank_of is in
     let next : ℕ = c.len-major.result * 2 ^ 64 + (c.base-minor.result + 1) in
     let more : next ≡ rank_of e + 1 = omega (arith, long, base, rank) in
@@ -172,8 +151,8 @@ loop-entry-preserved d c =
     let found = subst (λ l. first_heavy_from rank_of (weight_of (Reach g)) key c.args.units l ≡ Some e) same (sym c.first_weighing.ensures.first ∙ c.in-Some.is) in
     let heavy = is_heavy rank_of (weight_of (Reach g)) key c.args.units items rises e found in
     let w = m.from e (heavy.place, heavy.within, heavy.here) in
-    let made : c.in-Some-new.range ≡ record { base = e.minor; len = e.major } = subst (λ o. IfSome o (λ x. x ≡ record { base = e.minor; len = e.major })) c.in-Some-new.is c.new.ensures.value in
-    let same_range : w.0.range.range ≡ c.in-Some-new.range = sizes_range e w.0 w.2 ∙ sym made in
+    let range = c.range_at-range.ensures w.0 w.1 in
+    let same_range : w.0.range.range ≡ c.range.result = sym (c.range.ensures ∙ ap (λ h. h.range) range) in
     let t = w.0 in
     let at = w.1 in
     let is = w.2 in
@@ -186,8 +165,8 @@ loop-entry-preserved d c =
     } in
     let before = served_before c.args.quantum q c.args.units g c.requires.units grid items tags m rises c.requires.tags.0 are key c.loop-entry.invariant.served e heavy in
     let first = first_there c.args.quantum q c.args.units g c.requires.units grid items tags m rises c.requires.tags.0 are key c.loop-entry.invariant.served e heavy in
-    let long = c.len-major.ensures.value ∙ sym (ap (λ x. x.len) same_range) in
-    let base = c.base-minor.ensures.value ∙ sym (ap (λ x. x.base) same_range) in
+    let long = c.len-major.ensures.value ∙ ap (λ h. h.range.len) range in
+    let base = c.base-minor.ensures.value ∙ ap (λ h. h.range.base) range in
     let rank = ap rank_of is in
     let next : ℕ = c.len-major.result * 2 ^ 64 + (c.base-minor.result + 1) in
     let more : next ≡ rank_of e + 1 = omega (arith, long, base, rank) in
