@@ -1,6 +1,7 @@
 //! The desk and all below it in plain Rust: desk < SCRIPT writes the replies, as vmemd script does, those to the
 //! lines of one read together; desk --time K < SCRIPT writes the processor nanoseconds a line, of the lines
-//! behind the setup and the first K of the others.
+//! behind the setup and the first K of the others; desk --parts K SCRIPT answers the setup and those K, writes an
+//! empty line, and then for each line that it reads answers the next 5,000 and writes the same of them.
 #![allow(warnings)]
 mod arena_tree;
 mod deed_core;
@@ -93,46 +94,77 @@ fn now() -> u64 {
     at.sec as u64 * 1_000_000_000 + at.nsec as u64
 }
 
+/// A desk behind the setup and the first lines of a script, and what it wrote last.
+struct Timed {
+    desk: Desk,
+    out: std_names::Vec<u8>,
+}
+
+impl Timed {
+    /// Answers the setup and the first lines, and hands the others back with it.
+    fn open(all: &[u8], first: usize) -> Result<(Timed, std::vec::Vec<&[u8]>), ScriptFault> {
+        let is_setup = |line: &&[u8]| {
+            let word = line.split(|it| *it == b' ').next().unwrap();
+            lease_proto::is_setup_word(word)
+        };
+        let mut lines: std::vec::Vec<&[u8]> = all.strip_suffix(b"\n").unwrap_or(all).split(|it| *it == b'\n').collect();
+        let head = lines.iter().take_while(|it| is_setup(it)).count();
+        let mut setup_text: std::vec::Vec<u8> = lines[..head].join(&b'\n');
+        setup_text.push(b'\n');
+        let mut reader = Watched::new(&setup_text[..]);
+        let mut setup = Setup::new(Global);
+        take_setup(&mut reader, &mut setup)?;
+        let desk = Desk::open(Global, setup)?;
+        let mut timed = Timed { desk, out: std_names::Vec::new(Global) };
+        let rest = lines.split_off((head + first).min(lines.len()));
+        timed.answer(&lines[head..]);
+        Ok((timed, rest))
+    }
+
+    /// The processor nanoseconds a line.
+    fn answer(&mut self, lines: &[&[u8]]) -> f64 {
+        let before = now();
+        for group in lines.chunks(200) {
+            for line in group {
+                self.desk.answer(line, &mut self.out).unwrap();
+            }
+            std::hint::black_box(self.out.as_slice());
+            self.out.clear();
+        }
+        (now() - before) as f64 / lines.len().max(1) as f64
+    }
+}
+
 fn run_timed(first: usize) -> Result<(), ScriptFault> {
     let mut all = std::vec::Vec::new();
     std::io::stdin().read_to_end(&mut all).unwrap();
-    let is_setup = |line: &&[u8]| {
-        let word = line.split(|it| *it == b' ').next().unwrap();
-        lease_proto::is_setup_word(word)
-    };
-    let lines: std::vec::Vec<&[u8]> = all.strip_suffix(b"\n").unwrap_or(&all).split(|it| *it == b'\n').collect();
-    let head = lines.iter().take_while(|it| is_setup(it)).count();
-    let mut setup_text: std::vec::Vec<u8> = lines[..head].join(&b'\n');
-    setup_text.push(b'\n');
-    let mut reader = Watched::new(&setup_text[..]);
-    let mut setup = Setup::new(Global);
-    take_setup(&mut reader, &mut setup)?;
-    let mut desk = Desk::open(Global, setup)?;
-    let mut out = std_names::Vec::new(Global);
-    let (fill, rest) = lines[head..].split_at(first.min(lines.len() - head));
-    let mut answer = |lines: &[&[u8]]| {
-        for group in lines.chunks(200) {
-            for line in group {
-                desk.answer(line, &mut out).unwrap();
-            }
-            std::hint::black_box(out.as_slice());
-            out.clear();
+    let (mut timed, rest) = Timed::open(&all, first)?;
+    println!("{:.1}", timed.answer(&rest));
+    timed.desk.close();
+    Ok(())
+}
+
+fn run_parts(first: usize, script: &str) -> Result<(), ScriptFault> {
+    let all = std::fs::read(script).unwrap();
+    let (mut timed, rest) = Timed::open(&all, first)?;
+    println!();
+    for part in rest.chunks(5000) {
+        if std::io::stdin().lines().next().is_none() {
+            break;
         }
-    };
-    answer(fill);
-    let before = now();
-    answer(rest);
-    let taken = now() - before;
-    println!("{:.1}", taken as f64 / rest.len().max(1) as f64);
-    desk.close();
+        println!("{:.1}", timed.answer(part));
+    }
+    timed.desk.close();
     Ok(())
 }
 
 fn main() {
     let arguments: std::vec::Vec<String> = std::env::args().skip(1).collect();
-    let ran = match arguments.iter().position(|it| it == "--time") {
-        Some(at) => run_timed(arguments.get(at + 1).map_or(0, |it| it.parse().unwrap())),
-        None => run_script(),
+    let words: std::vec::Vec<&str> = arguments.iter().map(|it| it.as_str()).collect();
+    let ran = match words[..] {
+        ["--time", first] => run_timed(first.parse().unwrap()),
+        ["--parts", first, script] => run_parts(first.parse().unwrap(), script),
+        _ => run_script(),
     };
     if let Err(fault) = ran {
         eprintln!("vmemd: {}", text(fault));

@@ -233,7 +233,7 @@ impl<T> VecDeque<T> {
     }
     #[inline]
     pub fn reserve(&mut self, more: usize) -> Result<(), AllocError> {
-        self.0.reserve(more);
+        std::collections::VecDeque::reserve(&mut self.0, more);
         Ok(())
     }
     pub fn destroy_empty(self) {}
