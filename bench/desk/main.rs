@@ -1,7 +1,7 @@
 //! The desk and all below it in plain Rust: desk < SCRIPT writes the replies, as vmemd script does, those to the
 //! lines of one read together; desk --time K < SCRIPT writes the processor nanoseconds a line, of the lines
-//! behind the setup and the first K of the others; desk --parts K SCRIPT answers the setup and those K, writes an
-//! empty line, and then for each line that it reads answers the next 5,000 and writes the same of them.
+//! behind the setup and the first K of the others; desk --parts K N SCRIPT answers the setup and those K, writes an
+//! empty line, and then for each line that it reads answers the next N and writes the same of them.
 #![allow(warnings)]
 mod arena_tree;
 mod deed_core;
@@ -144,11 +144,11 @@ fn run_timed(first: usize) -> Result<(), ScriptFault> {
     Ok(())
 }
 
-fn run_parts(first: usize, script: &str) -> Result<(), ScriptFault> {
+fn run_parts(first: usize, size: usize, script: &str) -> Result<(), ScriptFault> {
     let all = std::fs::read(script).unwrap();
     let (mut timed, rest) = Timed::open(&all, first)?;
     println!();
-    for part in rest.chunks(5000) {
+    for part in rest.chunks(size) {
         if std::io::stdin().lines().next().is_none() {
             break;
         }
@@ -163,7 +163,7 @@ fn main() {
     let words: std::vec::Vec<&str> = arguments.iter().map(|it| it.as_str()).collect();
     let ran = match words[..] {
         ["--time", first] => run_timed(first.parse().unwrap()),
-        ["--parts", first, script] => run_parts(first.parse().unwrap(), script),
+        ["--parts", first, size, script] => run_parts(first.parse().unwrap(), size.parse().unwrap(), script),
         _ => run_script(),
     };
     if let Err(fault) = ran {
