@@ -23,7 +23,7 @@ mod tag_arena;
 mod vmemd;
 
 use arena_tree::Setup;
-use lease_server::{serve, Watched};
+use lease_server::{serve, Intake, Watched};
 use std::io::Read;
 use std_names::Global;
 use stock_desk::Desk;
@@ -66,6 +66,18 @@ impl std::io::Write for Out {
     }
 }
 
+/// Takes what is written, and lets it go.
+struct Written;
+
+impl std::io::Write for Written {
+    fn write(&mut self, bytes: &[u8]) -> std::io::Result<usize> {
+        Ok(std::hint::black_box(bytes).len())
+    }
+    fn flush(&mut self) -> std::io::Result<()> {
+        Ok(())
+    }
+}
+
 fn run_script() -> Result<(), ScriptFault> {
     let mut reader = Watched::new(std::io::stdin().lock());
     let mut writer = Watched::new(Out);
@@ -94,10 +106,9 @@ fn now() -> u64 {
     at.sec as u64 * 1_000_000_000 + at.nsec as u64
 }
 
-/// A desk behind the setup and the first lines of a script, and what it wrote last.
+/// A desk behind the setup and the first lines of a script.
 struct Timed {
     desk: Desk,
-    out: std_names::Vec<u8>,
 }
 
 impl Timed {
@@ -115,22 +126,20 @@ impl Timed {
         let mut setup = Setup::new(Global);
         take_setup(&mut reader, &mut setup)?;
         let desk = Desk::open(Global, setup)?;
-        let mut timed = Timed { desk, out: std_names::Vec::new(Global) };
+        let mut timed = Timed { desk };
         let rest = lines.split_off((head + first).min(lines.len()));
         timed.answer(&lines[head..]);
         Ok((timed, rest))
     }
 
-    /// The processor nanoseconds a line.
+    /// The processor nanoseconds a line: they are read as a server reads them.
     fn answer(&mut self, lines: &[&[u8]]) -> f64 {
+        let mut text = lines.join(&b'\n');
+        text.push(b'\n');
+        let mut reader = Watched::new(&text[..]);
+        let mut writer = Watched::new(Written);
         let before = now();
-        for group in lines.chunks(200) {
-            for line in group {
-                self.desk.answer(line, &mut self.out).unwrap();
-            }
-            std::hint::black_box(self.out.as_slice());
-            self.out.clear();
-        }
+        serve(Global, &mut Intake::new(), &mut reader, &mut writer, &mut self.desk).unwrap();
         (now() - before) as f64 / lines.len().max(1) as f64
     }
 }

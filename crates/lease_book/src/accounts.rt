@@ -11,6 +11,7 @@ ghost use Rattle.lease_book.specs.Places.{is_asked};
 ghost use Rattle.lease_book.specs.Shelf.{IsEmptyBefore};
 ghost use Rattle.lease_book.specs.declared.books.TheConstants.{MOST_LEASES};
 
+use crate::coming::Coming;
 use crate::leases::{Held, Leases, Which};
 use crate::receipts::{Kept, KeptReply, Terms};
 use crate::reports::ClientReport;
@@ -56,9 +57,8 @@ pub(crate) struct Accounts<D: Deed> {
     leases: Vec<Leases<D>>,
     empty: usize,
     near: usize,
-    /// What was read of the lease that was looked ahead to. No one asks: it is kept so that the
-    /// read isn't left out.
-    ahead: u16,
+    /// What was read ahead, added up. It is kept so that the reading isn't left out.
+    read: u64,
 }
 
 impl<D: Deed> Model for Accounts<D> {
@@ -87,7 +87,7 @@ impl<D: Deed> Accounts<D> {
             leases: Vec::new(alloc),
             empty: 0,
             near: 0,
-            ahead: 0,
+            read: 0,
         }
     }
 
@@ -134,20 +134,32 @@ impl<D: Deed> Accounts<D> {
     {
         if let Some(index) = self.find(client) {
             self.near = index;
-            self.look_ahead(index, base);
+            if let Some(base) = base {
+                self.look_for(index, base);
+            }
         }
     }
 
     /// Reads where the search for a lease at a base begins.
-    fn look_ahead(&mut self, index: usize, base: Option<Quantity>)
+    fn look_for(&mut self, index: usize, base: Quantity)
         ensures unchanged { self.new ≡ self.old }
     {
-        let Some(base) = base else {
-            return;
+        let release = Coming {
+            client: index,
+            base: base.get(),
         };
-        if let Some(leases) = self.leases.get(index) {
-            self.ahead = leases.search_end(base.get());
-        }
+        let read = ends_of(&self.leases, &[release]);
+        self.read = self.read.wrapping_add(read);
+    }
+
+    /// Reads where the searches of some releases begin, and then what they come to first. It is for
+    /// speed alone.
+    pub(crate) fn look_ahead(&mut self, releases: &[Coming])
+        ensures unchanged { self.new ≡ self.old }
+    {
+        let ends = ends_of(&self.leases, releases);
+        let places = places_of(&self.leases, releases);
+        self.read = self.read.wrapping_add(ends).wrapping_add(places);
     }
 
     pub(crate) fn standing(&self, index: usize) -> &Standing
@@ -296,10 +308,32 @@ impl<D: Deed> Accounts<D> {
             leases,
             empty: _empty,
             near: _near,
-            ahead: _ahead,
+            read: _read,
         } = self;
         close_all(leases);
     }
+}
+
+/// Reads where the searches of some releases begin.
+fn ends_of<D: Deed>(leases: &[Leases<D>], releases: &[Coming]) -> u64 {
+    let mut read: u64 = 0;
+    for one in releases {
+        if let Some(leases) = leases.get(one.client) {
+            read = read.wrapping_add(leases.search_end(one.base) as u64);
+        }
+    }
+    read
+}
+
+/// Reads what they come to first.
+fn places_of<D: Deed>(leases: &[Leases<D>], releases: &[Coming]) -> u64 {
+    let mut read: u64 = 0;
+    for one in releases {
+        if let Some(leases) = leases.get(one.client) {
+            read = read.wrapping_add(leases.look_at(one.base));
+        }
+    }
+    read
 }
 
 /// The first that has a lease, where those before an index have none.

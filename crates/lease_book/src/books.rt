@@ -18,6 +18,7 @@ ghost use Rattle.lease_book.specs.declared.books.TheConstants.{MOST_LEASES};
 
 use crate::accounts::{Accounts, Standing};
 use crate::answers::{Answer, HelloFault, Look, NotLeased};
+use crate::coming::Coming;
 use crate::leases::{Held, Which};
 use crate::receipts::{Kept, KeptReply, Receipt, Terms};
 use crate::reports::ClientReport;
@@ -131,6 +132,23 @@ impl<D: Deed> Book<D> {
         ensures unchanged { self.new ≡ self.old }
     {
         self.accounts.go_to(client, base);
+    }
+
+    /// The index of a client in order of first hello.
+    pub fn index_of(&self, client: ClientId) -> Option<usize>
+        ensures found { IfSome result (IsFound self.now client) }
+        ensures none { IfNone result (find (λ a. client == a.client) self.now.accounts ≡ None) }
+    {
+        let (index, _) = self.account(client)?;
+        Some(index)
+    }
+
+    /// Reads what some releases read first, so that their memory is waited for together. It is for
+    /// speed alone.
+    pub fn look_ahead(&mut self, releases: &[Coming])
+        ensures unchanged { self.new ≡ self.old }
+    {
+        self.accounts.look_ahead(releases);
     }
 
     /// What a request's number is to the book.

@@ -200,6 +200,11 @@ impl<D: Deed> Leases<D> {
         self.places.search_end(base)
     }
 
+    /// Reads the place that this search comes to first. It is for speed alone.
+    pub(crate) fn look_at(&self, base: u64) -> u64 {
+        self.places.look_at(base)
+    }
+
     /// Whether there is one of an incarnation before this one.
     pub(crate) fn has_older(&self, incarnation: Ordinal) -> bool
         ensures { result ≡ list_any (is_older incarnation) self.now }

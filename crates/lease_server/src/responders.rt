@@ -3,6 +3,9 @@ ghost use Rattle.std.specs.Prelude.{◌≡◌, ◌++◌, ℕ, List, OnOk, OnErr}
 
 use std::alloc::AllocError;
 
+/// How many lines a responder looks ahead to at once. (Our own choice.)
+pub const LOOK_AHEAD: usize = 64;
+
 /// Answers one line at a time, in the order in which the lines came. What a serving may write is
 /// stated over `may_answer`, which each responder says of itself.
 pub trait Responder {
@@ -18,4 +21,11 @@ pub trait Responder {
             × may_answer self.old line.now reply self.new) }
         ensures unwritten { OnErr result (out.new.items ≡ out.old.items) }
         ensures unchanged { OnErr result (self.new ≡ self.old) };
+
+    /// Looks ahead to the lines of a text, each with its line feed, which will be asked next: to so
+    /// many as `LOOK_AHEAD`. What they need of memory may so be waited for together. It is for speed
+    /// alone, and a responder may do nothing. A line begun may stand behind them.
+    fn look_ahead(&mut self, _text: &[u8])
+        ensures unchanged { self.new ≡ self.old }
+    {}
 }

@@ -13,6 +13,7 @@ ghost use Rattle.stock_desk.specs.Openings.{IsOpenedFrom};
 ghost use Rattle.stock_desk.specs.Operating.{StaysPicture};
 
 use crate::emptyings::empty_all;
+use crate::looking_ahead::look_ahead;
 use crate::openings::open_supply;
 use crate::operating::tell;
 use crate::replying::reply;
@@ -69,6 +70,13 @@ impl Desk {
             supply,
             book: Book::new(alloc, mark),
         })
+    }
+
+    /// Looks ahead to the first lines of a text, as a responder does. It is for speed alone.
+    pub fn look_ahead(&mut self, text: &[u8])
+        ensures unchanged { self.new ≡ self.old }
+    {
+        look_ahead(&mut self.supply, &mut self.book, text);
     }
 
     /// Answers one line, which is given without its line feed: appends its reply lines. Room for a

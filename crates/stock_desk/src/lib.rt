@@ -7,8 +7,9 @@
 //! (telling), replies (answers, settling, replying), segments that are given and taken back
 //! (supplies, takings), leases, hellos and releases (leasing, hellos, releasing), the answers to an
 //! operator (operating), CPUs that go offline (offlines), what is reaped (reapings), what a setup
-//! gives (openings), and how leases (returns) and CPUs (emptyings) end. What a line may be answered
-//! is stated in the crate `lease_machine`.
+//! gives (openings), and how leases (returns) and CPUs (emptyings) end. What lines that come will
+//! read of memory is read ahead for many of them together (looking_ahead). What a line may be
+//! answered is stated in the crate `lease_machine`.
 //!
 //! A client's line costs what the calls of `quantum_cache` and of the book do, and a look at the
 //! names of the arenas and the numbers of the CPUs, which are few; a hello one free for each lease
@@ -26,6 +27,7 @@ mod desks;
 mod emptyings;
 mod hellos;
 mod leasing;
+mod looking_ahead;
 mod offlines;
 mod openings;
 mod operating;

@@ -54,6 +54,20 @@ impl Supply {
         }
     }
 
+    /// Reads what frees at some bases read first in the arena whose name is written so. It is for
+    /// speed alone.
+    pub(crate) fn look_ahead(&mut self, name: &[u8], bases: &[u64])
+        ensures unchanged { self.new ≡ self.old }
+    {
+        let mut arenas = self.tree.arenas().iter();
+        let Some(arena) = arenas.position(|arena| arena.name.as_slice() == name) else {
+            return;
+        };
+        if arena < self.stock.count() {
+            self.stock.look_ahead(arena, bases);
+        }
+    }
+
     /// Goes to the allocated range of an arena at a base. It is for speed alone.
     pub(crate) fn go_to(&mut self, arena: u32, base: u64)
         requires within { arena < length self.old.spaces }

@@ -326,7 +326,7 @@ impl Cells {
     }
 
     /// How many units are allocated in the cell that a link leads to, if it leads to one.
-    fn units(&self, link: ShortIndex) -> u64 {
+    pub fn units(&self, link: ShortIndex) -> u64 {
         let Some(at) = link.get() else {
             return 0;
         };
