@@ -132,7 +132,7 @@ impl Timed {
         Ok((timed, rest))
     }
 
-    /// The processor nanoseconds a line: they are read as a server reads them.
+    /// The processor nanoseconds a line, of lines that are read from memory as a server reads a stream.
     fn answer(&mut self, lines: &[&[u8]]) -> f64 {
         let mut text = lines.join(&b'\n');
         text.push(b'\n');

@@ -22,9 +22,10 @@ pub trait Responder {
         ensures unwritten { OnErr result (out.new.items ≡ out.old.items) }
         ensures unchanged { OnErr result (self.new ≡ self.old) };
 
-    /// Looks ahead to the lines of a text, each with its line feed, which will be asked next: to so
-    /// many as `LOOK_AHEAD`. What they need of memory may so be waited for together. It is for speed
-    /// alone, and a responder may do nothing. A line begun may stand behind them.
+    /// Looks ahead to the first `LOOK_AHEAD` lines of a text, each with its line feed. They will be
+    /// answered next, but for those that are too long; there may be fewer, or more, and a line begun
+    /// behind them. So what each needs of memory may be waited for together with the others. It is
+    /// for speed alone: a responder may do nothing, or go without the memory that it takes for it.
     fn look_ahead(&mut self, _text: &[u8])
         ensures unchanged { self.new ≡ self.old }
     {}

@@ -112,8 +112,8 @@ fn answer_held<P: Responder>(
     Ok(())
 }
 
-/// Has the responder look ahead, unless it has looked ahead to some of the lines that come, and says
-/// to how many of those behind the next one it has.
+/// Has the responder look ahead behind the lines that it was shown, of which so many are left, and
+/// says how many are left behind the next one.
 fn look_on<P: Responder>(ahead: usize, input: &Intake, responder: &mut P) -> usize
     ensures unchanged { responder.new ≡ responder.old }
 {

@@ -1,6 +1,6 @@
 //! Looking ahead to releases that come: what they read first is read for all of them together, so
 //! that they don't wait for memory one by one. It is for speed alone. A line is read only as far as
-//! that wants, and a wrong one leads nowhere.
+//! that wants, and what a wrong one leads to is read in vain.
 ghost use Rattle.std.specs.Prelude.{◌≡◌};
 
 use crate::supplies::Supply;
@@ -21,22 +21,26 @@ const RELEASE: &[u8] = b"release ";
 #[derive(Drop)]
 struct Releases<'a> {
     coming: Vec<Coming>,
-    /// The name of the first one's arena. Those of others aren't looked for in theirs.
+    /// The name of the arena of the first one.
     arena: &'a [u8],
     bases: Vec<u64>,
 }
 
-/// Reads what the releases among the first lines of a text read first.
+/// Reads what the releases among the first lines of a text read first: of the book all of them, of
+/// the arenas those that are in the first one's.
 pub(crate) fn look_ahead(supply: &mut Supply, book: &mut Book<PlainDeed>, text: &[u8])
     ensures supply { supply.new ≡ supply.old }
     ensures book { book.new ≡ book.old }
 {
-    if book.clients() < FEW_CLIENTS {
+    if text.is_empty() || book.clients() < FEW_CLIENTS {
         return;
     }
     let Ok(releases) = releases_in(supply.alloc, book, text) else {
         return;
     };
+    if releases.coming.is_empty() {
+        return;
+    }
     book.look_ahead(&releases.coming);
     supply.look_ahead(releases.arena, &releases.bases);
 }
@@ -71,9 +75,9 @@ fn first_line(text: &[u8]) -> Option<(&[u8], &[u8])> {
 
 impl<'a> Releases<'a> {
     /// Adds what a line will search for, if it is a release by a client that is known: its words
-    /// are that, the client, its incarnation, the request's number, the arena and the base.
+    /// are `release`, the client, its incarnation, the request's number, the arena and the base.
     fn add(&mut self, book: &Book<PlainDeed>, line: &'a [u8]) -> Result<(), AllocError> {
-        if line.len() < RELEASE.len() || line[0] != RELEASE[0] {
+        if line.len() < RELEASE.len() || &line[..RELEASE.len()] != RELEASE {
             return Ok(());
         }
         let Some(client) = client_at(book, first_number(&line[RELEASE.len()..])) else {
