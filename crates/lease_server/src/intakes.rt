@@ -83,8 +83,8 @@ impl Intake {
         }
     }
 
-    /// What was read and isn't passed, but for a first line that began in an earlier read. It is for
-    /// looking ahead.
+    /// What was read and isn't passed, but for a first line that began in an earlier read. It is
+    /// for looking ahead.
     pub(crate) fn ahead(&self) -> &[u8] {
         &self.buffer[self.start..self.end]
     }

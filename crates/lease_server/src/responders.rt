@@ -23,9 +23,10 @@ pub trait Responder {
         ensures unchanged { OnErr result (self.new ≡ self.old) };
 
     /// Looks ahead to the first `LOOK_AHEAD` lines of a text, each with its line feed. They will be
-    /// answered next, but for those that are too long; there may be fewer, or more, and a line begun
-    /// behind them. So what each needs of memory may be waited for together with the others. It is
-    /// for speed alone: a responder may do nothing, or go without the memory that it takes for it.
+    /// answered next, but for those that are too long; there may be fewer, or more, and a line
+    /// begun behind them. So what each needs of memory may be waited for together with the others.
+    /// It is for speed alone: a responder may do nothing, or go without the memory that it takes
+    /// for it.
     fn look_ahead(&mut self, _text: &[u8])
         ensures unchanged { self.new ≡ self.old }
     {}

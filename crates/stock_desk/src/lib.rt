@@ -13,12 +13,13 @@
 //!
 //! A client's line costs what the calls of `quantum_cache` and of the book do, and a look at the
 //! names of the arenas and the numbers of the CPUs, which are few; a hello one free for each lease
-//! that it ends. Where 16 clients or more said hello, a release that is read together with others is
-//! read once more to look ahead, and its client looked up once more; for 64 lines that takes 2,048
-//! bytes while they are looked at, and nothing is looked at without them. Of an operator's lines `tick` and `resize` go over depots, `offline` over the
-//! rounds of one CPU, `reap` over the rounds and slabs that may go, `audit` for each arena over all
-//! its parts, the CPUs' magazines and all leases, `clients` over all clients. `close` takes leases,
-//! rounds, slabs and spans back one by one, and takes no memory.
+//! that it ends. Where 16 clients or more said hello, a release that is read together with others
+//! is read once more to look ahead, and its client looked up once more; for 64 lines that takes
+//! 1,536 bytes while they are looked at, and nothing is looked at without them. Of an operator's
+//! lines `tick` and `resize` go over depots, `offline` over the rounds of one CPU, `reap` over the
+//! rounds and slabs that may go, `audit` for each arena over all its parts, the CPUs' magazines and
+//! all leases, `clients` over all clients. `close` takes leases, rounds, slabs and spans back one
+//! by one, and takes no memory.
 #![tactic(auto)]
 
 mod answers;

@@ -79,8 +79,8 @@ impl Tags {
         self.count
     }
 
-    /// Reads the heads of the chains of some bases, then their first cells, and then the cells beside
-    /// these. It is for speed alone.
+    /// Reads the heads of the chains of some bases, then their first cells, and then the cells
+    /// beside these. It is for speed alone.
     pub fn look_ahead(&mut self, bases: &[u64])
         ensures unchanged { self.new ≡ self.old }
     {
