@@ -210,7 +210,7 @@ fn discard(rt: &impl Abort, magazine: Magazine<PlainDeed>) {
     }
 }
 
-// Each round is kept, or comes back where it is out of memory, and each that is kept is taken
+// Each round is kept, or comes back where it is out of memory and is then kept, and each is taken
 // again.
 #[test]
 fn no_round_is_lost(rt: HostRuntime) {
@@ -221,9 +221,11 @@ fn no_round_is_lost(rt: HostRuntime) {
     let mut depot = Depot::new(alloc, 7);
     let mut left: u128 = 0;
     for at in 0..20 {
-        if gives_one(&rt, alloc, &mut cpu, &mut depot, at) {
-            left = left.saturating_add(1);
+        if !gives_one(&rt, alloc, &mut cpu, &mut depot, at) {
+            assert_eq!(rt; cpu.units().saturating_add(depot.units()), left);
+            assert!(rt; gives_one(&rt, alloc, &mut cpu, &mut depot, at));
         }
+        left = left.saturating_add(1);
         assert_eq!(rt; cpu.units().saturating_add(depot.units()), left);
     }
     for _ in 0..24 {

@@ -196,6 +196,43 @@ fn come_and_go(
     close(rt, cache);
 }
 
+/// Adds a span and takes its first chunk, again where it was out of memory: then the span is back
+/// and the cache as before.
+fn add_again(rt: &impl Abort, cache: &mut SlabCache<PlainDeed>, bounds: Bounds) -> Bounds {
+    let before = cache.report();
+    match added(rt, cache, bounds) {
+        Ok(first) => first,
+        Err(why) => {
+            assert_eq!(rt; (why, cache.report()), (Why::NoMemory, before));
+            added(rt, cache, bounds).ok().expect(rt, "refused twice")
+        }
+    }
+}
+
+/// Forty slabs of three chunks each, all taken, given back and reaped.
+#[test]
+fn spans_can_be_added_again(rt: HostRuntime) {
+    let mut cache: SlabCache<PlainDeed> = SlabCache::new(rt.alloc(), 7, 5, 1, 16);
+    for number in 0..40u64 {
+        let (first, len) = add_again(&rt, &mut cache, (16 * number, 16));
+        assert!(rt; first / 16 == number && len == 5);
+        let calls = [
+            Call::Take(Some((first + 5, 5))),
+            Call::Put(5, (first, 5), Ok(())),
+            Call::Take(Some((first, 5))),
+            Call::Put(5, (first + 5, 5), Ok(())),
+            Call::Put(5, (first, 5), Ok(())),
+        ];
+        for call in calls {
+            make_call(&rt, &mut cache, call);
+        }
+    }
+    for number in 0..40u64 {
+        make_call(&rt, &mut cache, Call::Reap(Some((16 * number, 16))));
+    }
+    close(&rt, cache);
+}
+
 /// A split of the span is refused, and the span comes back whole.
 fn refused(rt: &impl Abort, cache: &mut SlabCache<RefusingDeed>, range: Range, splits_left: u32) {
     let span = span_of(rt, cache, RefusingDeed::new(0, range, splits_left));

@@ -9,6 +9,7 @@ mod repeats;
 mod rows;
 mod settles;
 mod soak;
+mod starved_threads;
 
 use arena_tree::{NewChild, NewRoot, Setting, Setup};
 use deed_core::Range;

@@ -126,7 +126,7 @@ fn make_many_gaps(rt: &(impl Abort + AllocGlobal), policy: Policy) {
 
 #[test]
 fn calls_of_many_can_be_made_again(rt: HostRuntime) {
-    for policy in [Policy::Best, Policy::Instant] {
+    for policy in [Policy::Best, Policy::Instant, Policy::Next] {
         make_many_gaps(&rt, policy);
     }
 }
