@@ -1,4 +1,7 @@
-# make        proves what the program stands on, and leaves the program as bin/vmemd
+# make        proves what the program stands on, several crates at a time, and leaves the program as bin/vmemd
+# make try    compiles the program and runs it on examples/first.script, with no proof: about a minute;
+#             make try SCRIPT=FILE runs another script
+# make quick  leaves a program at full speed as bin/vmemd-quick, with no proof: about a minute
 # make test   the gate: every proof from nothing, the must-fail edits, the tests, the program's cases,
 #             random scripts against a slow model, the tests of the Python client
 # make edits  tries all edits, those of more-edits/ too, of JOBS=1 crates at a time, several
@@ -9,19 +12,29 @@
 # make install PREFIX=/usr/local DESTDIR=  puts bin/vmemd, its pages and a systemd unit in place
 # make clean  removes what was built
 
-.PHONY: all test edits cases bench bench-serve install clean
+.PHONY: all try quick test edits cases bench bench-serve install clean
 
+SCRIPT = examples/first.script
 JOBS = 1
 PREFIX = /usr/local
 BENCH =
 
 all:
+	tools/build
 	cd crates/vmemd && rt run -- script < stdin > /dev/null
 	mkdir -p bin
 	cp crates/vmemd/out/vmemd bin/vmemd
 
+try:
+	@tools/try $(SCRIPT)
+
+quick:
+	@tools/quick bin/vmemd-quick
+
 # rt ci leaves the programs that it proved and ran under crates/vmemd/out, and the cases run on them.
 test:
+	tools/layers
+	tools/protocol
 	tools/edits --apply-only
 	rt ci; proved=$$?; tools/cases; ran=$$?; tools/random_scripts; plain=$$?; \
 	tools/random_scripts --all --count 60; random=$$?; \
@@ -51,11 +64,11 @@ install:
 	  page=$(DESTDIR)$(PREFIX)/share/man/man$$n/vmemd.$$n; \
 	  install -D -m 644 /dev/null $$page && tools/manpage docs/vmemd.$$n.md > $$page || exit 1; done
 	install -d $(DESTDIR)$(PREFIX)/share/doc/vmemd
-	install -m 644 examples/README.md examples/*.conf clients/python/vmemd.py \
+	install -m 644 examples/README.md examples/first.script examples/*.conf clients/python/vmemd.py \
 	  $(DESTDIR)$(PREFIX)/share/doc/vmemd
 	unit=$(DESTDIR)$(PREFIX)/lib/systemd/system/vmemd.service; \
 	  install -D -m 644 /dev/null $$unit && \
 	  sed 's,@PREFIX@,$(PREFIX),g' packaging/vmemd.service.in > $$unit
 
 clean:
-	rm -rf bin crates/*/out
+	rm -rf bin .build-* crates/*/out

@@ -38,7 +38,8 @@ class Unreachable(VmemdError):
 
 
 class OutOfMemory(VmemdError):
-    """The server was out of memory until patience was over. Nothing was done."""
+    """The server answered `again`, out of memory, until patience was over. The next request settles
+    what became of it."""
 
 
 class Superseded(VmemdError):
