@@ -3,16 +3,18 @@
 #             make try SCRIPT=FILE runs another script
 # make quick  leaves a program at full speed as bin/vmemd-quick, with no proof: about a minute
 # make test   the gate: every proof from nothing, the must-fail edits, the tests, the program's cases,
-#             random scripts against a slow model, the tests of the Python client
+#             random scripts against a slow model, growths refused in turn, the Python client's tests
 # make edits  tries all edits, those of more-edits/ too, of JOBS=1 crates at a time, several
 #             in a check; make edits CRATE=NAME tries one crate's
 # make cases  runs bin/vmemd on tests/cases
+# make starve refuses each growth of memory in turn, and each call of the server to the system, in what
+#             make test left; make test tries the first 40 of each run and every fifth after them
 # make bench  measures bin/vmemd beside another server (bench/README.md); BENCH="--most 1000000"
 # make bench-serve  measures its server beside Redis, where that is there (bench/README.md)
 # make install PREFIX=/usr/local DESTDIR=  puts bin/vmemd, its pages and a systemd unit in place
 # make clean  removes what was built
 
-.PHONY: all try quick test edits cases bench bench-serve install clean
+.PHONY: all try quick test edits cases starve bench bench-serve install clean
 
 SCRIPT = examples/first.script
 JOBS = 1
@@ -38,13 +40,18 @@ test:
 	tools/edits --apply-only
 	rt ci; proved=$$?; tools/cases; ran=$$?; tools/random_scripts; plain=$$?; \
 	tools/random_scripts --all --count 60; random=$$?; \
-	tools/client_tests; clients=$$?; test "$$proved $$ran $$plain $$random $$clients" = "0 0 0 0 0"
+	tools/starve --thin; starved=$$?; tools/starve_serve --thin; refused=$$?; \
+	tools/client_tests; clients=$$?; \
+	test "$$proved $$ran $$plain $$random $$starved $$refused $$clients" = "0 0 0 0 0 0 0"
 
 edits:
 	tools/edits --together --jobs $(JOBS) $(CRATE)
 
 cases: all
 	tools/cases bin/vmemd
+
+starve:
+	tools/starve; parts=$$?; tools/starve_serve; served=$$?; test "$$parts $$served" = "0 0"
 
 bench:
 	test -x bin/vmemd || $(MAKE) all
