@@ -1,14 +1,14 @@
 -- A system that comes to its end, and what is left of one that doesn't.
-use Rattle.std.specs.Prelude.{◌≡◌, ℕ, ◌/◌, ◌++◌, List, [], ◌∷◌, Option, None, slice_get}
-use Rattle.std.specs.Option.{option_map}
+use Rattle.std.specs.Prelude.{◌≡◌, ℕ, ◌/◌, ◌++◌, List, [], ◌∷◌, Option, Some, None}
 use Rattle.deed_core.specs.Extent.{Extent}
 use Rattle.deed_core.specs.Holding.{Holding}
 use Rattle.deed_core.specs.Tag.{Tag}
 use Rattle.arena_tree.specs.declared.limits.TheConstants.{MOST_SPANS}
-use Rattle.arena_tree.specs.declared.trees.TreeArena.{TreeArena}
 use Rattle.lease_threads.specs.Systems.{SystemState, root_ranges}
 use Rattle.lease_threads.specs.declared.shutting.ShutFault.{ShutFault}
 use Rattle.lease_threads.specs.declared.shutting.ShutFault.TheVariants.{NoMemory, Stuck}
+use Rattle.lease_threads.specs.declared.shutting.StoppedAt.{StoppedAt}
+use Rattle.lease_threads.specs.declared.shutting.StoppedAt.TheVariants as stop
 
 -- on its way to its end: the ranges of the roots that are closed, what isn't ended yet, and the
 -- segment that couldn't be placed
@@ -26,15 +26,19 @@ abbrev pub IsLeftOf : SystemState → ShutFault SystemState HaltedState → Type
 IsLeftOf s (NoMemory same) = same ≡ s
 IsLeftOf s (Stuck h) = (h.system.arenas ≡ s.arenas) × (all_ranges h ≡ root_ranges s)
 
--- the name of the arena with this number
-abbrev pub name_at : List TreeArena → ℕ → Option (List ℕ)
-name_at arenas id = option_map (λ x. x.name) (slice_get arenas id)
-
 -- the number of the arena that owns the span of this root
 abbrev pub owner_of : Holding → ℕ
 owner_of r = r.root / MOST_SPANS
 
--- the name of the arena that owns the span of the first of these roots
-abbrev pub first_name : List TreeArena → List Holding → Option (List ℕ)
-first_name arenas [] = None
-first_name arenas (r ∷ rest) = name_at arenas (owner_of r)
+-- with no segment in the hand the end stops at the first root that isn't closed
+abbrev pub root_stop : List Holding → StoppedAt
+root_stop [] = stop.Parts
+root_stop (r ∷ rest) = stop.Root (owner_of r)
+
+-- where the end stopped
+abbrev pub stop_at : Option Tag → List Holding → StoppedAt
+stop_at (Some t) roots = stop.Segment t.arena
+stop_at None roots = root_stop roots
+
+abbrev pub stop_of : HaltedState → StoppedAt
+stop_of h = stop_at h.segment h.system.roots

@@ -42,5 +42,5 @@ pub use cpus::Cpu;
 pub use locked_parts::{EventName, Gate, NextStep, OpenGate, Pass, RequestStopped};
 pub use openings::SystemFault;
 pub use replies::{LineAnswer, Told};
-pub use shutting::{Halted, ShutFault, Unshut};
+pub use shutting::{Halted, ShutFault, StoppedAt, Unshut};
 pub use systems::System;

@@ -1,6 +1,6 @@
 //! The end of a system.
 ghost use Rattle.std.specs.Prelude.{◌≡◌, [], IfOk, IfErr, IfSome, IfNone, Some, None, true};
-ghost use Rattle.lease_threads.specs.Ends.{all_ranges, IsLeftOf, name_at, first_name};
+ghost use Rattle.lease_threads.specs.Ends.{all_ranges, IsLeftOf, stop_of};
 ghost use Rattle.lease_threads.specs.Systems.{SystemState, root_ranges};
 
 use crate::closing::close_roots;
@@ -9,7 +9,6 @@ use crate::ending::end_parts;
 use crate::systems::{System, owner_of};
 use deed_core::{Range, Segment};
 use deed_table::{Name, SeatDeed};
-use lease_terms::ArenaName;
 use std::marker::Model;
 use std::sync::Wait;
 
@@ -34,6 +33,17 @@ impl<N: Name> Model for Halted<N> {
     ghost invariant = { λ h. vec_len h.closed + length h.system.roots ≤ vec_capacity h.closed };
 }
 
+/// Where the end of a system stopped. An arena is told by its number.
+#[derive(Clone, Copy, PartialEq, Eq, Debug)]
+pub enum StoppedAt {
+    /// At the segment that can't be placed, which is of this arena.
+    Segment(u32),
+    /// At the root of this arena, the first one that isn't closed: a unit of the arena is out.
+    Root(u32),
+    /// Behind the last root: a deed that is of none of them lies in a part, or a lease in the book.
+    Parts,
+}
+
 /// Why a system isn't at its end, with all that is left of it.
 pub enum ShutFault<S, H> {
     /// Out of memory for the answer, before anything was done.
@@ -46,19 +56,17 @@ pub enum ShutFault<S, H> {
 pub type Unshut<N> = ShutFault<System<N>, Halted<N>>;
 
 impl<N: Name> Halted<N> {
-    /// The arena where the end stopped: that of the segment, or else the first whose root isn't
-    /// closed.
-    pub fn stopped_at(&self) -> Option<ArenaName>
-        ensures segment { IfSome self.now.segment (λ t.
-            result ≡ name_at self.now.system.arenas t.arena) }
-        ensures root { IfNone self.now.segment
-            (result ≡ first_name self.now.system.arenas self.now.system.roots) }
+    /// Where the end stopped.
+    pub fn stopped_at(&self) -> StoppedAt
+        ensures { result ≡ stop_of self.now }
     {
-        let arena = match &self.cpu.hand {
-            Some(segment) => segment.arena(),
-            None => owner_of(self.system.roots.first()?),
-        };
-        self.system.name_of(arena)
+        if let Some(segment) = &self.cpu.hand {
+            return StoppedAt::Segment(segment.arena());
+        }
+        match self.system.roots.first() {
+            Some(root) => StoppedAt::Root(owner_of(root)),
+            None => StoppedAt::Parts,
+        }
     }
 
     /// The segment that can't be placed; None where a unit is still out.

@@ -2,12 +2,10 @@
 ghost use Rattle.std.specs.Prelude.{◌≡◌};
 ghost use Rattle.arena_tree.specs.declared.limits.TheConstants.{MOST_SPANS};
 ghost use Rattle.lease_threads.specs.Ends as ends;
-ghost use Rattle.lease_threads.specs.Ends.{name_at};
 
 use crate::marked_books::MarkedBook;
 use arena_tree::{MOST_SPANS, Tree};
 use deed_table::{Name, Root};
-use lease_terms::ArenaName;
 use locked_parts::LockedParts;
 use std::marker::Model;
 use std::sync::Mutex;
@@ -44,16 +42,5 @@ impl<N: Name> System<N> {
         ensures { result.now ≡ self.now.arenas }
     {
         self.parts.tree()
-    }
-
-    /// The name of the arena with this number.
-    pub(crate) fn name_of(&self, arena: u32) -> Option<ArenaName>
-        ensures { result ≡ name_at self.now.arenas arena }
-    {
-        let tree = self.parts.tree();
-        if arena as usize >= tree.len() {
-            return None;
-        }
-        Some(tree.arena(arena).name)
     }
 }

@@ -4,7 +4,7 @@ ghost use Rattle.std.specs.Prelude.{◌≡◌};
 use super::{ask, ask_all, child, cpu, have, made, retire, root, shut, stuck};
 use arena_tree::Setup;
 use deed_table::{Ground, Name};
-use lease_threads::{Halted, ShutFault, System};
+use lease_threads::{Halted, ShutFault, StoppedAt, System};
 use std::alloc::AllocGlobal;
 use std::marker::Brand;
 use std::process::Abort;
@@ -233,10 +233,7 @@ fn goes_on<N: Name, R: Abort + Wait + AllocGlobal>(rt: &R, ground: Ground, setup
     assert!(rt; one.units() == 1);
     let halted = halt(rt, system);
     assert!(rt; halted.segment().is_none());
-    match halted.stopped_at() {
-        Some(name) => assert!(rt; name.as_slice() == "d".as_bytes()),
-        None => panic!(rt; "no place"),
-    }
+    assert!(rt; halted.stopped_at() == StoppedAt::Root(1), "another place");
     retire(rt, halted.system(), one);
     match ShutFault::Stuck(halted).again(rt) {
         Ok(ranges) => have(rt, &ranges, &[(0, 8), (64, 64)]),
