@@ -10,3 +10,4 @@ pub mod FramedLemmas
 pub mod ReplyLemmas
 pub mod OperatorLemmas
 pub mod PartLemmas
+pub mod SetupLemmas

@@ -10,3 +10,4 @@ pub mod Cpus
 pub mod Operators
 pub mod Reports
 pub mod SetupLines
+pub mod SetupTexts

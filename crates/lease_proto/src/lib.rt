@@ -7,10 +7,10 @@
 //! is what may come after a setup: one of the first two. An answer is a `Reply` (replies) to a
 //! client, or a report (reports) to an operator, or an `error` line (faults). A client writes lines
 //! and reads replies, a server the other way. What is written reads back as the same (`line_law`,
-//! `reply_law`).
+//! `reply_law`), and a setup line is its text (`setup_law`).
 //!
-//! What bytes a line may be is stated in specs/Grammar.antt, specs/Operators.antt and
-//! specs/SetupLines.antt, of a reply in specs/Replies.antt, and of a report in specs/Reports.antt:
+//! What bytes a line may be is stated in specs/Grammar.antt, specs/Operators.antt,
+//! specs/SetupLines.antt and specs/SetupTexts.antt, of a reply in specs/Replies.antt, and of a report in specs/Reports.antt:
 //! there `X_of` is what whole bytes are, `X_in` what a word or some words say, and `X_text` and
 //! `X_words` what is written. The limits stand in src/limits.rt.
 //!
@@ -45,4 +45,6 @@ pub use operators::{
 };
 pub use replies::{Again, Granted, Old, OutOfTurn, RefusedRequest, Reply, Welcome, reply_law};
 pub use reports::{AuditLine, ClientLine, ReapedLine, ok_line};
-pub use setup_lines::{ChildLine, PolicyWord, RootLine, SetupLine, SpanLine, is_setup_word};
+pub use setup_lines::{
+    ChildLine, PolicyWord, RootLine, SetupLine, SpanLine, is_setup_word, setup_law,
+};

@@ -2,6 +2,7 @@
 ghost use Rattle.std.specs.Prelude.{◌≡◌};
 ghost use Rattle.lease_proto.specs.SetupLines.{policy_in, root_in, child_in, span_in, setup_in};
 ghost use Rattle.lease_proto.specs.SetupLines.{setup_of};
+ghost use Rattle.lease_proto.specs.SetupTexts.{SetupsAreTexts};
 ghost use Rattle.lease_proto.specs.SetupLines as spec;
 
 use crate::faults::LineFault;
@@ -171,3 +172,8 @@ pub fn is_setup_word(word: &[u8]) -> bool
 {
     word == b"root".as_slice() || word == b"child".as_slice() || word == b"span".as_slice()
 }
+
+/// Bytes are a setup line just where they are its words with one space between them.
+pub fn setup_law()
+    ensures { SetupsAreTexts }
+{}
