@@ -3,6 +3,7 @@ ghost use Rattle.std.specs.Prelude.{◌≡◌};
 
 mod between;
 mod conversations;
+mod draining;
 mod gates;
 mod orders;
 mod repeats;

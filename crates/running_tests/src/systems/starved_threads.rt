@@ -144,7 +144,10 @@ fn converse<N: Name, R: Abort + Wait + AllocGlobal>(
     for (index, (text, wanted)) in ROWS.iter().enumerate() {
         let asked = if index % 2 == 0 { &mut one } else { &mut two };
         let reply = answer(rt, &system, asked, &line(rt, text));
-        assert!(rt; Reply::read(wanted.as_bytes()).ok() == Some(reply), "at {text}");
+        assert!(rt;
+            Reply::read(wanted.as_bytes()).ok() == Some(reply),
+            "at {text}"
+        );
     }
     retire(rt, &system, one);
     retire(rt, &system, two);
