@@ -11,7 +11,6 @@ ghost use Rattle.lease_book.specs.Places.{is_asked};
 ghost use Rattle.lease_book.specs.Shelf.{IsEmptyBefore};
 ghost use Rattle.lease_book.specs.declared.books.TheConstants.{MOST_LEASES};
 
-use crate::coming::Coming;
 use crate::leases::{Held, Leases, Which};
 use crate::receipts::{Kept, KeptReply, Terms};
 use crate::reports::ClientReport;
@@ -57,8 +56,6 @@ pub(crate) struct Accounts<D: Deed> {
     leases: Vec<Leases<D>>,
     empty: usize,
     near: usize,
-    /// What was read ahead, added up. It is kept so that the reading isn't left out.
-    read: u64,
 }
 
 impl<D: Deed> Model for Accounts<D> {
@@ -87,7 +84,6 @@ impl<D: Deed> Accounts<D> {
             leases: Vec::new(alloc),
             empty: 0,
             near: 0,
-            read: 0,
         }
     }
 
@@ -126,40 +122,14 @@ impl<D: Deed> Accounts<D> {
         }
     }
 
-    /// Goes to a client's account, and looks ahead to its lease at a base, if one is told. It is
-    /// for speed alone: the next search for the account is short, and that for the lease begins
-    /// with what is at hand.
-    pub(crate) fn go_to(&mut self, client: ClientId, base: Option<Quantity>)
+    /// Goes to a client's account. It is for speed alone: the calls for the client that follow need
+    /// no search for it.
+    pub(crate) fn go_to(&mut self, client: ClientId)
         ensures unchanged { self.new ≡ self.old }
     {
         if let Some(index) = self.find(client) {
             self.near = index;
-            if let Some(base) = base {
-                self.look_for(index, base);
-            }
         }
-    }
-
-    /// Reads where the search for a lease at a base begins.
-    fn look_for(&mut self, index: usize, base: Quantity)
-        ensures unchanged { self.new ≡ self.old }
-    {
-        let release = Coming {
-            client: index,
-            base: base.get(),
-        };
-        let read = ends_of(&self.leases, &[release]);
-        self.read = self.read.wrapping_add(read);
-    }
-
-    /// Reads where the searches of some releases begin, and then what they come to first. It is for
-    /// speed alone.
-    pub(crate) fn look_ahead(&mut self, releases: &[Coming])
-        ensures unchanged { self.new ≡ self.old }
-    {
-        let ends = ends_of(&self.leases, releases);
-        let places = places_of(&self.leases, releases);
-        self.read = self.read.wrapping_add(ends).wrapping_add(places);
     }
 
     pub(crate) fn standing(&self, index: usize) -> &Standing
@@ -308,32 +278,9 @@ impl<D: Deed> Accounts<D> {
             leases,
             empty: _empty,
             near: _near,
-            read: _read,
         } = self;
         close_all(leases);
     }
-}
-
-/// Reads where the searches of some releases begin.
-fn ends_of<D: Deed>(leases: &[Leases<D>], releases: &[Coming]) -> u64 {
-    let mut read: u64 = 0;
-    for one in releases {
-        if let Some(leases) = leases.get(one.client) {
-            read = read.wrapping_add(leases.search_end(one.base) as u64);
-        }
-    }
-    read
-}
-
-/// Reads what they come to first.
-fn places_of<D: Deed>(leases: &[Leases<D>], releases: &[Coming]) -> u64 {
-    let mut read: u64 = 0;
-    for one in releases {
-        if let Some(leases) = leases.get(one.client) {
-            read = read.wrapping_add(leases.look_at(one.base));
-        }
-    }
-    read
 }
 
 /// The first that has a lease, where those before an index have none.

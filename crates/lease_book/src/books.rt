@@ -18,7 +18,6 @@ ghost use Rattle.lease_book.specs.declared.books.TheConstants.{MOST_LEASES};
 
 use crate::accounts::{Accounts, Standing};
 use crate::answers::{Answer, HelloFault, Look, NotLeased};
-use crate::coming::Coming;
 use crate::leases::{Held, Which};
 use crate::receipts::{Kept, KeptReply, Receipt, Terms};
 use crate::reports::ClientReport;
@@ -125,30 +124,12 @@ impl<D: Deed> Book<D> {
         Ok(())
     }
 
-    /// Goes to a client, and looks ahead to its lease at a base, if one is told. It is for speed
-    /// alone: the next calls for the client find it at once, and a release of one of many leases
-    /// begins with what is at hand.
-    pub fn go_to(&mut self, client: ClientId, base: Option<Quantity>)
+    /// Goes to a client. It is for speed alone: the calls for the client that follow need no search
+    /// for its account.
+    pub fn go_to(&mut self, client: ClientId)
         ensures unchanged { self.new ≡ self.old }
     {
-        self.accounts.go_to(client, base);
-    }
-
-    /// The index of a client in order of first hello.
-    pub fn index_of(&self, client: ClientId) -> Option<usize>
-        ensures found { IfSome result (IsFound self.now client) }
-        ensures none { IfNone result (find (λ a. client == a.client) self.now.accounts ≡ None) }
-    {
-        let (index, _) = self.account(client)?;
-        Some(index)
-    }
-
-    /// Reads what some releases read first, so that their memory is waited for together. It is for
-    /// speed alone.
-    pub fn look_ahead(&mut self, releases: &[Coming])
-        ensures unchanged { self.new ≡ self.old }
-    {
-        self.accounts.look_ahead(releases);
+        self.accounts.go_to(client);
     }
 
     /// What a request's number is to the book.

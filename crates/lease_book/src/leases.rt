@@ -194,17 +194,6 @@ impl<D: Deed> Leases<D> {
         Some(held)
     }
 
-    /// Before which place a search for a lease at this base begins, if it comes to places. It is
-    /// for speed alone.
-    pub(crate) fn search_end(&self, base: u64) -> u16 {
-        self.places.search_end(base)
-    }
-
-    /// Reads the place that this search comes to first. It is for speed alone.
-    pub(crate) fn look_at(&self, base: u64) -> u64 {
-        self.places.look_at(base)
-    }
-
     /// Whether there is one of an incarnation before this one.
     pub(crate) fn has_older(&self, incarnation: Ordinal) -> bool
         ensures { result ≡ list_any (is_older incarnation) self.now }

@@ -30,7 +30,6 @@
 mod accounts;
 mod answers;
 mod books;
-mod coming;
 mod laws;
 mod lease_list;
 mod leases;
@@ -40,7 +39,6 @@ mod reports;
 
 pub use answers::{Answer, HelloFault, Look, NotLeased};
 pub use books::{Book, MOST_LEASES};
-pub use coming::Coming;
 pub use laws::{
     account_law, bound_law, client_laws, entry_laws, lease_laws, lease_limit_law, number_law,
     outcome_laws,

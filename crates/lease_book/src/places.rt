@@ -289,24 +289,6 @@ impl<D: Deed> Places<D> {
         found
     }
 
-    /// Before which place a search for a lease at this base begins: the end of its chain. It is for
-    /// speed alone.
-    pub(crate) fn search_end(&self, base: u64) -> u16 {
-        let Some(end) = self.ends.get(chain_of(base, self.ends.len())) else {
-            return 0;
-        };
-        *end
-    }
-
-    /// Reads the place at which a search for a lease at this base begins. It is for speed alone.
-    pub(crate) fn look_at(&self, base: u64) -> u64 {
-        let end = self.search_end(base) as usize;
-        let Some(place) = self.places.get(end.wrapping_sub(1)) else {
-            return 0;
-        };
-        place.before as u64
-    }
-
     /// Whether a lease of an incarnation before this one stands there.
     pub(crate) fn has_older(&self, incarnation: Ordinal) -> bool
         ensures { result ≡ list_any (is_older incarnation) (leases_in self.now.places) }

@@ -83,12 +83,6 @@ impl Intake {
         }
     }
 
-    /// What was read and isn't passed, but for a first line that began in an earlier read. It is
-    /// for looking ahead.
-    pub(crate) fn ahead(&self) -> &[u8] {
-        &self.buffer[self.start..self.end]
-    }
-
     /// Passes the first line.
     pub fn pass(&mut self)
         requires { self.old.hand.whole ≡ true }

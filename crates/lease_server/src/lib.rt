@@ -9,8 +9,6 @@
 //! What is at hand of a stream is stated in specs/Intakes.antt, and what may go out for which lines
 //! in specs/Serving.antt, over the frames of the crate `lease_proto`.
 //!
-//! Of the lines of one read a responder is shown 64 ahead, to begin with what each of them needs.
-//!
 //! Each byte is looked at a few times. A line is copied only where it goes over the end of what one
 //! read gave, 16,384 bytes at most. An intake takes no memory, a serving that for the answers to
 //! the lines of one read.
@@ -26,6 +24,6 @@ mod watching;
 pub use faults::ServeFault;
 pub use intakes::{Intake, MOST_READS, hand_law};
 pub use output::deliver;
-pub use responders::{LOOK_AHEAD, Responder};
+pub use responders::Responder;
 pub use serving::serve;
 pub use watching::Watched;

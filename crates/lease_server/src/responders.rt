@@ -3,9 +3,6 @@ ghost use Rattle.std.specs.Prelude.{◌≡◌, ◌++◌, ℕ, List, OnOk, OnErr}
 
 use std::alloc::AllocError;
 
-/// How many lines a responder looks ahead to at once. (Our own choice.)
-pub const LOOK_AHEAD: usize = 64;
-
 /// Answers one line at a time, in the order in which the lines came. What a serving may write is
 /// stated over `may_answer`, which each responder says of itself.
 pub trait Responder {
@@ -21,13 +18,4 @@ pub trait Responder {
             × may_answer self.old line.now reply self.new) }
         ensures unwritten { OnErr result (out.new.items ≡ out.old.items) }
         ensures unchanged { OnErr result (self.new ≡ self.old) };
-
-    /// Looks ahead to the first `LOOK_AHEAD` lines of a text, each with its line feed. They will be
-    /// answered next, but for those that are too long; there may be fewer, or more, and a line
-    /// begun behind them. So what each needs of memory may be waited for together with the others.
-    /// It is for speed alone: a responder may do nothing, or go without the memory that it takes
-    /// for it.
-    fn look_ahead(&mut self, _text: &[u8])
-        ensures unchanged { self.new ≡ self.old }
-    {}
 }

@@ -12,7 +12,7 @@ ghost use Rattle.lease_server.specs.declared.intakes.TheConstants.{MOST_READS};
 use crate::faults::ServeFault;
 use crate::intakes::Intake;
 use crate::output::deliver;
-use crate::responders::{LOOK_AHEAD, Responder};
+use crate::responders::Responder;
 use crate::watching::Watched;
 use lease_proto::{LONGEST_LINE, LineFault, fault_at_end};
 use std::alloc::{AllocError, Global};
@@ -103,25 +103,11 @@ fn answer_held<P: Responder>(
     ensures err { OnErr result (AnswersBefore P.may_answer responder.old (frames_at input.old.hand)
         out.old.items out.new.items responder.new) }
 {
-    let mut ahead = 0;
     while let Some(line) = input.first_line() {
         answer_line(line, out, responder)?;
         input.pass();
-        ahead = look_on(ahead, input, responder);
     }
     Ok(())
-}
-
-/// Has the responder look ahead behind the lines that it was shown, of which so many are left, and
-/// says how many are left behind the next one.
-fn look_on<P: Responder>(ahead: usize, input: &Intake, responder: &mut P) -> usize
-    ensures unchanged { responder.new ≡ responder.old }
-{
-    if 0 < ahead {
-        return ahead - 1;
-    }
-    responder.look_ahead(input.ahead());
-    LOOK_AHEAD - 1
 }
 
 /// Appends the answer to a whole line, given by its first `LINE_ROOM` bytes.

@@ -18,6 +18,7 @@ use std::alloc::Global;
 use stock::Stock;
 
 /// A stock and one CPU's caches, both lent, as the parts that one thread can reach.
+#[derive(Drop)]
 pub struct Local<'a, D: Deed> {
     pub stock: &'a mut Stock<D>,
     pub cpu: &'a mut CpuCaches<D>,

@@ -24,15 +24,6 @@ impl<D: Deed> Stock<D> {
         space.arena.xalloc(request)
     }
 
-    /// Reads what frees in an arena at some bases read first, so that their memory is waited for
-    /// together. It is for speed alone.
-    pub fn look_ahead(&mut self, arena: usize, bases: &[u64])
-        requires within { arena < length self.old }
-        ensures unchanged { self.new ≡ self.old }
-    {
-        self.spaces[arena].arena.look_ahead(bases);
-    }
-
     /// Goes to the allocated range of an arena at a base. It is for speed alone.
     pub fn go_to(&mut self, arena: usize, base: u64)
         requires within { arena < length self.old }

@@ -13,7 +13,6 @@ ghost use Rattle.stock_desk.specs.Openings.{IsOpenedFrom};
 ghost use Rattle.stock_desk.specs.Operating.{StaysPicture};
 
 use crate::emptyings::empty_all;
-use crate::looking_ahead::look_ahead;
 use crate::openings::open_supply;
 use crate::operating::tell;
 use crate::replying::reply;
@@ -22,8 +21,7 @@ use crate::supplies::Supply;
 use arena_tree::{MOST_ARENAS, MOST_SPANS, Setup};
 use deed_core::{PlainDeed, Range};
 use lease_book::Book;
-use lease_proto::{LINE_ROOM, Line, Op, OperatorLine, ServedLine, served_law};
-use lease_terms::Quantity;
+use lease_proto::{LINE_ROOM, Line, OperatorLine, ServedLine, served_law};
 use std::alloc::{AllocError, Global};
 use std::marker::Model;
 use stock::close_plain_stock;
@@ -70,13 +68,6 @@ impl Desk {
             supply,
             book: Book::new(alloc, mark),
         })
-    }
-
-    /// Looks ahead to the first lines of a text, as a responder does. It is for speed alone.
-    pub fn look_ahead(&mut self, text: &[u8])
-        ensures unchanged { self.new ≡ self.old }
-    {
-        look_ahead(&mut self.supply, &mut self.book, text);
     }
 
     /// Answers one line, which is given without its line feed: appends its reply lines. Room for a
@@ -141,9 +132,8 @@ impl Desk {
         ensures unchanged { OnErr result (self.new ≡ self.old) }
         ensures kept { StaysPicture self.old self.new }
     {
-        // For speed alone: the book looks the client up once, and then has it at hand, and begins
-        // with a release before the arena is asked.
-        self.book.go_to(line.client(), released_base(line));
+        // For speed alone: the book looks the client up once, and then has it at hand.
+        self.book.go_to(line.client());
         reply(&mut self.supply, &mut self.book, line).write(out)
     }
 
@@ -167,13 +157,5 @@ impl Desk {
         }
         empty_all(alloc, &tree, &mut stock, cpus);
         close_plain_stock(stock);
-    }
-}
-
-/// The base of what a line releases, if it does.
-fn released_base(line: &Line) -> Option<Quantity> {
-    match line {
-        Line::Request(_, Op::Release(release)) => Some(release.base),
-        _ => None,
     }
 }

@@ -7,19 +7,15 @@
 //! (telling), replies (answers, settling, replying), segments that are given and taken back
 //! (supplies, takings), leases, hellos and releases (leasing, hellos, releasing), the answers to an
 //! operator (operating), CPUs that go offline (offlines), what is reaped (reapings), what a setup
-//! gives (openings), and how leases (returns) and CPUs (emptyings) end. What lines that come will
-//! read of memory is read ahead for many of them together (looking_ahead). What a line may be
-//! answered is stated in the crate `lease_machine`.
+//! gives (openings), and how leases (returns) and CPUs (emptyings) end. What a line may be answered
+//! is stated in the crate `lease_machine`.
 //!
 //! A client's line costs what the calls of `quantum_cache` and of the book do, and a look at the
 //! names of the arenas and the numbers of the CPUs, which are few; a hello one free for each lease
-//! that it ends. Where 16 clients or more said hello, a release that is read together with others
-//! is read once more to look ahead, and its client looked up once more; for 64 lines that takes
-//! 1,536 bytes while they are looked at, and nothing is looked at without them. Of an operator's
-//! lines `tick` and `resize` go over depots, `offline` over the rounds of one CPU, `reap` over the
-//! rounds and slabs that may go, `audit` for each arena over all its parts, the CPUs' magazines and
-//! all leases, `clients` over all clients. `close` takes leases, rounds, slabs and spans back one
-//! by one, and takes no memory.
+//! that it ends. Of an operator's lines `tick` and `resize` go over depots, `offline` over the
+//! rounds of one CPU, `reap` over the rounds and slabs that may go, `audit` for each arena over all
+//! its parts, the CPUs' magazines and all leases, `clients` over all clients. `close` takes leases,
+//! rounds, slabs and spans back one by one, and takes no memory.
 #![tactic(auto)]
 
 mod answers;
@@ -30,7 +26,6 @@ mod desks;
 mod emptyings;
 mod hellos;
 mod leasing;
-mod looking_ahead;
 mod offlines;
 mod openings;
 mod operating;

@@ -12,8 +12,4 @@ impl Responder for Desk {
     fn answer(&mut self, line: &[u8], out: &mut Vec<u8>) -> Result<(), AllocError> {
         Desk::answer(self, line, out)
     }
-
-    fn look_ahead(&mut self, text: &[u8]) {
-        Desk::look_ahead(self, text);
-    }
 }

@@ -7,7 +7,6 @@ use crate::cpus::{Cpu, index_of};
 use arena_tree::Tree;
 use deed_core::PlainDeed;
 use lease_proto::CpuNumber;
-use lease_terms::ArenaName;
 use std::alloc::Global;
 use std::marker::Model;
 use stock::Stock;
@@ -52,25 +51,6 @@ impl Supply {
         match index_of(self.cpus.as_slice(), self.selected) {
             Some(index) => index,
             None => unreachable!(),
-        }
-    }
-
-    /// The arena whose name is written so.
-    fn named(&self, name: &[u8]) -> Option<usize> {
-        let arena = self.tree.find(&ArenaName::new(name)?)?;
-        Some(arena as usize)
-    }
-
-    /// Reads what frees at some bases read first in the arena whose name is written so. It is for
-    /// speed alone.
-    pub(crate) fn look_ahead(&mut self, name: &[u8], bases: &[u64])
-        ensures unchanged { self.new ≡ self.old }
-    {
-        let Some(arena) = self.named(name) else {
-            return;
-        };
-        if arena < self.stock.count() {
-            self.stock.look_ahead(arena, bases);
         }
     }
 

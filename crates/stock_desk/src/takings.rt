@@ -128,15 +128,7 @@ fn carve_with(
         alloc,
         steps: 0,
     };
-    let given = carve_over(&mut parts, arena, request);
-    let Local {
-        stock: _,
-        cpu: _,
-        tree: _,
-        alloc: _,
-        steps: _,
-    } = parts;
-    given
+    carve_over(&mut parts, arena, request)
 }
 
 /// Gives so many units of the arena, over these parts.
@@ -162,15 +154,7 @@ fn alloc_with(
         alloc,
         steps: 0,
     };
-    let given = alloc_over(&mut parts, arena, size);
-    let Local {
-        stock: _,
-        cpu: _,
-        tree: _,
-        alloc: _,
-        steps: _,
-    } = parts;
-    given
+    alloc_over(&mut parts, arena, size)
 }
 
 /// Takes a segment back over these parts.
@@ -196,11 +180,4 @@ fn free_with(
         steps: 0,
     };
     free_over(&mut parts, segment);
-    let Local {
-        stock: _,
-        cpu: _,
-        tree: _,
-        alloc: _,
-        steps: _,
-    } = parts;
 }

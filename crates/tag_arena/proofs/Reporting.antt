@@ -1,5 +1,5 @@
 -- What an arena reports, and what is refused of a span.
-use Rattle.std.proofs.Common.{◌≡◌, ℕ, ◌+◌, ◌<◌, subst, ap, ◌∙◌, ⊎_elim, List, map, Contains, All, Any, arith}
+use Rattle.std.proofs.Common.{◌≡◌, ℕ, ◌+◌, ◌<◌, sym, subst, ap, ◌∙◌, ⊎_elim, List, map, Contains, All, Any, arith}
 use Rattle.std.proofs.lemmas.List.Elements.{All-append, All-map, Contains-append_right}
 use Rattle.deed_core.specs.Extent.{Extent, Covers, Overlap}
 use Rattle.deed_core.specs.Holding.{Holding}
@@ -7,6 +7,7 @@ use Rattle.deed_core.specs.Tag.{Tag}
 use Rattle.tag_arena.specs.Layout.{Layout, IsPartOf, IsWhole, FreeIsLongestRuns}
 use Rattle.tag_arena.specs.ArenaState.{ArenaState, spans_of, ranges_of, IsDivided}
 use Rattle.tag_arena.specs.Calls.{IsClear}
+use Rattle.tag_arena.specs.Laws.{UnitsAddUp}
 use Rattle.tag_arena.proofs.Ranges.{Any-member, member-Any, holds_part}
 use Rattle.tag_arena.proofs.Freeing.{absorbs, longest_edged}
 use Rattle.tag_arena.proofs.Counting.{units_add}
@@ -30,6 +31,10 @@ free_is_longest_runs a whole r = (
       (λ al. absurd (long.run.free r.range.base (omega arith, omega arith) al))
       (whole.covered s.1 r.range.base (Any-member a.spans s) (h.from, omega (arith, h.to))),
 )
+
+-- spans have the units that are free and those that are allocated
+pub units_add_up : UnitsAddUp
+units_add_up a sound = sym (units_add a.free (ranges_of a.allocated) (spans_of a) sound.divided.covers)
 
 -- the sums of an arena
 pub report_adds : (a : ArenaState) → IsDivided a → (o i f : ℕ) (os : List Holding) (is : List Tag) (fs : List Holding) → o ≡ units_held os → os ≡ a.owned

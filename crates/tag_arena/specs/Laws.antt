@@ -1,9 +1,9 @@
 -- What follows from the definitions, for the proofs of the layers above.
-use Rattle.std.specs.Prelude.{◌≡◌, ℕ, ◌<◌, ◌≤◌, ◌↔◌, ◌⊎◌, List, [], Contains, Option, Some, None}
+use Rattle.std.specs.Prelude.{◌≡◌, ℕ, ◌+◌, ◌<◌, ◌≤◌, ◌↔◌, ◌⊎◌, List, [], Contains, Option, Some, None}
 use Rattle.std.specs.Prelude.{Result, Ok, Err, IsOk, sum_by}
 use Rattle.deed_core.specs.Holding.{Holding}
 use Rattle.deed_core.specs.Tag.{Tag}
-use Rattle.deed_core.specs.Covering.{covering_held}
+use Rattle.deed_core.specs.Covering.{covering_held, units_held}
 use Rattle.deed_core.specs.Weights.{one_at}
 use Rattle.deed_core.specs.Request.{IsGood}
 use Rattle.deed_core.specs.declared.requests.Request.{Request}
@@ -56,6 +56,11 @@ FreeAreLongestRuns = (a : ArenaState) → IsSoundArena a → FreeIsLongestRuns (
 -- no unit is in two spans of an arena
 abbrev pub SpansOnce : Type 0
 SpansOnce = (a : ArenaState) → IsSoundArena a → (u : ℕ) → covering_held u (spans_of a) ≤ 1
+
+-- the units of an arena's spans are those that are free and those that are allocated
+abbrev pub UnitsAddUp : Type 0
+UnitsAddUp = (a : ArenaState) → IsSoundArena a
+    → units_held (spans_of a) ≡ units_held a.free + units_held (ranges_of a.allocated)
 
 -- what is allocated weighs as its ranges do
 abbrev pub TagsWeigh : Type 0

@@ -410,15 +410,8 @@ impl<D: Deed> Arena<D> {
         Ok(Segment::new(self.id, Route::Direct, deed.into_deed()))
     }
 
-    /// Reads what frees of the allocated ranges at some bases read first, so that their memory is
-    /// waited for together. It is for speed alone.
-    pub fn look_ahead(&mut self, bases: &[u64])
-        ensures unchanged { self.new ≡ self.old }
-    {
-        self.tags.look_ahead(bases);
-    }
-
-    /// Goes to the allocated range at a base. It is for speed alone: a free waits less for memory.
+    /// Goes to the allocated range at a base. It is for speed alone: a free of it that follows
+    /// needs no search for it.
     pub fn go_to(&mut self, base: u64)
         ensures unchanged { self.new ≡ self.old }
     {

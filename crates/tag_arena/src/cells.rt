@@ -318,24 +318,6 @@ impl Cells {
         }
     }
 
-    /// How many units are allocated in the cells beside a cell, which are read so. It is for speed
-    /// alone.
-    pub fn units_beside(&self, at: usize) -> u64 {
-        let (before, after) = self.links(at);
-        self.units(before).wrapping_add(self.units(after))
-    }
-
-    /// How many units are allocated in the cell that a link leads to, if it leads to one.
-    pub fn units(&self, link: ShortIndex) -> u64 {
-        let Some(at) = link.get() else {
-            return 0;
-        };
-        match self.cells.get(at) {
-            Some(cell) => cell.len,
-            None => 0,
-        }
-    }
-
     /// A cell for a piece of the free range in a cell, with nothing allocated in it: the same one,
     /// unless a rest before the piece keeps it.
     pub fn place_of(&mut self, origin: Origin) -> Result<usize, AllocError>

@@ -2,7 +2,8 @@
 //! contracts are the laws, and proofs/LawProofs.antt hands them on.
 ghost use Rattle.tag_arena.specs.Laws.{BestIsOne, NextIsOne, InstantIsOne, CarveIsOne, NoneServes};
 ghost use Rattle.tag_arena.specs.Laws.{ChoiceServes, CarvesExactly, FreeAreLongestRuns, SpansOnce};
-ghost use Rattle.tag_arena.specs.Laws.{TagsWeigh, AllocatedStand, AllocatedCount, GoesEmpty};
+ghost use Rattle.tag_arena.specs.Laws.{UnitsAddUp, TagsWeigh, AllocatedStand, AllocatedCount};
+ghost use Rattle.tag_arena.specs.Laws.{GoesEmpty};
 
 /// Two choices by one rule are the same: a relation that names a choice is as good as a function.
 /// So which segment is carved, and what the arena is then, is settled before the call.
@@ -22,11 +23,12 @@ pub fn serving_laws()
 {}
 
 /// What is always so of an arena: its free ranges are the longest runs, no unit is in two of its
-/// spans, and once nothing of it is allocated it has no imported span, so that it can be closed
-/// when its owned spans are gone.
+/// spans, its spans have as many units as are free and allocated together, and once nothing of it
+/// is allocated it has no imported span, so that it can be closed when its owned spans are gone.
 pub fn arena_laws()
     ensures longest { FreeAreLongestRuns }
     ensures once { SpansOnce }
+    ensures units { UnitsAddUp }
     ensures empty { GoesEmpty }
 {}
 

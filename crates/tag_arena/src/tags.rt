@@ -37,8 +37,6 @@ pub struct Tags {
     count: usize,
     /// The cell last gone to.
     near: usize,
-    /// What was read ahead, added up. It is kept so that the reading isn't left out.
-    read: u64,
 }
 
 impl Model for Tags {
@@ -69,7 +67,6 @@ impl Tags {
             chains: Chains::new(alloc),
             count: 0,
             near: 0,
-            read: 0,
         }
     }
 
@@ -79,57 +76,13 @@ impl Tags {
         self.count
     }
 
-    /// Reads the heads of the chains of some bases, then their first cells, and then the cells
-    /// beside these. It is for speed alone.
-    pub fn look_ahead(&mut self, bases: &[u64])
-        ensures unchanged { self.new ≡ self.old }
-    {
-        let heads = self.heads_of(bases);
-        let units = self.units_at(bases).wrapping_add(self.units_beside(bases));
-        self.read = self.read.wrapping_add(heads).wrapping_add(units);
-    }
-
-    /// Reads the heads of the chains of some bases.
-    fn heads_of(&self, bases: &[u64]) -> u64 {
-        let mut read: u64 = 0;
-        for base in bases {
-            if let Some(at) = self.head(*base).get() {
-                read = read.wrapping_add(at as u64);
-            }
-        }
-        read
-    }
-
-    /// Reads the first cells of these chains.
-    fn units_at(&self, bases: &[u64]) -> u64 {
-        let mut read: u64 = 0;
-        for base in bases {
-            read = read.wrapping_add(self.cells.units(self.head(*base)));
-        }
-        read
-    }
-
-    /// Reads the cells beside these, where cells are linked.
-    fn units_beside(&self, bases: &[u64]) -> u64 {
-        let mut read: u64 = 0;
-        if !self.cells.is_linked() {
-            return read;
-        }
-        for base in bases {
-            if let Some(at) = self.head(*base).get() {
-                read = read.wrapping_add(self.cells.units_beside(at));
-            }
-        }
-        read
-    }
-
     /// The first cell of the chain of a base, for `go_to`.
     pub fn head(&self, base: u64) -> ShortIndex {
         self.chains.head(base)
     }
 
     /// Goes to a base, along the chain that begins with this cell. It is for speed alone: a `get`
-    /// at the same base needs no search then, and the cells that it is linked with are at hand.
+    /// at the same base that follows needs no search.
     pub fn go_to(&mut self, first: ShortIndex, base: u64)
         ensures unchanged { self.new ≡ self.old }
     {
@@ -138,8 +91,6 @@ impl Tags {
         }
         if let Some(at) = on_chain(&self.cells, first, base) {
             self.near = at;
-            // The cells beside are at hand when the range becomes free.
-            self.read = self.read.wrapping_add(self.cells.units_beside(at));
         }
     }
 

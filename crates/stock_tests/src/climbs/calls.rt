@@ -12,18 +12,6 @@ use std::process::Abort;
 /// What an allocation or a climb ended with: a segment, or that nothing fits.
 type Given<D> = Result<Segment<D>, ClimbFault<Segment<D>>>;
 
-/// How many locked steps there were.
-fn steps_of<D: Deed>(parts: Local<D>) -> u64 {
-    let Local {
-        stock: _,
-        cpu: _,
-        tree: _,
-        alloc: _,
-        steps,
-    } = parts;
-    steps
-}
-
 /// A segment that was given; none where no arena of the chain has room.
 fn given<D: Deed>(rt: &impl Abort, answer: Given<D>) -> Option<Segment<D>> {
     match answer {
@@ -50,7 +38,7 @@ pub(super) fn climb<D: Deed>(
         steps: 0,
     };
     let answer = climb_alloc(&mut parts, walk.tree.chain(arena), size);
-    walk.steps = steps_of(parts);
+    walk.steps = parts.steps;
     given(rt, answer)
 }
 
@@ -89,7 +77,7 @@ fn attempt<D: Deed>(rt: &impl Abort, walk: &mut Walk<D>, arena: u32, size: u64) 
         steps: 0,
     };
     let answer = alloc(&mut parts, walk.tree.chain(arena), size);
-    walk.steps = steps_of(parts);
+    walk.steps = parts.steps;
     answer
 }
 
@@ -110,7 +98,7 @@ pub(super) fn carve<D: Deed>(
         steps: 0,
     };
     let answer = xalloc(&mut parts, arena, request);
-    walk.steps = steps_of(parts);
+    walk.steps = parts.steps;
     answer
 }
 
@@ -127,7 +115,7 @@ pub(super) fn hand_back<D: Deed>(rt: &impl Abort, walk: &mut Walk<D>, segment: S
         steps: 0,
     };
     let answer = climb_free(&mut parts, walk.tree.chain(arena), segment);
-    walk.steps = steps_of(parts);
+    walk.steps = parts.steps;
     match answer {
         Ok(()) => {}
         Err(_) => panic!(rt; "a refused segment"),
@@ -147,7 +135,7 @@ pub(super) fn release<D: Deed>(rt: &impl Abort, walk: &mut Walk<D>, segment: Seg
         steps: 0,
     };
     let answer = free(&mut parts, walk.tree.chain(arena), segment);
-    walk.steps = steps_of(parts);
+    walk.steps = parts.steps;
     match answer {
         Ok(()) => {}
         Err(_) => panic!(rt; "a refused segment"),
@@ -164,7 +152,7 @@ pub(super) fn empty<D: Deed>(rt: &impl Abort, walk: &mut Walk<D>) {
         steps: 0,
     };
     let answer = drain(&mut parts, &walk.tree);
-    walk.steps = steps_of(parts);
+    walk.steps = parts.steps;
     match answer {
         Ok(()) => {}
         Err(_) => panic!(rt; "a refused round"),
@@ -182,7 +170,7 @@ pub(super) fn reap_all<D: Deed>(rt: &impl Abort, walk: &mut Walk<D>) -> u128 {
         steps: 0,
     };
     let answer = reap(&mut parts, &walk.tree, 1024);
-    walk.steps = steps_of(parts);
+    walk.steps = parts.steps;
     match answer {
         Ok(reaping) => reaping.units,
         Err(_) => panic!(rt; "a refused segment"),
@@ -206,7 +194,7 @@ pub(super) fn reap_one<D: Deed>(
         steps: 0,
     };
     let answer = reap_arena(&mut parts, walk.tree.chain(arena), limit);
-    walk.steps = steps_of(parts);
+    walk.steps = parts.steps;
     match answer {
         Ok(reaping) => reaping,
         Err(_) => panic!(rt; "a refused segment"),

@@ -25,7 +25,7 @@ loop-line-preserved g c =
     let first = hand_whole hand c.in-Some.ensures.some.0 in
     let answered = subst (λ l. Answers may c.loop-line.responder (frame_of l ∷ []) c.loop-line.out.items c.answer_line.new.out.items c.answer_line.new.responder)
     c.in-Some.ensures.some.1 c.in_ok-answer_line.ensures.ok in
-    rw (c.pass.ensures, c.look_on-ahead.ensures.unchanged) (
+    rw c.pass.ensures (
       done ++ frame ∷ [],
       split ∙ ap (λ f. done ++ f) first.0 ∙ sym (append_assoc done (frame ∷ []) (frames_at next)),
       first.1 ∙ same,
