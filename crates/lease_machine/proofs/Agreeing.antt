@@ -1,22 +1,14 @@
 -- A request is settled once, whatever lines come.
 use Rattle.std.proofs.Common.{◌≡◌, ℕ, ◌+◌, ◌<◌, sym, subst, ap, ◌∙◌, inl, inr, List, [], ◌∷◌, ◌++◌, Option, Some, None, Ok, Err, Result, arith}
 use Rattle.std.proofs.lemmas.List.{append_assoc}
-use Rattle.deed_core.specs.Tag.{Tag}
 use Rattle.arena_tree.specs.declared.trees.TreeArena.{TreeArena}
 use Rattle.lease_terms.specs.Requests.{RequestId}
 use Rattle.lease_proto.specs.declared.faults.LineFault.{LineFault}
-use Rattle.lease_proto.specs.declared.lines.Line.{Line}
-use Rattle.lease_proto.specs.declared.lines.Line.TheVariants as lines
-use Rattle.lease_proto.specs.declared.lines.HelloLine.{HelloLine}
-use Rattle.lease_proto.specs.declared.lines.Op.{Op}
 use Rattle.lease_proto.specs.declared.lines.Op.TheVariants as ops
 use Rattle.lease_proto.specs.declared.operators.ServedLine.{ServedLine}
-use Rattle.lease_proto.specs.declared.operators.ServedLine.TheVariants as served
-use Rattle.lease_proto.specs.declared.replies.Reply.{Reply}
-use Rattle.lease_proto.specs.declared.replies.Reply.TheVariants as reply
 use Rattle.lease_proto.specs.Frames.{Frame}
 use Rattle.lease_proto.specs.Operators.{served_of}
-use Rattle.lease_book.specs.Entry.{Entry, Settled, Hello, Swept, Grant, Refuse, Return}
+use Rattle.lease_book.specs.Entry.{Entry}
 use Rattle.lease_book.specs.Receipts.{Kept}
 use Rattle.lease_book.specs.Account.{Account, number_of}
 use Rattle.lease_book.specs.History.{incarnation, account, last_in, outcome_of}
@@ -25,13 +17,13 @@ use Rattle.lease_book.specs.Answers.{IsNew}
 use Rattle.lease_book.proofs.LawProofs.{account_is, last_outcome, outcomes_stay, numbers_settled_once}
 use Rattle.lease_history.specs.Told.{reply_to}
 use Rattle.lease_machine.specs.Picture.{Picture, arena_named}
-use Rattle.lease_machine.specs.Machine.{NewRequest, Sweeps, HelloStep, ClientStep, AnswersLine, demand_of}
+use Rattle.lease_machine.specs.Machine.{AnswersLine}
 use Rattle.lease_machine.specs.Laws.{Runs}
 use Rattle.lease_machine.specs.AnswerLaws.{reply_bytes, AnswersAgree, RepeatsFit}
 use Rattle.lease_machine.proofs.Homes.{setup_stays}
 use Rattle.lease_machine.proofs.Entering.{Comes, still, further, answer_comes}
 use Rattle.lease_machine.proofs.Fitting.{grants_fit}
-use Rattle.lease_machine.proofs.Repeats.{IsLast, history_of, known_last, request_kept, request_answer, kept_or, operator_keeps}
+use Rattle.lease_machine.proofs.Repeats.{IsLast, history_of, known_last, request_kept, request_answer, kept_or}
 
 -- whatever history gives the old book, that and some entries more give the new one
 abbrev Grows : BookState → BookState → Type 0

@@ -1,5 +1,5 @@
 -- What two requests are granted doesn't overlap.
-use Rattle.std.proofs.Common.{◌≡◌, ◌≢◌, ◌⊎◌, ℕ, suc, zero, ◌+◌, ◌<◌, ◌≤◌, refl, sym, subst, ap, ◌∙◌, inl, inr, Bool, true, false, cond, if◌then◌else◌, ◌||◌, nat_eq, eq-eqb, List, [], ◌∷◌, length, All, AllPairs, Contains, get_or, Option, Some, None, Ok, Err, arith, map}
+use Rattle.std.proofs.Common.{◌≡◌, ◌≢◌, ◌⊎◌, ℕ, ◌+◌, ◌<◌, ◌≤◌, refl, sym, subst, ap, ◌∙◌, inl, inr, Bool, true, false, if◌then◌else◌, ◌||◌, nat_eq, eq-eqb, List, [], ◌∷◌, AllPairs, Contains, get_or, Some, arith}
 use Rattle.std.specs.Prelude.{slice_get, sum_by}
 use Rattle.std.specs.List.{IsDistinct}
 use Rattle.std.proofs.lemmas.Bool.{cases_lt, cases_eq, ne_eqb, eqb-true}
@@ -12,24 +12,21 @@ use Rattle.deed_core.proofs.LawProofs.{counts_the_unit, sum_by-map, sum_at, sum_
 use Rattle.arena_tree.specs.declared.trees.TreeArena.{TreeArena}
 use Rattle.arena_tree.specs.Trees.{index_in}
 use Rattle.arena_tree.proofs.LawProofs.{own_name}
-use Rattle.stock.specs.Spaces.{SpaceState, SpacePlan, plan_of, plans_of}
-use Rattle.stock.specs.Setups.{plan_for, plans_for}
+use Rattle.stock.specs.Spaces.{SpacePlan, plan_of, plans_of}
+use Rattle.stock.specs.Setups.{plan_for}
 use Rattle.stock.specs.Laws.{HasTop, ApartUpChain}
 use Rattle.stock.specs.Laws as stock
-use Rattle.lease_terms.specs.Requests.{RequestId}
 use Rattle.lease_proto.specs.declared.replies.Granted.{Granted}
-use Rattle.lease_proto.specs.Frames.{Frame}
 use Rattle.lease_book.specs.Account.{Lease}
-use Rattle.lease_book.specs.BookState.{account_in, leased_segments, segments, weight_of_leases}
+use Rattle.lease_book.specs.BookState.{leased_segments, weight_of_leases}
 use Rattle.lease_book.proofs.LawProofs.{leases_are_the_clients}
 use Rattle.lease_machine.specs.Picture.{Picture, IsPicture}
-use Rattle.lease_machine.specs.Laws.{Runs}
 use Rattle.lease_machine.specs.LeaseLaws.{leases_in}
 use Rattle.lease_machine.specs.AnswerLaws.{AreNamed}
-use Rattle.lease_machine.specs.GrantLaws.{AnswersGranted, IsUnder, root, child, GrantsApart, GrantsTwice, GrantsStayApart, range_granted}
+use Rattle.lease_machine.specs.GrantLaws.{IsUnder, root, child, GrantsApart, GrantsStayApart, range_granted}
 use Rattle.lease_machine.proofs.Homes.{pictures_stay, setup_stays, leases_are_apart}
 use Rattle.lease_machine.proofs.Repeats.{history_of}
-use Rattle.lease_machine.proofs.Granting.{IsLeased, BookStands, empty_stands, run_stands, step_stands, granted_leased, run_keeps, grant_keeps, contains_cases}
+use Rattle.lease_machine.proofs.Granting.{IsLeased, empty_stands, run_stands, step_stands, granted_leased, run_keeps, grant_keeps, contains_cases}
 
 -- Weights.
 

@@ -1,26 +1,21 @@
 -- A request that is answered with a grant has its lease, until a line ends it.
-use Rattle.std.proofs.Common.{◌≡◌, ◌≢◌, ◌⊎◌, ℕ, suc, zero, ◌<◌, ◌≤◌, refl, sym, subst, ap, ◌∙◌, inl, inr, Bool, true, false, cond, nat_eq, ◌&&◌, ◌==◌, List, [], ◌∷◌, ◌++◌, length, filter, All, Contains, get_or, Option, Some, None, Ok, Err, Result, arith}
+use Rattle.std.proofs.Common.{◌≡◌, ◌⊎◌, ℕ, suc, zero, ◌<◌, refl, sym, subst, ap, ◌∙◌, inl, inr, Bool, true, false, cond, nat_eq, ◌&&◌, ◌==◌, List, [], ◌∷◌, ◌++◌, filter, Contains, get_or, Some, None, Ok, Err, Result, arith}
 use Rattle.std.specs.Prelude.{slice_get}
 use Rattle.std.specs.List.{find}
 use Rattle.std.proofs.lemmas.Bool.{cases_lt, cases_eq, ne_eqb, eqb-true, and_parts}
 use Rattle.std.proofs.lemmas.List.{append_cancel_right}
-use Rattle.std.proofs.lemmas.List.Elements.{Contains-append_left, Contains-push, All-contains}
-use Rattle.deed_core.specs.Extent.{IsRange}
+use Rattle.std.proofs.lemmas.List.Elements.{Contains-append_left, Contains-push}
 use Rattle.deed_core.specs.Tag.{Tag}
-use Rattle.deed_core.proofs.LawProofs.{all_at}
 use Rattle.arena_tree.specs.declared.trees.TreeArena.{TreeArena}
 use Rattle.arena_tree.specs.Trees.{index_in}
-use Rattle.lease_terms.specs.Names.{is_name}
-use Rattle.lease_terms.specs.Requests.{RequestId, IsRequestId}
+use Rattle.lease_terms.specs.Requests.{RequestId}
 use Rattle.lease_proto.specs.declared.faults.LineFault.{LineFault}
-use Rattle.lease_proto.specs.declared.lines.Line.{Line}
 use Rattle.lease_proto.specs.declared.lines.Line.TheVariants as lines
 use Rattle.lease_proto.specs.declared.lines.HelloLine.{HelloLine}
 use Rattle.lease_proto.specs.declared.lines.LeaseLine.{LeaseLine}
 use Rattle.lease_proto.specs.declared.lines.ReleaseLine.{ReleaseLine}
 use Rattle.lease_proto.specs.declared.lines.Op.{Op}
 use Rattle.lease_proto.specs.declared.lines.Op.TheVariants as ops
-use Rattle.lease_proto.specs.declared.operators.OperatorLine.{OperatorLine}
 use Rattle.lease_proto.specs.declared.operators.ServedLine.{ServedLine}
 use Rattle.lease_proto.specs.declared.operators.ServedLine.TheVariants as served
 use Rattle.lease_proto.specs.declared.replies.Reply.{Reply}
@@ -32,20 +27,19 @@ use Rattle.lease_proto.specs.Replies.{reply_of, reply_text, IsReply}
 use Rattle.lease_proto.proofs.LawProofs.{replies_are_texts}
 use Rattle.lease_book.specs.declared.receipts.KeptReply.{KeptReply}
 use Rattle.lease_book.specs.declared.receipts.KeptReply.TheVariants as kept
-use Rattle.lease_book.specs.Entry.{Entry, Settlement, Settled, Hello, Swept, Grant, Refuse, Return, kept_settlement, kept_reply_of}
+use Rattle.lease_book.specs.Entry.{Entry, Settlement, Settled, Hello, Swept, Grant, Refuse, Return, kept_settlement}
 use Rattle.lease_book.specs.Receipts.{Kept}
-use Rattle.lease_book.specs.Account.{Account, Lease, is_lease, is_older, without_first, lease_of, leases_after, granted_request}
+use Rattle.lease_book.specs.Account.{Account, Lease, is_lease, without_first, lease_of, leases_after}
 use Rattle.lease_book.specs.BookState.{BookState, HasHistory, Enters, account_in, account_or_nobody}
-use Rattle.lease_book.proofs.LawProofs.{entered_changes, account_client, books_in_bounds}
+use Rattle.lease_book.proofs.LawProofs.{entered_changes}
 use Rattle.lease_history.specs.Told.{reply_to}
 use Rattle.lease_machine.specs.Picture.{Picture, IsPicture, arena_named, name_or_none}
-use Rattle.lease_machine.specs.Machine.{LeaseStep, AnswersLine}
+use Rattle.lease_machine.specs.Machine.{LeaseStep}
 use Rattle.lease_machine.specs.Laws.{Runs}
 use Rattle.lease_machine.specs.AnswerLaws.{reply_bytes, IsKept, IsReadAs, AreNamed}
-use Rattle.lease_machine.specs.LeaseLaws.{leases_in, LeasesStay, LeasesBecome, LeaseMoves, ReleaseMoves, HelloMoves, LosesLease}
-use Rattle.lease_machine.specs.GrantLaws.{AnswersGranted, GivesBack, SweepsAway, EndsLease, RunKeeps}
-use Rattle.lease_machine.proofs.Homes.{setup_stays}
-use Rattle.lease_machine.proofs.Repeats.{IsLast, history_of, request_kept, request_answer}
+use Rattle.lease_machine.specs.LeaseLaws.{leases_in, LeasesStay, LeasesBecome, LeaseMoves, ReleaseMoves, HelloMoves}
+use Rattle.lease_machine.specs.GrantLaws.{AnswersGranted, EndsLease, RunKeeps}
+use Rattle.lease_machine.proofs.Repeats.{history_of, request_kept, request_answer}
 use Rattle.lease_machine.proofs.Fitting.{kept_grants_fit, found_named}
 use Rattle.lease_machine.proofs.Leases.{leases_move, stays, stays_at}
 use Rattle.lease_machine.proofs.Replied.{line_is, request_valid}

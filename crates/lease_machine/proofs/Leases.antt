@@ -1,32 +1,26 @@
 -- What becomes of all leases.
-use Rattle.std.proofs.Common.{◌≡◌, ◌≢◌, ◌⊎◌, ℕ, ◌<◌, ◌≤◌, refl, sym, subst, ap, ◌∙◌, inl, inr, Bool, true, false, cond, not, nat_lt, nat_eq, ◌&&◌, List, [], ◌∷◌, ◌++◌, filter, All, get_or, Option, Some, None, Ok, Err, Result, arith, suc, zero}
+use Rattle.std.proofs.Common.{◌≡◌, ◌≢◌, ◌⊎◌, ℕ, ◌<◌, ◌≤◌, refl, sym, subst, ap, ◌∙◌, inl, inr, Bool, true, false, cond, not, nat_eq, ◌&&◌, List, [], ◌∷◌, filter, All, get_or, Ok, Err, Result, arith, suc}
 use Rattle.std.proofs.lemmas.Bool.{cases_lt, cases_eq, eqb-true, ltb-true}
 use Rattle.std.proofs.Common.{lt-ltb}
 use Rattle.deed_core.specs.Tag.{Tag}
 use Rattle.lease_terms.specs.Requests.{RequestId}
 use Rattle.lease_proto.specs.declared.faults.LineFault.{LineFault}
-use Rattle.lease_proto.specs.declared.lines.Line.{Line}
 use Rattle.lease_proto.specs.declared.lines.Line.TheVariants as lines
 use Rattle.lease_proto.specs.declared.lines.HelloLine.{HelloLine}
 use Rattle.lease_proto.specs.declared.lines.LeaseLine.{LeaseLine}
 use Rattle.lease_proto.specs.declared.lines.ReleaseLine.{ReleaseLine}
-use Rattle.lease_proto.specs.declared.lines.Op.{Op}
 use Rattle.lease_proto.specs.declared.lines.Op.TheVariants as ops
-use Rattle.lease_proto.specs.declared.operators.OperatorLine.{OperatorLine}
 use Rattle.lease_proto.specs.declared.operators.ServedLine.{ServedLine}
 use Rattle.lease_proto.specs.declared.operators.ServedLine.TheVariants as served
 use Rattle.lease_proto.specs.declared.replies.Reply.{Reply}
 use Rattle.lease_proto.specs.declared.replies.Reply.TheVariants as reply
-use Rattle.lease_proto.specs.declared.replies.Granted.{Granted}
 use Rattle.lease_proto.specs.Operators.{served_of}
-use Rattle.lease_book.specs.Entry.{Entry, Settlement, Settled, Hello, Swept, Grant, Refuse, Return, subject_of}
-use Rattle.lease_book.specs.Account.{Account, Lease, is_lease, is_older, without_first, lease_of, leases_after}
+use Rattle.lease_book.specs.Entry.{Settlement, Settled, Hello, Swept, Grant, Refuse, Return}
+use Rattle.lease_book.specs.Account.{Account, Lease, is_lease, is_older, without_first, leases_after}
 use Rattle.lease_book.specs.BookState.{BookState, HasHistory, Enters, account_in}
-use Rattle.lease_book.specs.Answers.{IsNew}
 use Rattle.lease_book.proofs.LawProofs.{entered_changes}
 use Rattle.lease_machine.specs.Picture.{Picture, IsPicture}
-use Rattle.lease_machine.specs.Machine.{NewLease, NewRelease, RequestStep, Sweeps, HelloStep, AnswersLine, LeaseStep, Welcomes, demand_of}
-use Rattle.lease_machine.specs.AnswerLaws.{reply_bytes, IsRequestLine}
+use Rattle.lease_machine.specs.Machine.{NewLease, NewRelease, Sweeps, HelloStep, AnswersLine, LeaseStep, Welcomes, demand_of}
 use Rattle.lease_machine.specs.LeaseLaws.{leases_in, LeasesStay, LeasesBecome, LeaseMoves, ReleaseMoves, HelloMoves, LeasesMove, grant_told}
 use Rattle.lease_machine.proofs.Repeats.{history_of, request_answer, operator_keeps}
 use Rattle.lease_machine.proofs.Fitting.{not_known, granted_fits}

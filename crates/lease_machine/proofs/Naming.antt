@@ -1,20 +1,19 @@
 -- A request is answered by a reply to it.
-use Rattle.std.proofs.Common.{◌≡◌, ℕ, ◌+◌, refl, sym, subst, ap, ◌∙◌, inl, inr, List, Bool, true, false, if◌then◌else◌, ◌==◌, Option, Some, None, arith}
+use Rattle.std.proofs.Common.{◌≡◌, ℕ, ◌+◌, refl, sym, subst, ap, inl, inr, List, Bool, false, if◌then◌else◌, ◌==◌, Some, None, arith}
 use Rattle.std.proofs.lemmas.Bool.{ne_eqb}
 use Rattle.lease_terms.specs.Requests.{RequestId}
 use Rattle.lease_proto.specs.declared.lines.Op.{Op}
 use Rattle.lease_proto.specs.declared.lines.Op.TheVariants as ops
 use Rattle.lease_proto.specs.declared.replies.Reply.{Reply}
 use Rattle.lease_proto.specs.declared.replies.Reply.TheVariants as reply
-use Rattle.lease_proto.specs.Requests.{request_named}
 use Rattle.lease_book.specs.declared.receipts.KeptReply.{KeptReply}
 use Rattle.lease_book.specs.declared.receipts.KeptReply.TheVariants as kept
 use Rattle.lease_book.specs.BookState.{account_in}
-use Rattle.lease_book.specs.Entry.{Settlement, Grant, kept_reply_of}
+use Rattle.lease_book.specs.Entry.{Grant, kept_reply_of}
 use Rattle.lease_book.specs.Answers.{IsNew}
 use Rattle.lease_history.specs.Told.{reply_to}
 use Rattle.lease_machine.specs.Picture.{Picture, arena_named}
-use Rattle.lease_machine.specs.Replies.{IsKnownReply, IsKeptReply, again_of}
+use Rattle.lease_machine.specs.Replies.{IsKnownReply, again_of}
 use Rattle.lease_machine.specs.Machine.{NewLease, NewRelease, NewRequest, RequestStep, demand_of}
 use Rattle.lease_machine.specs.AnswerLaws.{NamesRequest}
 

@@ -1,6 +1,5 @@
 -- A client's line is answered by one line, which is read as a reply to it.
-use Rattle.std.proofs.Common.{◌≡◌, ℕ, ◌≤◌, refl, sym, subst, ap, ◌∙◌, inl, inr, true, List, All, Option, Some, None, IfSome, Ok, Result, arith}
-use Rattle.std.specs.Prelude.{slice_get}
+use Rattle.std.proofs.Common.{◌≡◌, ℕ, ◌≤◌, refl, sym, subst, ap, ◌∙◌, inl, inr, true, List, Option, Some, None, IfSome, Ok, arith}
 use Rattle.deed_core.proofs.LawProofs.{all_at}
 use Rattle.arena_tree.specs.declared.trees.TreeArena.{TreeArena}
 use Rattle.lease_terms.specs.declared.values.TheConstants.{LARGEST}
@@ -33,8 +32,8 @@ use Rattle.lease_book.proofs.LawProofs.{books_in_bounds}
 use Rattle.lease_history.specs.Told.{reply_to}
 use Rattle.lease_machine.specs.Picture.{Picture, IsPicture, arena_named, name_or_none}
 use Rattle.lease_machine.specs.Replies.{IsKnownReply, again_of}
-use Rattle.lease_machine.specs.Machine.{NewLease, NewRelease, NewRequest, RequestStep, HelloStep, LeaseStep}
-use Rattle.lease_machine.specs.AnswerLaws.{reply_bytes, IsKept, IsReadAs, AreNamed, RepliesTo, ClientsGetReplies}
+use Rattle.lease_machine.specs.Machine.{NewLease, NewRelease, NewRequest, RequestStep, HelloStep}
+use Rattle.lease_machine.specs.AnswerLaws.{reply_bytes, IsKept, IsReadAs, AreNamed, ClientsGetReplies}
 use Rattle.lease_machine.proofs.Repeats.{history_of, request_kept, kept_or}
 use Rattle.lease_machine.proofs.Fitting.{kept_grants_fit}
 use Rattle.lease_machine.proofs.Naming.{answer_names}

@@ -1,14 +1,12 @@
 -- Each step keeps the rules of leases.
-use Rattle.std.proofs.Common.{◌≡◌, ℕ, ◌≤◌, refl, sym, subst, ap, ◌∙◌, inl, inr, List, [], ◌∷◌, Some, None, Ok, Err, Result}
+use Rattle.std.proofs.Common.{◌≡◌, ℕ, sym, subst, ap, ◌∙◌, inl, inr, List, [], ◌∷◌, Some, Ok, Err}
 use Rattle.std.specs.Prelude.{slice_get}
-use Rattle.deed_core.specs.Request.{Fits, IsPlain}
+use Rattle.deed_core.specs.Request.{Fits}
 use Rattle.arena_tree.specs.declared.trees.TreeArena.{TreeArena}
 use Rattle.quantum_cache.specs.Caches.{chain_in}
-use Rattle.stock.specs.Spaces.{SpaceState}
 use Rattle.lease_terms.specs.Requests.{RequestId}
 use Rattle.lease_terms.specs.declared.refusals.Refusal.{Refusal}
 use Rattle.lease_terms.specs.declared.refusals.Refusal.TheVariants.{NoFit, BadRequest, NoArena, NotYours, Leases}
-use Rattle.lease_proto.specs.declared.faults.LineFault.{LineFault}
 use Rattle.lease_proto.specs.declared.lines.Line.TheVariants as lines
 use Rattle.lease_proto.specs.declared.lines.HelloLine.{HelloLine}
 use Rattle.lease_proto.specs.declared.lines.LeaseLine.{LeaseLine}
@@ -20,19 +18,17 @@ use Rattle.lease_proto.specs.declared.replies.Granted.{Granted}
 use Rattle.lease_proto.specs.declared.replies.RefusedRequest.{RefusedRequest}
 use Rattle.lease_proto.specs.declared.replies.Reply.{Reply}
 use Rattle.lease_proto.specs.declared.replies.Reply.TheVariants as reply
-use Rattle.lease_proto.specs.Frames.{Frame}
 use Rattle.lease_book.specs.Entry.{Grant}
 use Rattle.lease_history.specs.Told.{reply_to}
 use Rattle.lease_machine.specs.Picture.{Picture, IsPicture, arena_named}
 use Rattle.lease_machine.specs.Moves.{HasBase}
 use Rattle.lease_machine.specs.Serving.{CanServe}
 use Rattle.lease_machine.specs.Replies.{SettlesRefusal}
-use Rattle.lease_machine.specs.Machine.{NewLease, NewRelease, NewRequest, RefusesLease, RefusesRelease, RequestStep, HelloStep, LeaseStep, TakesDemand, demand_of}
-use Rattle.lease_machine.specs.Laws.{Runs}
-use Rattle.lease_machine.specs.AnswerLaws.{reply_bytes, IsKept, IsRequestLine}
+use Rattle.lease_machine.specs.Machine.{NewLease, NewRelease, NewRequest, RefusesLease, RefusesRelease, RequestStep, HelloStep, demand_of}
+use Rattle.lease_machine.specs.AnswerLaws.{IsKept}
 use Rattle.lease_machine.specs.LeaseLaws.{grant_told}
 use Rattle.lease_machine.specs.RoomLaws.{HasRun}
-use Rattle.lease_machine.specs.Rules.{LeaseGranted, NothingServes, WhyNoLease, LeaseRule, WhyNoRelease, ReleaseRule, RequestRule, HelloRule, IsLastReply, KeepsRules, StepsKeepRules, RunsKeepRules}
+use Rattle.lease_machine.specs.Rules.{NothingServes, WhyNoLease, LeaseRule, WhyNoRelease, ReleaseRule, RequestRule, HelloRule, IsLastReply, StepsKeepRules, RunsKeepRules}
 use Rattle.lease_machine.proofs.Homes.{leases_are_apart, units_have_one_home}
 use Rattle.lease_machine.proofs.Repeats.{history_of, request_answer, request_kept}
 use Rattle.lease_machine.proofs.Fitting.{not_known}
