@@ -1,22 +1,14 @@
 -- A request is settled once, whatever lines come.
 use Rattle.std.proofs.Common.{◌≡◌, ℕ, ◌+◌, ◌<◌, sym, subst, ap, ◌∙◌, inl, inr, List, [], ◌∷◌, ◌++◌, Option, Some, None, Ok, Err, Result, arith}
 use Rattle.std.proofs.lemmas.List.{append_assoc}
-use Rattle.deed_core.specs.Tag.{Tag}
 use Rattle.arena_tree.specs.declared.trees.TreeArena.{TreeArena}
 use Rattle.lease_terms.specs.Requests.{RequestId}
 use Rattle.lease_proto.specs.declared.faults.LineFault.{LineFault}
-use Rattle.lease_proto.specs.declared.lines.Line.{Line}
-use Rattle.lease_proto.specs.declared.lines.Line.TheVariants as lines
-use Rattle.lease_proto.specs.declared.lines.HelloLine.{HelloLine}
-use Rattle.lease_proto.specs.declared.lines.Op.{Op}
 use Rattle.lease_proto.specs.declared.lines.Op.TheVariants as ops
 use Rattle.lease_proto.specs.declared.operators.ServedLine.{ServedLine}
-use Rattle.lease_proto.specs.declared.operators.ServedLine.TheVariants as served
-use Rattle.lease_proto.specs.declared.replies.Reply.{Reply}
-use Rattle.lease_proto.specs.declared.replies.Reply.TheVariants as reply
 use Rattle.lease_proto.specs.Frames.{Frame}
 use Rattle.lease_proto.specs.Operators.{served_of}
-use Rattle.lease_book.specs.Entry.{Entry, Settled, Hello, Swept, Grant, Refuse, Return}
+use Rattle.lease_book.specs.Entry.{Entry}
 use Rattle.lease_book.specs.Receipts.{Kept}
 use Rattle.lease_book.specs.Account.{Account, number_of}
 use Rattle.lease_book.specs.History.{incarnation, account, last_in, outcome_of}
@@ -25,12 +17,13 @@ use Rattle.lease_book.specs.Answers.{IsNew}
 use Rattle.lease_book.proofs.LawProofs.{account_is, last_outcome, outcomes_stay, numbers_settled_once}
 use Rattle.lease_history.specs.Told.{reply_to}
 use Rattle.lease_machine.specs.Picture.{Picture, arena_named}
-use Rattle.lease_machine.specs.Machine.{NewRequest, Sweeps, HelloStep, ClientStep, AnswersLine, demand_of}
+use Rattle.lease_machine.specs.Machine.{AnswersLine}
 use Rattle.lease_machine.specs.Laws.{Runs}
 use Rattle.lease_machine.specs.AnswerLaws.{reply_bytes, AnswersAgree, RepeatsFit}
 use Rattle.lease_machine.proofs.Homes.{setup_stays}
+use Rattle.lease_machine.proofs.Entering.{Comes, still, further, answer_comes}
 use Rattle.lease_machine.proofs.Fitting.{grants_fit}
-use Rattle.lease_machine.proofs.Repeats.{IsLast, history_of, known_last, request_kept, request_answer, kept_or, operator_keeps}
+use Rattle.lease_machine.proofs.Repeats.{IsLast, history_of, known_last, request_kept, request_answer, kept_or}
 
 -- whatever history gives the old book, that and some entries more give the new one
 abbrev Grows : BookState → BookState → Type 0
@@ -48,71 +41,19 @@ grows_then old mid new first second es is =
     let b = second (a.0 ++ es) a.1 in
     (b.0 ++ a.0, subst (λ (xs : List Entry). IsHistory xs new) (sym (append_assoc b.0 a.0 es)) b.1)
 
+-- by entries that lines make
+comes_grow : (old new : BookState) → Comes old new → Grows old new
+comes_grow _ _ (still old new e) = grows_same old new e
+comes_grow _ _ (further e old mid new makes entry rest) = grows_then old mid new (grows_by e old mid entry) (comes_grow mid new rest)
+
 abbrev BooksGrow : Picture → Picture → Type 0
 BooksGrow old new = Grows old.book new.book
 
-same_book : (old new : Picture) → new ≡ old → BooksGrow old new
-same_book old new same = grows_same old.book new.book (ap (λ (d : Picture). d.book) same)
-
-sweeps_grow : (c : ℕ) (ts : List Tag) (old new : Picture) → Sweeps c ts old new → BooksGrow old new
-sweeps_grow c [] old new same = same_book old new same
-sweeps_grow c (t ∷ ts) old new swept =
-    grows_then old.book swept.1.book new.book (grows_by (Swept swept.0.client swept.0.incarnation t.arena t.holding.range.base) old.book swept.1.book swept.2.ended.entry) (sweeps_grow c ts swept.1 new swept.4)
-
-hello_grows : (h : HelloLine) (old new : Picture) (r : Reply) → HelloStep h old new r → BooksGrow old new
-hello_grows h old new (reply.Welcome w) does =
-    let greets = does.1 in
-    grows_then old.book greets.greeted new.book (grows_by (Hello h.client h.incarnation) old.book greets.greeted greets.hello)
-    (sweeps_grow h.client greets.swept (record old { book = greets.greeted }) new greets.sweeps)
-hello_grows h old new (reply.Old o) does = same_book old new does.2
-hello_grows h old new (reply.Again a) does = same_book old new does.2
-hello_grows h old new (reply.Granted x) does = absurd does
-hello_grows h old new (reply.Released x) does = absurd does
-hello_grows h old new (reply.Refused x) does = absurd does
-hello_grows h old new (reply.Stale x) does = absurd does
-hello_grows h old new (reply.Gap x) does = absurd does
-hello_grows h old new (reply.Error x) does = absurd does
-
-lease_grows : (id : RequestId) (l : _) (old new : Picture) (r : Reply) → NewRequest id (ops.Lease l) old new r → BooksGrow old new
-lease_grows id l old new (reply.Granted g) does = grows_by (Settled id (Grant does.segment (record { quantum = does.arena.quantum; request = demand_of l }))) old.book new.book does.granted.entry
-lease_grows id l old new (reply.Refused x) does = grows_by (Settled id (Refuse does.0)) old.book new.book does.1.refused.entry
-lease_grows id l old new (reply.Again x) does = grows_same old.book new.book does.1.book
-lease_grows id l old new (reply.Released x) does = absurd does
-lease_grows id l old new (reply.Old x) does = absurd does
-lease_grows id l old new (reply.Stale x) does = absurd does
-lease_grows id l old new (reply.Gap x) does = absurd does
-lease_grows id l old new (reply.Welcome x) does = absurd does
-lease_grows id l old new (reply.Error x) does = absurd does
-
-release_grows : (id : RequestId) (l : _) (old new : Picture) (r : Reply) → NewRequest id (ops.Release l) old new r → BooksGrow old new
-release_grows id l old new (reply.Released p) does = grows_by (Settled id (Return does.1.index l.base)) old.book new.book does.1.released.entry
-release_grows id l old new (reply.Refused x) does = grows_by (Settled id (Refuse does.0)) old.book new.book does.1.refused.entry
-release_grows id l old new (reply.Granted x) does = absurd does
-release_grows id l old new (reply.Again x) does = absurd does
-release_grows id l old new (reply.Old x) does = absurd does
-release_grows id l old new (reply.Stale x) does = absurd does
-release_grows id l old new (reply.Gap x) does = absurd does
-release_grows id l old new (reply.Welcome x) does = absurd does
-release_grows id l old new (reply.Error x) does = absurd does
-
-new_grows : (id : RequestId) (op : Op) (old new : Picture) (r : Reply) → NewRequest id op old new r → BooksGrow old new
-new_grows id (ops.Lease l) old new r does = lease_grows id l old new r does
-new_grows id (ops.Release l) old new r does = release_grows id l old new r does
-
-client_grows : (line : Line) (old new : Picture) (r : Reply) → ClientStep line old new r → BooksGrow old new
-client_grows (lines.Hello h) old new r does = hello_grows h old new r does
-client_grows (lines.Request id op) old new r does = elim does [
-  | inl known ↦ same_book old new known.1
-  | inr fresh ↦ new_grows id op old new r fresh.1
-]
-
 answer_grows : (x : Result ServedLine LineFault) (old new : Picture) (text : List ℕ) → AnswersLine old x text new → BooksGrow old new
-answer_grows (Ok (served.Client l)) old new text does = client_grows l old new does.0 does.2
-answer_grows (Ok (served.Operator o)) old new text does = grows_same old.book new.book (operator_keeps o old new text does)
-answer_grows (Err fault) old new text does = same_book old new does.1
+answer_grows x old new text does = comes_grow old.book new.book (answer_comes x old new text does)
 
 run_grows : (frames : List Frame) (old new : Picture) (text : List ℕ) → Runs old frames text new → BooksGrow old new
-run_grows [] old new text run = same_book old new run.1
+run_grows [] old new text run = grows_same old.book new.book (ap (λ (d : Picture). d.book) run.1)
 run_grows (Ok line ∷ frames) old new text run = grows_then old.book run.2.book new.book (answer_grows (served_of line) old run.2 run.0 (run.3).answer) (run_grows frames run.2 new run.1 run.5)
 run_grows (Err fault ∷ frames) old new text run = run_grows frames old new run.0 run.2
 
@@ -174,6 +115,6 @@ answers_agree old mid late new id op again line text between repeat bytes frames
 pub repeats_fit : RepeatsFit
 repeats_fit old mid late new id l again line text between repeat bytes frames is read fresh first run read_again second =
     elim (answers_agree old mid late new id (ops.Lease l) again line text between repeat bytes frames is read first run read_again second) [
-      | inl same ↦ (let fits = grants_fit old mid id l line text is read fresh first in inl (fits.0, same ∙ fits.1, fits.2))
+      | inl same ↦ (let fits = grants_fit old mid id l line text is read fresh first in inl (fits.0, same ∙ fits.1, fits.2, fits.3))
       | inr unkept ↦ inr unkept
     ]

@@ -28,6 +28,7 @@ use Rattle.lease_machine.specs.Replies.{IsKnownReply, IsKeptReply}
 use Rattle.lease_machine.specs.Machine.{NewLease, Grants, demand_of}
 use Rattle.lease_machine.specs.AnswerLaws.{FitsLine, GrantsFit, IsFitting, KeptGrantsFit}
 use Rattle.lease_machine.proofs.Repeats.{request_answer}
+use Rattle.lease_machine.proofs.Naming.{answer_names}
 
 -- a number that is new isn't known
 pub not_known : (d : Picture) (id : RequestId) (r : Reply) → IsNew (account_in id.client d.book) id → IsKnownReply d id r → ⊥
@@ -54,7 +55,7 @@ found_named tree name index x first at =
     let here : get_or tree index x ≡ x = get_or_from_slice_get tree index x x at in
     sym (ap (λ (z : TreeArena). z.name) here) ∙ (bytes_eq-Decides (get_or tree index x).name name).0 passes
 
-granted_fits : (old new : Picture) (id : RequestId) (l : _) (g : Granted) → Grants id l old new (reply.Granted g) → FitsLine old l (reply.Granted g)
+pub granted_fits : (old new : Picture) (id : RequestId) (l : _) (g : Granted) → Grants id l old new (reply.Granted g) → FitsLine old l (reply.Granted g)
 granted_fits old new id l g does =
     let t = does.segment in
     let is : reply.Granted g ≡ reply.Granted (record { id = id; arena = arena_named old.tree t.arena; base = t.holding.range.base; len = t.holding.range.len }) = does.reply in
@@ -90,6 +91,7 @@ grants_fit old new id l line text is read fresh step =
     let a = request_answer old new id (ops.Lease l) line text read step in (
       a.0,
       a.1,
+      answer_names id (ops.Lease l) old new a.0 a.2,
       elim a.2 [
         | inl known ↦ absurd (not_known old id a.0 fresh known.0)
         | inr does ↦ new_fits old new id l a.0 does.1

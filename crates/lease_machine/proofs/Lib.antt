@@ -1,7 +1,13 @@
 pub mod Homes
 pub mod Repeats
+pub mod Naming
 pub mod Agreeing
 pub mod Fitting
+pub mod Leases
+pub mod Replied
+pub mod Entering
+pub mod Granting
+pub mod GrantedApart
 pub mod Rooms
 pub mod Freed
 pub mod Reaching
@@ -9,6 +15,7 @@ pub mod FreshCpus
 pub mod CachedSizes
 pub mod Fewer
 pub mod NoRoom
+pub mod Ruling
 pub mod Stepping
 pub mod Ticking
 pub mod Resizing

@@ -124,7 +124,7 @@ never_both old new other id l r g found =
     ]
 
 -- what runs serve, the arenas of the chain do
-runs_up : (d : Picture) → IsPicture d → (chain : List Level) (n : ℕ) → HasRunUp d.spaces chain n → HasBaseUp d.spaces chain n
+pub runs_up : (d : Picture) → IsPicture d → (chain : List Level) (n : ℕ) → HasRunUp d.spaces chain n → HasBaseUp d.spaces chain n
 runs_up d is [] n has = absurd has
 runs_up d is (l ∷ up) n has = elim has [
   | inl run ↦ inl (run.0, run.1, (run.2.1, run_serves run.0.arena (is.units.parts l.id run.0 run.1).sound (plain_of n) run.2.0 run.2.1 run.2.2 run.2.3))

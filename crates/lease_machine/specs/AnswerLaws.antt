@@ -1,8 +1,9 @@
 -- What follows for the answers to requests.
-use Rattle.std.specs.Prelude.{◌≡◌, ◌≢◌, ◌⊎◌, ℕ, List, Some, Ok, Err, slice_get}
+use Rattle.std.specs.Prelude.{◌≡◌, ◌≢◌, ◌⊎◌, ℕ, List, All, Some, Ok, Err, slice_get, true}
 use Rattle.std.specs.List.{AllByRecursion}
 use Rattle.deed_core.specs.Request.{Fits}
 use Rattle.arena_tree.specs.declared.trees.TreeArena.{TreeArena}
+use Rattle.lease_terms.specs.Names.{is_name}
 use Rattle.lease_terms.specs.Requests.{RequestId}
 use Rattle.lease_proto.specs.declared.lines.Line.{Line}
 use Rattle.lease_proto.specs.declared.lines.Line.TheVariants as lines
@@ -14,8 +15,8 @@ use Rattle.lease_proto.specs.declared.replies.Reply.{Reply}
 use Rattle.lease_proto.specs.declared.replies.Reply.TheVariants as reply
 use Rattle.lease_proto.specs.Frames.{Frame, with_line_feed}
 use Rattle.lease_proto.specs.Operators.{served_of}
-use Rattle.lease_proto.specs.Replies.{reply_text}
-use Rattle.lease_proto.specs.Requests.{client_of}
+use Rattle.lease_proto.specs.Replies.{reply_of, reply_text}
+use Rattle.lease_proto.specs.Requests.{client_of, client_named, request_named}
 use Rattle.lease_book.specs.Receipts.{Kept}
 use Rattle.lease_book.specs.BookState.{account_in}
 use Rattle.lease_book.specs.Answers.{IsNew}
@@ -73,27 +74,54 @@ AnswersAgree = (old mid late new : Picture) (id : RequestId) (op again : Op)
     → IsRequestLine repeat id again → LeaseStep late repeat bytes new
     → (bytes ≡ text) ⊎ (IsUnkept text ⊎ IsUnkept bytes)
 
+-- the reply is to this request, and says so; `old` names its client alone
+abbrev pub NamesRequest : RequestId → Reply → Type 0
+NamesRequest id (reply.Old o) = o.client ≡ id.client
+NamesRequest id r = request_named r ≡ Some id
+
+-- the reply is to this line of a client
+abbrev pub RepliesTo : Line → Reply → Type 0
+RepliesTo (lines.Hello h) r = client_named r ≡ Some h.client
+RepliesTo (lines.Request id op) r = NamesRequest id r
+
+-- the text is one line, and is read as this reply
+abbrev pub IsReadAs : List ℕ → Reply → Type 0
+IsReadAs text r = (bytes : List ℕ) × (text ≡ with_line_feed bytes) × (reply_of bytes ≡ Ok r)
+
+-- the arenas have names
+abbrev pub AreNamed : List TreeArena → Type 0
+AreNamed tree = All (λ x. is_name x.name ≡ true) tree
+
+-- and then each line of a client is answered by one line, which is read as a reply to it
+abbrev pub ClientsGetReplies : Type 0
+ClientsGetReplies = (old new : Picture) (l : Line) (line text : List ℕ) → IsPicture old
+    → AreNamed old.tree → served_of line ≡ Ok (served.Client l) → LeaseStep old line text new
+    → (r : Reply) × IsReadAs text r × RepliesTo l r
+
 -- what is granted is of the arena that the line names, and fits what it asks
 abbrev pub FitsLine : Picture → LeaseLine → Reply → Type 0
 FitsLine d l (reply.Granted g) = (g.arena ≡ l.arena) × ((index : ℕ) × (x : TreeArena)
     × Finds d l.arena index x × Fits x.quantum (demand_of l) g.base g.len)
 FitsLine d l r = Unit {0}
 
--- a new lease is answered by a reply that fits its line; so are its repeats, by the same bytes
+-- a new lease is answered by a reply to it that fits its line; so are its repeats, by the same
+-- bytes
 abbrev pub GrantsFit : Type 0
 GrantsFit = (old new : Picture) (id : RequestId) (l : LeaseLine) (line text : List ℕ)
     → IsPicture old → IsRequestLine line id (ops.Lease l) → IsNew (account_in id.client old.book) id
-    → LeaseStep old line text new → (r : Reply) × (text ≡ reply_bytes r) × FitsLine old l r
+    → LeaseStep old line text new
+    → (r : Reply) × (text ≡ reply_bytes r) × NamesRequest id r × FitsLine old l r
 
--- Whatever lines come between, each answer to the same number that settles it is a reply that fits
--- the line by which it was asked first.
+-- Whatever lines come between, each answer to the same number that settles it is a reply to it that
+-- fits the line by which it was asked first.
 abbrev pub RepeatsFit : Type 0
 RepeatsFit = (old mid late new : Picture) (id : RequestId) (l : LeaseLine) (again : Op)
     (line text between repeat bytes : List ℕ) (frames : List Frame) → IsPicture old
     → IsRequestLine line id (ops.Lease l) → IsNew (account_in id.client old.book) id
     → LeaseStep old line text mid → Runs mid frames between late
     → IsRequestLine repeat id again → LeaseStep late repeat bytes new
-    → ((r : Reply) × (bytes ≡ reply_bytes r) × FitsLine old l r) ⊎ (IsUnkept text ⊎ IsUnkept bytes)
+    → ((r : Reply) × (bytes ≡ reply_bytes r) × NamesRequest id r × FitsLine old l r)
+    ⊎ (IsUnkept text ⊎ IsUnkept bytes)
 
 -- the kept reply is no grant, or one of an arena whose units fit the request that it was made for
 abbrev pub IsFitting : Picture → Kept → Type 0

@@ -8,6 +8,8 @@ pub mod Operators
 pub mod Machine
 pub mod Laws
 pub mod AnswerLaws
+pub mod LeaseLaws
+pub mod GrantLaws
 pub mod RoomLaws
 pub mod EmptyingLaws
 pub mod CpuLaws
@@ -15,3 +17,4 @@ pub mod CacheLaws
 pub mod StepLaws
 pub mod CallLaws
 pub mod ReapLaws
+pub mod Rules

@@ -10,7 +10,11 @@ ghost use Rattle.lease_machine.specs.Laws.{PicturesStay, SetupStays, UnitsHaveOn
 ghost use Rattle.lease_machine.specs.Laws.{LeasesAreApart, AuditTellsLeases, AuditIsWhole};
 ghost use Rattle.lease_machine.specs.Laws.{AuditIsTold};
 ghost use Rattle.lease_machine.specs.AnswerLaws.{LinesRepeat, AnswersAgree, GrantsFit};
+ghost use Rattle.lease_machine.specs.AnswerLaws.{ClientsGetReplies};
+ghost use Rattle.lease_machine.specs.Rules.{StepsKeepRules, RunsKeepRules};
 ghost use Rattle.lease_machine.specs.AnswerLaws.{KeptGrantsFit, GrantsWereReachable, RepeatsFit};
+ghost use Rattle.lease_machine.specs.LeaseLaws.{LeasesMove};
+ghost use Rattle.lease_machine.specs.GrantLaws.{GrantsStayApart};
 ghost use Rattle.lease_machine.specs.RoomLaws.{NoFitMeansTaken, NoFitMeansTakenUp};
 ghost use Rattle.lease_machine.specs.RoomLaws.{FreedIsWhole, FirstLeaseIsServed, FewerFitToo};
 ghost use Rattle.lease_machine.specs.RoomLaws.{NeverGrantedAndRefused};
@@ -43,8 +47,16 @@ pub fn audit_laws()
     ensures whole { AuditIsWhole }
 {}
 
-/// A request that comes again gets the bytes that it got, and is never settled by others.
+/// The rules of leases, on a page: who is answered what, when, and what becomes of all leases.
+pub fn rule_laws()
+    ensures steps { StepsKeepRules }
+    ensures runs { RunsKeepRules }
+{}
+
+/// A client's line gets one line, which is read as a reply to it. A request that comes again gets
+/// the bytes that it got, and is never settled by others.
 pub fn repeat_laws()
+    ensures named { ClientsGetReplies }
     ensures repeats { LinesRepeat }
     ensures agree { AnswersAgree }
 {}
@@ -56,6 +68,14 @@ pub fn grant_laws()
     ensures kept_grants { KeptGrantsFit }
     ensures repeats { RepeatsFit }
     ensures reachable { GrantsWereReachable }
+{}
+
+/// What each line and its answer make of all leases: one more, one less, those of a client's older
+/// incarnations gone, or none changed. So what two requests are granted doesn't overlap, while no
+/// line ends the first lease.
+pub fn lease_laws()
+    ensures moves { LeasesMove }
+    ensures apart { GrantsStayApart }
 {}
 
 /// `nofit` comes only where no free range of the arena serves, nor one of a source for what would

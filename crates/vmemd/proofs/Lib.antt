@@ -4,6 +4,7 @@ pub mod RunLemmas
 pub mod SpanLemmas
 pub mod UncachedLemmas
 pub mod LawLemmas
+pub mod RuleLemmas
 mod CommandLemmas
 mod ConfigLemmas
 mod SettingLemmas

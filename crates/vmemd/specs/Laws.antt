@@ -33,7 +33,7 @@ use Rattle.lease_machine.specs.Operators.{sums_in, audit_texts_of}
 use Rattle.lease_machine.specs.Machine.{LeaseStep, demand_of}
 use Rattle.lease_machine.specs.Laws.{Runs}
 use Rattle.lease_machine.specs.AnswerLaws.{reply_bytes, IsUnkept, IsRequestLine, AreOfOthers}
-use Rattle.lease_machine.specs.AnswerLaws.{FitsLine}
+use Rattle.lease_machine.specs.AnswerLaws.{NamesRequest, FitsLine}
 use Rattle.lease_machine.specs.RoomLaws.{NothingIsKept, refusal_to}
 use Rattle.lease_machine.specs.EmptyingLaws.{CpuHasNoRound}
 use Rattle.vmemd.specs.Scripts.{Makes}
@@ -124,20 +124,20 @@ ScriptAnswersAgree = (id : RequestId) (op : Op) (first second : List ℕ) (frame
     → AsksTwice id op first frames second
     → (second ≡ first) ⊎ (IsUnkept first ⊎ IsUnkept second)
 
--- a lease of a new number is answered by a reply that fits its line: what is granted is of the
--- arena that it names, and as it asks
+-- a lease of a new number is answered by a reply to it that fits its line: what is granted is of
+-- the arena that it names, and as it asks
 abbrev pub ScriptGrantsFit : Type 0
 ScriptGrantsFit = (old new : Picture) (id : RequestId) (l : LeaseLine) (line text : List ℕ)
     → AnswersNext old line text new → IsRequestLine line id (ops.Lease l)
     → IsNew (account_in id.client old.book) id
-    → (r : Reply) × (text ≡ reply_bytes r) × FitsLine old l r
+    → (r : Reply) × (text ≡ reply_bytes r) × NamesRequest id r × FitsLine old l r
 
 -- so is each repeat of it that settles it, after any lines: it fits the first line
 abbrev pub ScriptRepeatsFit : Type 0
 ScriptRepeatsFit = (id : RequestId) (l : LeaseLine) (first second : List ℕ) (frames : List Frame)
     → (a : AsksTwice id (ops.Lease l) first frames second)
     → IsNew (account_in id.client a.old.book) id
-    → ((r : Reply) × (second ≡ reply_bytes r) × FitsLine a.old l r)
+    → ((r : Reply) × (second ≡ reply_bytes r) × NamesRequest id r × FitsLine a.old l r)
     ⊎ (IsUnkept first ⊎ IsUnkept second)
 
 -- the lease fits in a span that the setup gives the arena that it names

@@ -4,5 +4,6 @@ pub mod Settings
 pub mod Desks
 pub mod Commands
 pub mod Laws
+pub mod RuleLaws
 pub mod Configs
 pub mod Running

@@ -4,10 +4,23 @@ ghost use Rattle.vmemd.specs.Laws.{ScriptAuditIsTold, ScriptAuditIsWhole};
 ghost use Rattle.vmemd.specs.Laws.{ScriptLinesRepeat, ScriptAnswersAgree, ScriptGrantsFit};
 ghost use Rattle.vmemd.specs.Laws.{ScriptRepeatsFit, ScriptFirstLeaseIsServed, ScriptFreedIsWhole};
 ghost use Rattle.vmemd.specs.Laws.{ScriptReturnedIsWhole, ScriptEmptiedIsWhole};
+ghost use Rattle.vmemd.specs.RuleLaws.{EndsAreScripts, ScriptKeepsRules, ScriptGrantsStayApart};
+ghost use Rattle.vmemd.specs.RuleLaws.{ScriptClientsGetReplies};
+
+/// What `run_script` writes to an input's end is a script, and each line of a script, with what is
+/// written for it, keeps the rules of leases. A client's line is answered by one line, which is
+/// read as a reply to it. So what two requests are granted doesn't overlap, while no line ends the
+/// first lease.
+pub fn rule_laws()
+    ensures ends { EndsAreScripts }
+    ensures keeps { ScriptKeepsRules }
+    ensures replies { ScriptClientsGetReplies }
+    ensures apart { ScriptGrantsStayApart }
+{}
 
 /// Whatever setup lines are taken, and whatever lines the desk that they open answers then: after
 /// each of them no two leases overlap whose arenas have one top, each unit is in one home, and an
-/// audit tells all of them. What `run_script` writes is such a script.
+/// audit tells all of them.
 pub fn script_laws()
     ensures split { ScriptsSplit }
     ensures apart { ScriptLeasesStayApart }

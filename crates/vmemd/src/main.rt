@@ -13,9 +13,10 @@
 //!
 //! What a script writes is stated in specs/Scripts.antt, for any setup and any desk, and in
 //! specs/Desks.antt for these two; which setup line is refused with which word, in
-//! specs/Settings.antt; what holds after each script, in specs/Laws.antt; which bytes are a setup
-//! line, in the crate `lease_proto`. What CONFIG makes is stated in specs/Configs.antt, and what a
-//! server writes and how it ends in specs/Running.antt; what it answers, in `lease_tcp`.
+//! specs/Settings.antt; what holds after each script, in specs/Laws.antt; the rules of leases over
+//! a script, in specs/RuleLaws.antt; which bytes are a setup line, in the crate `lease_proto`. What
+//! CONFIG makes is stated in specs/Configs.antt, and what a server writes and how it ends in
+//! specs/Running.antt; what it answers, in `lease_tcp`.
 //!
 //! A script costs what its setup and its desk do for each line, and a read for each 16,384 bytes or
 //! less. A server has a thread for each worker, at most `MOST_WORKERS`, and costs what its system

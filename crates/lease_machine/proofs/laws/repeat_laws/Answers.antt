@@ -1,5 +1,6 @@
 use Rattle.lease_machine.proofs.Repeats.{lines_repeat}
 use Rattle.lease_machine.proofs.Agreeing.{answers_agree}
+use Rattle.lease_machine.proofs.Replied.{clients_get_replies}
 use Rattle.lease_machine.proofs.laws.repeat_laws.Goals as goal
 
 pub returns-clause-repeats : goal.returns-clause-repeats
@@ -7,3 +8,6 @@ returns-clause-repeats c = lines_repeat
 
 pub returns-clause-agree : goal.returns-clause-agree
 returns-clause-agree c = answers_agree
+
+pub returns-clause-named : goal.returns-clause-named
+returns-clause-named c = clients_get_replies

@@ -1,0 +1,389 @@
+-- A request that is answered with a grant has its lease, until a line ends it.
+use Rattle.std.proofs.Common.{◌≡◌, ◌⊎◌, ℕ, suc, zero, ◌<◌, refl, sym, subst, ap, ◌∙◌, inl, inr, Bool, true, false, cond, nat_eq, ◌&&◌, ◌==◌, List, [], ◌∷◌, ◌++◌, filter, Contains, get_or, Some, None, Ok, Err, Result, arith}
+use Rattle.std.specs.Prelude.{slice_get}
+use Rattle.std.specs.List.{find}
+use Rattle.std.proofs.lemmas.Bool.{cases_lt, cases_eq, ne_eqb, eqb-true, and_parts}
+use Rattle.std.proofs.lemmas.List.{append_cancel_right}
+use Rattle.std.proofs.lemmas.List.Elements.{Contains-append_left, Contains-push}
+use Rattle.deed_core.specs.Tag.{Tag}
+use Rattle.arena_tree.specs.declared.trees.TreeArena.{TreeArena}
+use Rattle.arena_tree.specs.Trees.{index_in}
+use Rattle.lease_terms.specs.Requests.{RequestId}
+use Rattle.lease_proto.specs.declared.faults.LineFault.{LineFault}
+use Rattle.lease_proto.specs.declared.lines.Line.TheVariants as lines
+use Rattle.lease_proto.specs.declared.lines.HelloLine.{HelloLine}
+use Rattle.lease_proto.specs.declared.lines.LeaseLine.{LeaseLine}
+use Rattle.lease_proto.specs.declared.lines.ReleaseLine.{ReleaseLine}
+use Rattle.lease_proto.specs.declared.lines.Op.{Op}
+use Rattle.lease_proto.specs.declared.lines.Op.TheVariants as ops
+use Rattle.lease_proto.specs.declared.operators.ServedLine.{ServedLine}
+use Rattle.lease_proto.specs.declared.operators.ServedLine.TheVariants as served
+use Rattle.lease_proto.specs.declared.replies.Reply.{Reply}
+use Rattle.lease_proto.specs.declared.replies.Reply.TheVariants as reply
+use Rattle.lease_proto.specs.declared.replies.Granted.{Granted}
+use Rattle.lease_proto.specs.Frames.{Frame, with_line_feed}
+use Rattle.lease_proto.specs.Operators.{served_of}
+use Rattle.lease_proto.specs.Replies.{reply_of, reply_text, IsReply}
+use Rattle.lease_proto.proofs.LawProofs.{replies_are_texts}
+use Rattle.lease_book.specs.declared.receipts.KeptReply.{KeptReply}
+use Rattle.lease_book.specs.declared.receipts.KeptReply.TheVariants as kept
+use Rattle.lease_book.specs.Entry.{Entry, Settlement, Settled, Hello, Swept, Grant, Refuse, Return, kept_settlement}
+use Rattle.lease_book.specs.Receipts.{Kept}
+use Rattle.lease_book.specs.Account.{Account, Lease, is_lease, without_first, lease_of, leases_after}
+use Rattle.lease_book.specs.BookState.{BookState, HasHistory, Enters, account_in, account_or_nobody}
+use Rattle.lease_book.proofs.LawProofs.{entered_changes}
+use Rattle.lease_history.specs.Told.{reply_to}
+use Rattle.lease_machine.specs.Picture.{Picture, IsPicture, arena_named, name_or_none}
+use Rattle.lease_machine.specs.Machine.{LeaseStep}
+use Rattle.lease_machine.specs.Laws.{Runs}
+use Rattle.lease_machine.specs.AnswerLaws.{reply_bytes, IsKept, IsReadAs, AreNamed}
+use Rattle.lease_machine.specs.LeaseLaws.{leases_in, LeasesStay, LeasesBecome, LeaseMoves, ReleaseMoves, HelloMoves}
+use Rattle.lease_machine.specs.GrantLaws.{AnswersGranted, EndsLease, RunKeeps}
+use Rattle.lease_machine.proofs.Repeats.{history_of, request_kept, request_answer}
+use Rattle.lease_machine.proofs.Fitting.{kept_grants_fit, found_named}
+use Rattle.lease_machine.proofs.Leases.{leases_move, stays, stays_at}
+use Rattle.lease_machine.proofs.Replied.{line_is, request_valid}
+use Rattle.lease_machine.proofs.Entering.{Makes, greets, settles, sweeps, Comes, still, further, answer_comes}
+
+-- Members of lists.
+
+pub contains_cases : {X : Type 0} (y : X) (ys : List X) (x : X) → Contains (y ∷ ys) x → (y ≡ x) ⊎ Contains ys x
+contains_cases y ys x (zero, lt, e) = inl e
+contains_cases y ys x (suc k, lt, e) = inr (k, omega (arith, lt), e)
+
+contains_later : {X : Type 0} (y : X) (ys : List X) (x : X) → Contains ys x → Contains (y ∷ ys) x
+contains_later y ys x (k, lt, e) = (suc k, omega (arith, lt), e)
+
+contains_first : {X : Type 0} (y : X) (ys : List X) (x : X) → y ≡ x → Contains (y ∷ ys) x
+contains_first y ys x e = (zero, omega arith, e)
+
+-- one that fails the test stays
+without_keeps : (test : Lease → Bool) (xs : List Lease) (x : Lease) → test x ≡ false → Contains xs x → Contains (without_first test xs) x
+without_keeps test [] x fails has = absurd (let lt = has.1 in omega (arith, lt))
+without_keeps test (y ∷ ys) x fails has = by (test y) refl (contains_cases y ys x has) (without_keeps test ys x fails)
+  where
+    by : (b : Bool) → test y ≡ b → ((y ≡ x) ⊎ Contains ys x) → (Contains ys x → Contains (without_first test ys) x) → Contains (cond b ys (y ∷ without_first test ys)) x
+    by true passes (inl is) rest = absurd (let e : true ≡ false = sym passes ∙ ap test is ∙ fails in cc)
+    by true passes (inr later) rest = later
+    by false not (inl is) rest = contains_first y (without_first test ys) x is
+    by false not (inr later) rest = contains_later y (without_first test ys) x (rest later)
+
+-- one that passes it does
+filter_keeps : (test : Lease → Bool) (xs : List Lease) (x : Lease) → test x ≡ true → Contains xs x → Contains (filter test xs) x
+filter_keeps test [] x passes has = absurd (let lt = has.1 in omega (arith, lt))
+filter_keeps test (y ∷ ys) x passes has = by (test y) refl (contains_cases y ys x has) (filter_keeps test ys x passes)
+  where
+    by : (b : Bool) → test y ≡ b → ((y ≡ x) ⊎ Contains ys x) → (Contains ys x → Contains (filter test ys) x) → Contains (cond b (y ∷ filter test ys) (filter test ys)) x
+    by false fails (inl is) rest = absurd (let e : false ≡ true = sym fails ∙ ap test is ∙ passes in cc)
+    by false fails (inr later) rest = rest later
+    by true is_so (inl is) rest = contains_first y (filter test ys) x is
+    by true is_so (inr later) rest = contains_later y (filter test ys) x (rest later)
+
+-- Each client's last reply, where it is a grant, is of a lease that stands.
+
+-- the grant is of a lease of the account's incarnation
+pub record Stands (a : Account) (k : Kept) (arena base len : ℕ) : Type 0 where
+  pub segment : Tag
+  pub held : Contains a.leases (record { incarnation = a.incarnation; number = k.number; segment = segment })
+  pub of_arena : segment.arena ≡ arena
+  pub at_base : segment.holding.range.base ≡ base
+  pub as_long : segment.holding.range.len ≡ len
+
+abbrev AccountStands : Account → Type 0
+AccountStands a = (k : Kept) (arena base len : ℕ) → a.kept ≡ Some k → k.reply ≡ kept.Granted arena base len → Stands a k arena base len
+
+abbrev pub BookStands : BookState → Type 0
+BookStands book = (c : ℕ) → AccountStands (account_in c book)
+
+none_stands : (a : Account) → a.kept ≡ None → AccountStands a
+none_stands a none k arena base len is granted = absurd (let e : None ≡ Some k = sym none ∙ is in cc)
+
+abbrev after_settling : RequestId → Settlement → List Lease → Account
+after_settling id s leases = record {
+  client = id.client;
+  incarnation = id.incarnation;
+  kept = Some (kept_settlement id.number s);
+  leases = leases_after id s leases;
+}
+
+settled_stands : (id : RequestId) (s : Settlement) (leases : List Lease) → AccountStands (after_settling id s leases)
+settled_stands id (Grant t terms) leases k arena base len is granted =
+    let now : kept_settlement id.number (Grant t terms) ≡ k = (let e : Some (kept_settlement id.number (Grant t terms)) ≡ Some k = is in cc) in
+    let told : kept.Granted t.arena t.holding.range.base t.holding.range.len ≡ kept.Granted arena base len = ap (λ (x : Kept). x.reply) now ∙ granted in
+    let at_arena : t.arena ≡ arena = cc in
+    let at_base : t.holding.range.base ≡ base = cc in
+    let as_long : t.holding.range.len ≡ len = cc in
+    let number : id.number ≡ k.number = ap (λ (x : Kept). x.number) now in
+    record {
+      segment = t;
+      held = subst (λ (n : ℕ). Contains (leases ++ lease_of id t ∷ []) (record { incarnation = id.incarnation; number = n; segment = t })) number (Contains-push leases (lease_of id t));
+      of_arena = at_arena;
+      at_base = at_base;
+      as_long = as_long;
+    }
+settled_stands id (Return a b) leases k arena base len is granted =
+    let now : kept_settlement id.number (Return a b) ≡ k = (let e : Some (kept_settlement id.number (Return a b)) ≡ Some k = is in cc) in
+    absurd (let e : kept.Released ≡ kept.Granted arena base len = ap (λ (x : Kept). x.reply) now ∙ granted in cc)
+settled_stands id (Refuse why) leases k arena base len is granted =
+    let now : kept_settlement id.number (Refuse why) ≡ k = (let e : Some (kept_settlement id.number (Refuse why)) ≡ Some k = is in cc) in
+    absurd (let e : kept.Refused why ≡ kept.Granted arena base len = ap (λ (x : Kept). x.reply) now ∙ granted in cc)
+
+-- a lease of a later incarnation is none of the older one's
+not_older : (i arena base : ℕ) (l : Lease) → i < l.incarnation → is_lease i arena base l ≡ false
+not_older i arena base l below = ap (λ (b : Bool). b && (nat_eq arena l.segment.arena && nat_eq base l.segment.holding.range.base)) (ne_eqb i l.incarnation (λ e. omega (arith, e, below)))
+
+entry_stands : (e : Entry) (old new : BookState) → HasHistory old → Makes e old → Enters e old new → BookStands old → BookStands new
+entry_stands _ _ new history (greets d i old le) entry st c = elim (cases_eq c d) [
+  | inr other ↦ subst AccountStands (sym (entered_changes.others old new (Hello d i) c history entry other)) (st c)
+  | inl is ↦ elim (cases_lt (account_in d old).incarnation i) [
+    | inl above ↦ subst (λ (x : ℕ). AccountStands (account_in x new)) (sym is) (none_stands (account_in d new) (ap (λ (a : Account). a.kept) (entered_changes.hello old new d i history entry above)))
+    | inr below ↦
+        let current : i ≡ (account_in d old).incarnation = omega (arith, le, below) in
+        subst (λ (x : ℕ). AccountStands (account_in x new)) (sym is) (subst AccountStands (sym (entered_changes.again old new d i history entry current)) (st d))
+  ]
+]
+entry_stands _ _ new history (settles id s old) entry st c = elim (cases_eq c id.client) [
+  | inr other ↦ subst AccountStands (sym (entered_changes.others old new (Settled id s) c history entry other)) (st c)
+  | inl is ↦ subst (λ (x : ℕ). AccountStands (account_in x new)) (sym is)
+      (subst AccountStands (sym (entered_changes.settled old new id s history entry)) (settled_stands id s (account_in id.client old).leases))
+]
+entry_stands _ _ new history (sweeps d i arena base old older) entry st c = elim (cases_eq c d) [
+  | inr other ↦ subst AccountStands (sym (entered_changes.others old new (Swept d i arena base) c history entry other)) (st c)
+  | inl is ↦ subst (λ (x : ℕ). AccountStands (account_in x new)) (sym is)
+      (subst AccountStands (sym (entered_changes.swept old new d i arena base history entry)) (λ k a b n last granted. (
+      let so = st d k a b n last granted in
+      let l : Lease = record { incarnation = (account_in d old).incarnation; number = k.number; segment = so.segment } in
+      record {
+        segment = so.segment;
+        held = without_keeps (is_lease i arena base) (account_in d old).leases l (not_older i arena base l older) so.held;
+        of_arena = so.of_arena;
+        at_base = so.at_base;
+        as_long = so.as_long;
+      })))
+]
+
+comes_stands : (old new : BookState) → HasHistory old → Comes old new → BookStands old → BookStands new
+comes_stands _ _ history (still old new e) st = subst BookStands (sym e) st
+comes_stands _ _ history (further e old mid new makes entry rest) st =
+    comes_stands mid new (e ∷ history.0, entry.history history.0 history.1) rest (entry_stands e old mid history makes entry st)
+
+pub step_stands : (old new : Picture) (line text : List ℕ) → IsPicture old → LeaseStep old line text new → BookStands old.book → BookStands new.book
+step_stands old new line text is step st = comes_stands old.book new.book (history_of old is) (answer_comes (served_of line) old new text step.answer) st
+
+pub run_stands : (frames : List Frame) (old new : Picture) (text : List ℕ) → IsPicture old → Runs old frames text new → BookStands old.book → BookStands new.book
+run_stands [] old new text is run st = subst (λ (d : Picture). BookStands d.book) (sym run.1) st
+run_stands (Ok line ∷ frames) old new text is run st = run_stands frames run.2 new run.1 (run.3).picture run.5 (step_stands old run.2 line run.0 is run.3 st)
+run_stands (Err fault ∷ frames) old new text is run st = run_stands frames old new run.0 is run.2 st
+
+-- so it is in an empty book
+pub empty_stands : (book : BookState) → book.accounts ≡ [] → BookStands book
+empty_stands book none c = none_stands (account_in c book) (ap (λ (all : List Account). (account_or_nobody c (find (λ a. c == a.client) all)).kept) none)
+
+-- What a grant says.
+
+-- only a grant is written as one
+is_grant : (r : Reply) (g : Granted) → reply_bytes r ≡ reply_bytes (reply.Granted g) → (h : Granted) × (r ≡ reply.Granted h)
+is_grant (reply.Granted h) g same = (h, refl)
+is_grant (reply.Welcome x) g same = absurd (let e : 119 ≡ 103 = ap (λ xs. get_or xs 0 0) same in omega (arith, e))
+is_grant (reply.Released x) g same = absurd (let e : 114 ≡ 103 = ap (λ xs. get_or xs 0 0) same in omega (arith, e))
+is_grant (reply.Refused x) g same = absurd (let e : 114 ≡ 103 = ap (λ xs. get_or xs 0 0) same in omega (arith, e))
+is_grant (reply.Old x) g same = absurd (let e : 111 ≡ 103 = ap (λ xs. get_or xs 0 0) same in omega (arith, e))
+is_grant (reply.Stale x) g same = absurd (let e : 115 ≡ 103 = ap (λ xs. get_or xs 0 0) same in omega (arith, e))
+is_grant (reply.Gap x) g same = absurd (let e : 97 ≡ 114 = ap (λ xs. get_or xs 1 0) same in omega (arith, e))
+is_grant (reply.Again x) g same = absurd (let e : 97 ≡ 103 = ap (λ xs. get_or xs 0 0) same in omega (arith, e))
+is_grant (reply.Error x) g same = absurd (let e : 101 ≡ 103 = ap (λ xs. get_or xs 0 0) same in omega (arith, e))
+
+-- what was kept of it
+kept_granted : (names : ℕ → List ℕ) (id : RequestId) (k : KeptReply) (h : Granted) → reply.Granted h ≡ reply_to names id k
+    → (arena : ℕ) × (base : ℕ) × (len : ℕ) × (k ≡ kept.Granted arena base len) × (h ≡ record { id = id; arena = names arena; base = base; len = len })
+kept_granted names id (kept.Granted arena base len) h is = (arena, base, len, refl, (let e : reply.Granted h ≡ reply.Granted (record { id = id; arena = names arena; base = base; len = len }) = is in cc))
+kept_granted names id kept.Released h is = absurd (let e : reply.Granted h ≡ reply.Released id = is in cc)
+kept_granted names id (kept.Refused why) h is = absurd (let e : reply.Granted h ≡ reply.Refused (record { id = id; refusal = why }) = is in cc)
+
+-- its bytes
+grant_bytes : (text : List ℕ) (h : Granted) → IsReadAs text (reply.Granted h) → text ≡ reply_bytes (reply.Granted h)
+grant_bytes text h told = told.1 ∙ ap with_line_feed ((replies_are_texts told.0 (reply.Granted h)).0 told.2).1
+
+-- a grant that types keep is read from its bytes alone
+read_back : (g h : Granted) (text : List ℕ) → IsReply (reply.Granted h) → text ≡ reply_bytes (reply.Granted h) → IsReadAs text (reply.Granted g) → h ≡ g
+read_back g h text valid said (bytes, is, read) =
+    let same : reply_text (reply.Granted h) ≡ bytes = append_cancel_right (reply_text (reply.Granted h)) bytes (10 ∷ []) (sym said ∙ is) in
+    let again : reply_of (reply_text (reply.Granted h)) ≡ Ok (reply.Granted h) = (replies_are_texts (reply_text (reply.Granted h)) (reply.Granted h)).1 (valid, refl) in
+    let e : Ok (reply.Granted h) ≡ Ok (reply.Granted g) = sym again ∙ ap reply_of same ∙ read in
+    cc
+
+-- the request that was granted it has a lease of just that
+pub record IsLeased (d : Picture) (g : Granted) : Type 0 where
+  pub lease : Lease
+  pub held : Contains (leases_in d g.id.client) lease
+  pub incarnation : lease.incarnation ≡ g.id.incarnation
+  pub number : lease.number ≡ g.id.number
+  pub at_base : lease.segment.holding.range.base ≡ g.base
+  pub as_long : lease.segment.holding.range.len ≡ g.len
+  pub arena : TreeArena
+  pub here : slice_get d.tree lease.segment.arena ≡ Some arena
+  pub named : arena.name ≡ g.arena
+
+pub granted_leased : (old new : Picture) (line text : List ℕ) (g : Granted) → IsPicture old → AreNamed old.tree → BookStands old.book → AnswersGranted old line text g new → IsLeased new g
+granted_leased old new line text g is names st a =
+    let id = a.id in
+    let answer = request_answer old new id a.op line text a.read a.step in
+    let told = a.told in
+    let said : reply_bytes answer.0 ≡ reply_bytes (reply.Granted g) = sym answer.1 ∙ grant_bytes text g told in
+    let grant = is_grant answer.0 g said in
+    let h = grant.0 in
+    let does = subst (λ (r : Reply). IsKept r) (sym grant.1) tt in
+    let last = request_kept old new id (history_of old is) a.op answer.0 answer.2 does in
+    let k = last.0 in
+    let of = kept_granted (arena_named old.tree) id k.reply h (sym grant.1 ∙ last.2) in
+    let (arena, base, len, granted, told_h) = of in
+    let account = account_in id.client new.book in
+    let so = step_stands old new line text is a.step st id.client k arena base len last.1.last granted in
+    let lease : Lease = record { incarnation = account.incarnation; number = k.number; segment = so.segment } in
+    let home = kept_grants_fit new id.client k a.step.picture last.1.last arena base len granted in
+    let tree : new.tree ≡ old.tree = a.step.setup.tree in
+    let name : home.0.name ≡ arena_named old.tree arena = ap name_or_none (sym home.2) ∙ ap (λ (xs : List TreeArena). arena_named xs arena) tree in
+    let is_id = (line_is line (lines.Request id a.op) a.read).0 in
+    let valid : IsReply (reply.Granted h) = subst IsReply grant.1 (request_valid old new is a.step.picture tree names id is_id a.op answer.0 answer.2) in
+    let same : h ≡ g = read_back g h text valid (answer.1 ∙ ap reply_bytes grant.1) told in
+    let g_is : record { id = id; arena = arena_named old.tree arena; base = base; len = len } ≡ g = sym told_h ∙ same in
+    let made : IsLeased new (record { id = id; arena = arena_named old.tree arena; base = base; len = len }) = record {
+      lease = lease;
+      held = so.held;
+      incarnation = sym last.1.current;
+      number = sym last.1.number;
+      at_base = so.at_base;
+      as_long = so.as_long;
+      arena = home.0;
+      here = ap (slice_get new.tree) so.of_arena ∙ home.2;
+      named = name;
+    } in
+    subst (IsLeased new) g_is made
+
+-- What keeps a lease.
+
+module _ (g : Granted) (old new : Picture) (is : IsPicture old) (line text : List ℕ) (step : LeaseStep old line text new) (not : ¬ EndsLease g line text) (l : IsLeased old g) where
+  abbrev Has : Picture → Type 0
+  Has d = Contains (leases_in d g.id.client) l.lease
+
+  stay_has : LeasesStay old new → Has new
+  stay_has stay = subst (λ (ls : List Lease). Contains ls l.lease) (sym (stay g.id.client)) l.held
+
+  same_has : new ≡ old → Has new
+  same_has same = subst Has (sym same) l.held
+
+  become_has : (c : ℕ) (leases : List Lease) → LeasesBecome c leases old new → (g.id.client ≡ c → Contains leases l.lease) → Has new
+  become_has c leases become own = elim (cases_eq g.id.client c) [
+    | inl is_own ↦ subst (λ (d : ℕ). Contains (leases_in new d) l.lease) (sym is_own) (subst (λ (ls : List Lease). Contains ls l.lease) (sym become.own) (own is_own))
+    | inr other ↦ subst (λ (ls : List Lease). Contains ls l.lease) (sym (become.others g.id.client other)) l.held
+  ]
+
+  own_held : (c : ℕ) → g.id.client ≡ c → Contains (leases_in old c) l.lease
+  own_held c e = subst (λ (d : ℕ). Contains (leases_in old d) l.lease) e l.held
+
+  hello_has : (h : HelloLine) → served_of line ≡ Ok (served.Client (lines.Hello h)) → (r : Reply) → text ≡ reply_bytes r → HelloMoves h old r new → Has new
+  hello_has h read (reply.Welcome w) said moves = become_has h.client (filter (stays h.incarnation) (leases_in old h.client)) moves.1 (λ own. elim (cases_lt l.lease.incarnation h.incarnation) [
+    | inl older ↦ absurd (not (inr (h, read, sym own, subst (λ (i : ℕ). i < h.incarnation) l.incarnation older, said ∙ ap (λ x. reply_bytes (reply.Welcome x)) moves.0)))
+    | inr current ↦ filter_keeps (stays h.incarnation) (leases_in old h.client) l.lease (stays_at h.incarnation l.lease current) (own_held h.client own)
+  ])
+  hello_has h read (reply.Granted x) said moves = stay_has moves
+  hello_has h read (reply.Released x) said moves = stay_has moves
+  hello_has h read (reply.Refused x) said moves = stay_has moves
+  hello_has h read (reply.Old x) said moves = stay_has moves
+  hello_has h read (reply.Stale x) said moves = stay_has moves
+  hello_has h read (reply.Gap x) said moves = stay_has moves
+  hello_has h read (reply.Again x) said moves = stay_has moves
+  hello_has h read (reply.Error x) said moves = stay_has moves
+
+  lease_has : (id : RequestId) (x : LeaseLine) (r : Reply) → LeaseMoves id x old r new → Has new
+  lease_has id x (reply.Granted h) moves = become_has id.client (leases_in old id.client ++ lease_of id moves.0 ∷ []) moves.3 (λ own. Contains-append_left (leases_in old id.client) (lease_of id moves.0 ∷ []) l.lease (own_held id.client own))
+  lease_has id x (reply.Welcome y) moves = stay_has moves
+  lease_has id x (reply.Released y) moves = stay_has moves
+  lease_has id x (reply.Refused y) moves = stay_has moves
+  lease_has id x (reply.Old y) moves = stay_has moves
+  lease_has id x (reply.Stale y) moves = stay_has moves
+  lease_has id x (reply.Gap y) moves = stay_has moves
+  lease_has id x (reply.Again y) moves = stay_has moves
+  lease_has id x (reply.Error y) moves = stay_has moves
+
+  -- where the lease passes the test of a release, that is one of it
+  released_it : (id : RequestId) (x : ReleaseLine) → served_of line ≡ Ok (served.Client (lines.Request id (ops.Release x))) → g.id.client ≡ id.client → text ≡ reply_bytes (reply.Released id)
+      → (index : ℕ) → index_in x.arena old.tree ≡ Some index → is_lease id.incarnation index x.base l.lease ≡ true → ⊥
+  released_it id x read own said index named passes =
+      let parts = and_parts (nat_eq id.incarnation l.lease.incarnation) _ passes in
+      let rest = and_parts (nat_eq index l.lease.segment.arena) _ parts.1 in
+      let i : id.incarnation ≡ l.lease.incarnation = eqb-true id.incarnation l.lease.incarnation parts.0 in
+      let at : index ≡ l.lease.segment.arena = eqb-true index l.lease.segment.arena rest.0 in
+      let base : x.base ≡ l.lease.segment.holding.range.base = eqb-true x.base l.lease.segment.holding.range.base rest.1 in
+      let name : l.arena.name ≡ x.arena = found_named old.tree x.arena index l.arena named (ap (slice_get old.tree) at ∙ l.here) in
+      not (inl (id, x, read, sym own, i ∙ l.incarnation, sym name ∙ l.named, base ∙ l.at_base, said))
+
+  release_has : (id : RequestId) (x : ReleaseLine) → served_of line ≡ Ok (served.Client (lines.Request id (ops.Release x))) → (r : Reply) → text ≡ reply_bytes r → ReleaseMoves id x old r new → Has new
+  release_has id x read (reply.Released p) said moves =
+      let loses = moves.1 in
+      let test = is_lease id.incarnation loses.index x.base in
+      become_has id.client (without_first test (leases_in old id.client)) loses.less (λ own.
+      by (test l.lease) refl own (said ∙ ap (λ y. reply_bytes (reply.Released y)) moves.0))
+    where
+      by : (b : Bool) → is_lease id.incarnation moves.1.index x.base l.lease ≡ b → g.id.client ≡ id.client → text ≡ reply_bytes (reply.Released id) → Contains (without_first (is_lease id.incarnation moves.1.index x.base) (leases_in old id.client)) l.lease
+      by true passes own so = absurd (released_it id x read own so moves.1.index moves.1.named passes)
+      by false fails own so = without_keeps (is_lease id.incarnation moves.1.index x.base) (leases_in old id.client) l.lease fails (own_held id.client own)
+  release_has id x read (reply.Welcome y) said moves = stay_has moves
+  release_has id x read (reply.Granted y) said moves = stay_has moves
+  release_has id x read (reply.Refused y) said moves = stay_has moves
+  release_has id x read (reply.Old y) said moves = stay_has moves
+  release_has id x read (reply.Stale y) said moves = stay_has moves
+  release_has id x read (reply.Gap y) said moves = stay_has moves
+  release_has id x read (reply.Again y) said moves = stay_has moves
+  release_has id x read (reply.Error y) said moves = stay_has moves
+
+  request_has : (id : RequestId) (op : Op) → served_of line ≡ Ok (served.Client (lines.Request id op)) → Has new
+  request_has id (ops.Lease x) read = elim ((request_answer old new id (ops.Lease x) line text read step).2) [
+    | inl known ↦ same_has known.1
+    | inr fresh ↦ (let moves = leases_move.lease old new id x line text is read fresh.0 step in lease_has id x moves.0 moves.2)
+  ]
+  request_has id (ops.Release x) read = elim ((request_answer old new id (ops.Release x) line text read step).2) [
+    | inl known ↦ same_has known.1
+    | inr fresh ↦ (let moves = leases_move.release old new id x line text is read fresh.0 step in release_has id x read moves.0 moves.1 moves.2)
+  ]
+
+  line_has : (x : Result ServedLine LineFault) → served_of line ≡ x → Has new
+  line_has (Ok (served.Client (lines.Hello h))) read = (let moves = leases_move.hello old new h line text is read step in hello_has h read moves.0 moves.1 moves.2)
+  line_has (Ok (served.Client (lines.Request id op))) read = request_has id op read
+  line_has (Ok (served.Operator o)) read = stay_has (leases_move.operator old new o line text read step)
+  line_has (Err fault) read = same_has (leases_move.refused old new fault line text read step)
+
+  pub step_keeps : IsLeased new g
+  step_keeps = record {
+    lease = l.lease;
+    held = line_has (served_of line) refl;
+    incarnation = l.incarnation;
+    number = l.number;
+    at_base = l.at_base;
+    as_long = l.as_long;
+    arena = l.arena;
+    here = ap (λ (xs : List TreeArena). slice_get xs l.lease.segment.arena) step.setup.tree ∙ l.here;
+    named = l.named;
+  }
+
+-- a line that is answered with a grant ends none
+ends_none : (g h : Granted) (line text : List ℕ) → IsReadAs text (reply.Granted h) → ¬ EndsLease g line text
+ends_none g h line text told (inl back) = (let e : 114 ≡ 103 = ap (λ xs. get_or xs 0 0) (sym back.7 ∙ grant_bytes text h told) in omega (arith, e))
+ends_none g h line text told (inr swept) = (let e : 119 ≡ 103 = ap (λ xs. get_or xs 0 0) (sym swept.4 ∙ grant_bytes text h told) in omega (arith, e))
+
+pub grant_keeps : (g : Granted) (old new : Picture) (line text : List ℕ) (h : Granted) → IsPicture old → AnswersGranted old line text h new → IsLeased old g → IsLeased new g
+grant_keeps g old new line text h is a l = step_keeps g old new is line text a.step (ends_none g h line text a.told) l
+
+-- what lines keep that end no such lease
+pub record Kept_on (g : Granted) (old new : Picture) : Type 0 where
+  pub picture : IsPicture new
+  pub tree : new.tree ≡ old.tree
+  pub stands : BookStands new.book
+  pub leased : IsLeased new g
+
+pub run_keeps : (g : Granted) (frames : List Frame) (old new : Picture) (text : List ℕ) → IsPicture old → BookStands old.book → RunKeeps g old frames text new → IsLeased old g → Kept_on g old new
+run_keeps g [] old new text is st run l = subst (Kept_on g old) (sym run.1) (record { picture = is; tree = refl; stands = st; leased = l })
+run_keeps g (Ok line ∷ frames) old new text is st (first, rest, mid, (step, not), same, run) l =
+    let on = run_keeps g frames mid new rest step.picture (step_stands old mid line first is step st) run (step_keeps g old mid is line first step not l) in
+    record { picture = on.picture; tree = on.tree ∙ step.setup.tree; stands = on.stands; leased = on.leased }
+run_keeps g (Err fault ∷ frames) old new text is st run l = run_keeps g frames old new run.0 is st run.2 l

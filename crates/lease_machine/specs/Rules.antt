@@ -1,0 +1,182 @@
+-- The rules of leases: who is answered what, when, and what becomes of all leases. Each step of the
+-- lease machine keeps them.
+use Rattle.std.specs.Prelude.{◌≡◌, ℕ, ◌<◌, ◌≤◌, List, [], ◌∷◌, ◌++◌, AllPairs, length, slice_get}
+use Rattle.std.specs.Prelude.{None, Some, Ok, Err}
+use Rattle.std.specs.List.{find}
+use Rattle.deed_core.specs.Covering.{covering_held}
+use Rattle.deed_core.specs.Request.{Fits, IsGood, IsPlain}
+use Rattle.deed_core.specs.Tag.{Tag}
+use Rattle.tag_arena.specs.ArenaState.{spans_of}
+use Rattle.arena_tree.specs.declared.trees.TreeArena.{TreeArena}
+use Rattle.arena_tree.specs.Trees.{index_in}
+use Rattle.quantum_cache.specs.Caches.{chain_in}
+use Rattle.stock.specs.Spaces.{SpaceState}
+use Rattle.stock.specs.Sums.{total}
+use Rattle.stock.specs.Laws.{ApartUpChain}
+use Rattle.stock_audit.specs.Chains.{unit_of_arena}
+use Rattle.lease_terms.specs.Requests.{RequestId}
+use Rattle.lease_terms.specs.declared.refusals.Refusal.{Refusal}
+use Rattle.lease_terms.specs.declared.refusals.Refusal.TheVariants.{NoFit, BadRequest, NoArena}
+use Rattle.lease_terms.specs.declared.refusals.Refusal.TheVariants.{NotYours, Leases}
+use Rattle.lease_proto.specs.declared.faults.LineFault.{LineFault}
+use Rattle.lease_proto.specs.declared.lines.Line.TheVariants as lines
+use Rattle.lease_proto.specs.declared.lines.HelloLine.{HelloLine}
+use Rattle.lease_proto.specs.declared.lines.LeaseLine.{LeaseLine}
+use Rattle.lease_proto.specs.declared.lines.ReleaseLine.{ReleaseLine}
+use Rattle.lease_proto.specs.declared.lines.Op.{Op}
+use Rattle.lease_proto.specs.declared.lines.Op.TheVariants as ops
+use Rattle.lease_proto.specs.declared.operators.OperatorLine.{OperatorLine}
+use Rattle.lease_proto.specs.declared.operators.ServedLine.TheVariants as served
+use Rattle.lease_proto.specs.declared.replies.Granted.{Granted}
+use Rattle.lease_proto.specs.declared.replies.Reply.{Reply}
+use Rattle.lease_proto.specs.declared.replies.Reply.TheVariants as reply
+use Rattle.lease_proto.specs.Faults.{error_line}
+use Rattle.lease_proto.specs.Frames.{Frame}
+use Rattle.lease_proto.specs.Operators.{served_of}
+use Rattle.lease_book.specs.Account.{is_lease, lease_of}
+use Rattle.lease_book.specs.Receipts.{Kept}
+use Rattle.lease_book.specs.BookState.{account_in, leased_segments}
+use Rattle.lease_book.specs.Answers.{IsNew}
+use Rattle.lease_book.specs.declared.books.TheConstants.{MOST_LEASES}
+use Rattle.lease_history.specs.Told.{reply_to}
+use Rattle.lease_server.specs.Serving.{ServesLines}
+use Rattle.lease_machine.specs.Picture.{Picture, IsPicture, Finds, SameSetup, arena_named}
+use Rattle.lease_machine.specs.Picture.{held_outside}
+use Rattle.lease_machine.specs.Serving.{CanServe, WasReachable}
+use Rattle.lease_machine.specs.Replies.{IsKnownReply, again_of}
+use Rattle.lease_machine.specs.Machine.{LeaseStep, TakesDemand, demand_of}
+use Rattle.lease_machine.specs.Laws.{Runs}
+use Rattle.lease_machine.specs.AnswerLaws.{reply_bytes, IsKept, IsRequestLine}
+use Rattle.lease_machine.specs.LeaseLaws.{leases_in, LeasesStay, LeasesBecome, LosesLease}
+use Rattle.lease_machine.specs.LeaseLaws.{HelloMoves, grant_told}
+use Rattle.lease_machine.specs.RoomLaws.{HasRun, HasRunUp}
+
+-- `granted`: the units fit what the line asks of the arena that it names, and were in reach: free,
+-- or in a cache. They are one lease more, of the line's client, incarnation and number.
+pub record LeaseGranted (id : RequestId) (l : LeaseLine) (old new : Picture) (g : Granted)
+    : Type 0 where
+  pub index : ℕ
+  pub arena : TreeArena
+  pub takes : TakesDemand old l index arena
+  pub segment : Tag
+  pub told : g ≡ grant_told old id segment
+  pub named : g.arena ≡ l.arena
+  pub fits : Fits arena.quantum (demand_of l) g.base g.len
+  pub reach : WasReachable old index segment
+  pub more : LeasesBecome id.client (leases_in old id.client ++ lease_of id segment ∷ []) old new
+
+-- `nofit`: no run of free units of the arena serves the request, nor for one that isn't constrained
+-- a run of a source what would be imported for it; and no cache has it in reach
+pub record NothingServes (index : ℕ) (x : TreeArena) (l : LeaseLine) (old : Picture)
+    : Type 0 where
+  pub taken : ¬ HasRun old.spaces index (demand_of l)
+  pub above : IsPlain (demand_of l) → ¬ HasRunUp old.spaces (chain_in old.tree index) l.size
+  pub none : ¬ CanServe old index x (demand_of l)
+
+-- the arena that the line names takes the request, and something serves it
+abbrev pub CanBeServed : LeaseLine → Picture → Type 0
+CanBeServed l old = (index : ℕ) × (x : TreeArena) × TakesDemand old l index x
+    × CanServe old index x (demand_of l)
+
+-- when a new lease is refused, and by which word
+abbrev pub WhyNoLease : RequestId → LeaseLine → Picture → Refusal → Type 0
+WhyNoLease id l old NoArena = index_in l.arena old.tree ≡ None
+WhyNoLease id l old BadRequest = (index : ℕ) × (x : TreeArena) × Finds old l.arena index x
+    × (¬ IsGood x.quantum (demand_of l))
+WhyNoLease id l old NoFit = (index : ℕ) × (x : TreeArena) × TakesDemand old l index x
+    × NothingServes index x l old
+WhyNoLease id l old Leases =
+    CanBeServed l old × (MOST_LEASES ≤ length (leases_in old id.client))
+WhyNoLease id l old NotYours = ⊥
+
+-- a new lease is granted, or refused, or to be asked for again, which changes nothing of the book
+abbrev pub LeaseRule : RequestId → LeaseLine → Picture → Reply → Picture → Type 0
+LeaseRule id l old (reply.Granted g) new = LeaseGranted id l old new g
+LeaseRule id l old (reply.Refused x) new =
+    (x.id ≡ id) × WhyNoLease id l old x.refusal × LeasesStay old new
+LeaseRule id l old (reply.Again a) new =
+    (reply.Again a ≡ again_of id) × CanBeServed l old × (new.book ≡ old.book)
+LeaseRule id l old r new = ⊥
+
+-- when a new release is refused: the arena isn't there, or the client has no such lease of its
+-- incarnation
+abbrev pub WhyNoRelease : RequestId → ReleaseLine → Picture → Refusal → Type 0
+WhyNoRelease id l old NoArena = index_in l.arena old.tree ≡ None
+WhyNoRelease id l old NotYours = (index : ℕ) × (index_in l.arena old.tree ≡ Some index)
+    × (find (is_lease id.incarnation index l.base) (leases_in old id.client) ≡ None)
+WhyNoRelease id l old why = ⊥
+
+-- a new release ends the lease, or is refused
+abbrev pub ReleaseRule : RequestId → ReleaseLine → Picture → Reply → Picture → Type 0
+ReleaseRule id l old (reply.Released p) new = (p ≡ id) × LosesLease id l old new
+ReleaseRule id l old (reply.Refused x) new =
+    (x.id ≡ id) × WhyNoRelease id l old x.refusal × LeasesStay old new
+ReleaseRule id l old r new = ⊥
+
+abbrev pub RequestRule : RequestId → Op → Picture → Reply → Picture → Type 0
+RequestRule id (ops.Lease l) old r new = LeaseRule id l old r new
+RequestRule id (ops.Release l) old r new = ReleaseRule id l old r new
+
+-- a hello is welcome unless its incarnation is an older one than the client's; to a client that
+-- said none before it may be out of memory
+abbrev pub HelloRule : HelloLine → Picture → Reply → Picture → Type 0
+HelloRule h old (reply.Welcome w) new =
+    ((account_in h.client old.book).incarnation ≤ h.incarnation)
+    × ((account_in h.client new.book).incarnation ≡ h.incarnation)
+    × HelloMoves h old (reply.Welcome w) new
+HelloRule h old (reply.Old o) new =
+    (o ≡ record { client = h.client; current = (account_in h.client old.book).incarnation })
+    × (h.incarnation < (account_in h.client old.book).incarnation) × (new ≡ old)
+HelloRule h old (reply.Again a) new =
+    (a ≡ record { client = h.client; incarnation = h.incarnation; number = 0 })
+    × ((account_in h.client old.book).incarnation ≡ 0) × (new ≡ old)
+HelloRule h old r new = ⊥
+
+-- the reply is what is kept of the client's last number
+pub record IsLastReply (d : Picture) (id : RequestId) (r : Reply) : Type 0 where
+  pub incarnation : (account_in id.client d.book).incarnation ≡ id.incarnation
+  pub last : Kept
+  pub number : last.number ≡ id.number
+  pub kept : (account_in id.client d.book).kept ≡ Some last
+  pub reply : r ≡ reply_to (arena_named d.tree) id last.reply
+
+-- each unit of an arena's spans is in one home: free, in a slab, in a magazine, exported or leased
+abbrev pub UnitsAtHome : Picture → Type 0
+UnitsAtHome d = (k : ℕ) (s : SpaceState) → slice_get d.spaces k ≡ Some s → (u : ℕ)
+    → (total (unit_of_arena u d.spaces (held_outside d) s) ≡ covering_held u (spans_of s.arena))
+    × (covering_held u (spans_of s.arena) ≤ 1)
+
+-- One line: from old it is answered with the text, and new is what holds then.
+pub record KeepsRules (old : Picture) (line text : List ℕ) (new : Picture) : Type 0 where
+  -- bytes that are no line get their error line
+  pub no_line : (fault : LineFault) → served_of line ≡ Err fault
+      → (text ≡ error_line fault) × (new ≡ old)
+  pub hello : (h : HelloLine) → served_of line ≡ Ok (served.Client (lines.Hello h))
+      → (r : Reply) × (text ≡ reply_bytes r) × HelloRule h old r new
+  -- a request whose number is new is served, and what settles it is kept as its reply
+  pub request : (id : RequestId) (op : Op) → IsRequestLine line id op
+      → IsNew (account_in id.client old.book) id
+      → (r : Reply) × (text ≡ reply_bytes r) × RequestRule id op old r new
+      × (IsKept r → IsLastReply new id r)
+  -- any other is answered by its number: the last one by its kept reply
+  pub repeat : (id : RequestId) (op : Op) → IsRequestLine line id op
+      → ¬ IsNew (account_in id.client old.book) id
+      → (r : Reply) × (text ≡ reply_bytes r) × IsKnownReply old id r × (new ≡ old)
+  -- an operator changes no lease
+  pub operator : (o : OperatorLine) → served_of line ≡ Ok (served.Operator o) → LeasesStay old new
+  -- afterwards no two leases overlap whose arenas have one top, each unit is in one home, the
+  -- arenas and their spans are as before, and the rules go on
+  pub apart : AllPairs (ApartUpChain new.spaces) (leased_segments new.book)
+  pub homes : UnitsAtHome new
+  pub setup : SameSetup old new
+  pub picture : IsPicture new
+
+-- each step keeps them
+abbrev pub StepsKeepRules : Type 0
+StepsKeepRules = (old new : Picture) (line text : List ℕ) → IsPicture old
+    → LeaseStep old line text new → KeepsRules old line text new
+
+-- and so does each line of a run
+abbrev pub RunsKeepRules : Type 0
+RunsKeepRules = (old new : Picture) (frames : List Frame) (text : List ℕ) → IsPicture old
+    → Runs old frames text new → ServesLines KeepsRules old frames text new
