@@ -99,6 +99,9 @@ pub enum SwapFreshFault {
     /// The depot's magazines have this size, and the CPU's another.
     #[error("the depot's magazines hold {0} rounds")]
     OldSize(usize),
+    /// The CPU's magazines aren't both full.
+    #[error("not full")]
+    NotFull,
     /// Out of memory.
     #[error("out of memory")]
     NoMemory,

@@ -218,10 +218,13 @@ module _ (s : LocalState) (k j : ℕ) (f : Focus s k j) where
       | inr none ↦ absurd (none.1 j (own_with x) refl (reached x q) full)
     ]
 
-    pub swapped_fresh : (a : Result (Unit {0}) SwapFreshFault) (new : LocalState) → DoesSwapFresh (there x q) k (j + 1) a new → ((y : CpuCacheState) × (d : DepotState) × (new ≡ there y (with_depot d q)) × SwapsFresh a x q.depot y d) ⊎ ((a ≡ Err freshing.NoMemory) × (new ≡ there x q))
-    swapped_fresh a new does = elim does [
+    pub swapped_fresh : BothFull x → (a : Result (Unit {0}) SwapFreshFault) (new : LocalState) → DoesSwapFresh (there x q) k (j + 1) a new → ((y : CpuCacheState) × (d : DepotState) × (new ≡ there y (with_depot d q)) × SwapsFresh a x q.depot y d) ⊎ ((a ≡ Err freshing.NoMemory) × (new ≡ there x q))
+    swapped_fresh full a new does = elim does [
       | inl on ↦ inl (exchanged (SwapsFresh a) new on)
-      | inr none ↦ inr (none.0, same_then new none.1)
+      | inr out ↦ elim out [
+        | inl memory ↦ inr (memory.0, same_then new memory.2)
+        | inr none ↦ absurd (none.1 j (own_with x) refl (reached x q) full)
+      ]
     ]
 
     -- the slabs

@@ -97,7 +97,7 @@ module _ (arenas : List TreeArena) (s : LocalState) (k j : ℕ) (f : Focus s k j
   -- a fresh magazine
   fresh_stage : (m : LocalState) (p : Placing Tag) → BothFull own → own.size ≡ depot.size → depot.empty ≡ 0 → RunsTo arenas (push_fresh k (j + 1) t) (here own f.cache) m p → Exchanged m p
   unfolding push_fresh
-  fresh_stage m p full same none path = elim (swapped_fresh s k j f own f.cache path.1 path.0 path.2.step.does) [
+  fresh_stage m p full same none path = elim (swapped_fresh s k j f own f.cache full path.1 path.0 path.2.step.does) [
     | inl on ↦ by on.0 on.1 on.3.r on.2 on.3.did on.3.told
     | inr memory ↦ left memory.0 memory.1
   ]

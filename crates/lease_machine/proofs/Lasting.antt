@@ -157,7 +157,10 @@ does_last old (SwapEmpty k c) a new does = elim does [
 ]
 does_last old (SwapFresh k c) a new does = elim does [
   | inl on ↦ exchange_lasts old new k c (SwapsFresh a) (λ x y d e is. fresh_size (empty_magazine x.size) x y is.r d e is.did) on
-  | inr none ↦ unchanged_lasts old new k c none.1
+  | inr out ↦ elim out [
+    | inl memory ↦ unchanged_lasts old new k c memory.2
+    | inr none ↦ unchanged_lasts old new k c none.2
+  ]
 ]
 does_last old (Pop k c) a new does = elim does.2 [
   | inl on ↦ ap all_last on.0

@@ -68,6 +68,7 @@ module _ (arenas : List TreeArena) where
         done : (x : Result (Unit {0}) SwapFreshFault) → Unit {0} → FreshensWell x → EndsWell arenas PlacesWell (on_swap_fresh arena cache t x)
         done (Ok u) s well = well_push
         done (Err (freshing.OldSize m)) s well = well_changed m
+        done (Err freshing.NotFull) s well = (k, cached)
         done (Err freshing.NoMemory) s well = (k, cached)
         done (Err freshing.Stopped) s well = absurd well
 

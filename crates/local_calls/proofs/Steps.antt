@@ -59,7 +59,10 @@ module _ (old new : LocalState) (k c : ℕ) where
   swapped_fresh : (a : Result (Unit {0}) SwapFreshFault) → DoesSwapFresh old k c a new → FreshensWell a
   swapped_fresh a does = elim does [
     | inl on ↦ subst FreshensWell (sym on.3.does.1.does.told) (fresh_well on.3.does.1.does.r)
-    | inr none ↦ subst FreshensWell (sym none.0) tt
+    | inr out ↦ elim out [
+      | inl memory ↦ subst FreshensWell (sym memory.0) tt
+      | inr none ↦ subst FreshensWell (sym none.0) tt
+    ]
   ]
 
   pushed_well : (t : Tag) (a : Result (Unit {0}) (PushFault Tag)) → DoesPush old k c t a new → PushesWell a

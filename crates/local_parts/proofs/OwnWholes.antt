@@ -127,8 +127,8 @@ module _ (s : LocalState) (law : IsStock s.spaces) (k c : ℕ) (none : (j : ℕ)
   pub none_empty : WholeStep s (SwapEmpty k c) (Err NoneEmpty) s
   none_empty = unchanged_whole s s law same (SwapEmpty k c) (Err NoneEmpty) (λ h b. refl) (inr (refl, none_served (λ o. BothFull o.cpu), same)) (λ sizes. tt) tt refl
 
-  pub none_fresh : WholeStep s (SwapFresh k c) (Err freshing.NoMemory) s
-  none_fresh = unchanged_whole s s law same (SwapFresh k c) (Err freshing.NoMemory) (λ h b. refl) (inr (refl, same)) (λ sizes. tt) tt refl
+  pub none_fresh : WholeStep s (SwapFresh k c) (Err freshing.NotFull) s
+  none_fresh = unchanged_whole s s law same (SwapFresh k c) (Err freshing.NotFull) (λ h b. refl) (inr (inr (refl, none_served (λ o. BothFull o.cpu), same))) (λ sizes. tt) tt refl
 
 -- the one cache that serves it isn't so
 one_served : (s : LocalState) (k c j : ℕ) (P : OwnCacheState → Type 0) (number : c ≡ j + 1) (o : OwnCacheState) → IsReached s k j o → ¬ P o → NoneReached s k c P
@@ -265,8 +265,15 @@ module _ (old new : LocalState) (law : IsStock old.spaces) (k c j : ℕ) (number
       goes (inr y) = subst (λ v. refuses_by empty_stops v ≡ false) (sym y.0.0) refl
 
   pub fresh_whole : (a : Result (Unit {0}) SwapFreshFault) → OnOwn k j (OwnSwapsFresh a old.spaces new.spaces) old.cpu new.cpu → WholeStep old (SwapFresh k c) a new
-  fresh_whole a on = tried (SwapsFresh a) _ (SwapFresh k c) a (λ h. refl) (λ sizes. tt) (λ m n. tt) (goes on.does) (λ x. inl x) (λ why u. inr (why, u)) on on.does
+  fresh_whole a on = tried (SwapsFresh a) _ (SwapFresh k c) a (λ h. refl) (λ sizes. tt) (λ m n. tt) (goes on.does) (λ x. inl x)
+      (λ why u. inr (elim why [
+        | inl memory ↦ inl (memory.0, (j, number, (served.0, served.1, memory.1)), u)
+        | inr none ↦ inr (none.0, one_served old k c j (λ o. BothFull o.cpu) number served.0 served.1 none.1, u)
+      ])) on on.does
     where
       goes : OwnSwapsFresh a old.spaces new.spaces on.own on.changed → refuses_by fresh_stops a ≡ false
       goes (inl x) = fresh_goes a _ _ _ _ x.swapped.does
-      goes (inr y) = subst (λ v. refuses_by fresh_stops v ≡ false) (sym y.0) refl
+      goes (inr y) = elim y.0 [
+        | inl memory ↦ subst (λ v. refuses_by fresh_stops v ≡ false) (sym memory.0) refl
+        | inr none ↦ subst (λ v. refuses_by fresh_stops v ≡ false) (sym none.0) refl
+      ]

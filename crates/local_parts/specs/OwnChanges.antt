@@ -84,7 +84,8 @@ OwnSwapsEmpty a = OwnTries (λ o. (a ≡ Err NoneEmpty) × (¬ BothFull o.cpu)) 
 
 abbrev pub OwnSwapsFresh : Result (Unit {0}) SwapFreshFault → List SpaceState → List SpaceState
     → OwnCacheState → OwnCacheState → Type 0
-OwnSwapsFresh a = OwnTries (λ o. a ≡ Err freshing.NoMemory) (SwapsFresh a)
+OwnSwapsFresh a = OwnTries (λ o. ((a ≡ Err freshing.NoMemory) × BothFull o.cpu)
+    ⊎ ((a ≡ Err freshing.NotFull) × (¬ BothFull o.cpu))) (SwapsFresh a)
 
 -- the magazine that comes back with a refusal is empty
 abbrev pub EndsEmpty : Result (Unit {0}) (PutFullFault MagazineState) → Type 0

@@ -120,9 +120,12 @@ abbrev pub DoesSwapEmpty : LocalState → ℕ → ℕ → Result (Unit {0}) Swap
 DoesSwapEmpty old k c a new = OnExchange old k c (SwapsEmpty a) new
     ⊎ ((a ≡ Err NoneEmpty) × NoneReached old k c (λ o. BothFull o.cpu) × IsUnchanged old new)
 
--- NoMemory comes too where no magazine can be made, where the CPU's magazines aren't both full, or
--- no cache serves it
+-- NotFull comes where the CPU's magazines aren't both full, or no cache serves it; NoMemory comes
+-- too where no magazine can be made
 abbrev pub DoesSwapFresh : LocalState → ℕ → ℕ → Result (Unit {0}) SwapFreshFault → LocalState
     → Type 0
 DoesSwapFresh old k c a new = OnExchange old k c (SwapsFresh a) new
-    ⊎ ((a ≡ Err freshing.NoMemory) × IsUnchanged old new)
+    ⊎ ((a ≡ Err freshing.NoMemory) × OneReached old k c (λ o. BothFull o.cpu)
+    × IsUnchanged old new)
+    ⊎ ((a ≡ Err freshing.NotFull) × NoneReached old k c (λ o. BothFull o.cpu)
+    × IsUnchanged old new)

@@ -104,7 +104,7 @@ pub(crate) fn swap_fresh_own<D: Deed>(
     ensures { OwnSwapsFresh result stock.old stock.new own.old own.new }
 {
     if !own.is_full() {
-        return Err(SwapFreshFault::NoMemory);
+        return Err(SwapFreshFault::NotFull);
     }
     let Ok(magazine) = Magazine::new(alloc, own.size()) else {
         return Err(SwapFreshFault::NoMemory);

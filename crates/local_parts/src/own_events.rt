@@ -127,7 +127,7 @@ pub(crate) fn swap_fresh_of<D: Deed>(
 {
     let _ = stock.count();
     let Some(index) = served(stock, cpu, arena, cache) else {
-        return Err(SwapFreshFault::NoMemory);
+        return Err(SwapFreshFault::NotFull);
     };
     cpu.swap_fresh_at(alloc, stock, arena as usize, index)
 }

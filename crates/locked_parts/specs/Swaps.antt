@@ -64,6 +64,8 @@ abbrev pub TakesFull : MagazineState → KindRoundsState → KindDepotState →
 TakesFull m c d (Ok _) c' d' = BothFull c.cpu × Exchanges (PutsFull m) c d c' d'
 TakesFull m c d (Err (freshing.OldSize size)) c' d' = NoExchange c d c' d'
     × ((c.cpu.size ≢ d.depot.size) ⊎ (m.size ≢ d.depot.size)) × (size ≡ d.depot.size)
+TakesFull m c d (Err freshing.NotFull) c' d' = NoExchange c d c' d'
+    × (c.kind ≡ d.kind → ¬ BothFull c.cpu)
 TakesFull m c d (Err freshing.NoMemory) c' d' = NoExchange c d c' d'
-    × (c.kind ≡ d.kind → BothFull c.cpu → (c.cpu.size ≡ d.depot.size) × (m.size ≡ d.depot.size))
+    × BothFull c.cpu × (c.cpu.size ≡ d.depot.size) × (m.size ≡ d.depot.size)
 TakesFull m c d (Err freshing.Stopped) c' d' = ⊥

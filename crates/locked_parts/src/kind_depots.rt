@@ -99,7 +99,7 @@ impl<D: Deed> KindDepot<D> {
     {
         if !self.kind.is(&cpu.kind) || !cpu.cpu.is_full() {
             end_empty(magazine);
-            return Err(SwapFreshFault::NoMemory);
+            return Err(SwapFreshFault::NotFull);
         }
         match self.depot.put_full(&mut cpu.cpu, magazine) {
             Ok(()) => Ok(()),

@@ -180,13 +180,13 @@ pub(crate) fn swap_fresh_in<N: Name, R: Wait>(
     ensures kinds { AreForSame caches.old.items caches.new.items }
 {
     let Some(kind) = parts.kind(arena, cache) else {
-        return Err(SwapFreshFault::NoMemory);
+        return Err(SwapFreshFault::NotFull);
     };
     let Some(own) = own_at(parts, caches, &kind) else {
-        return Err(SwapFreshFault::NoMemory);
+        return Err(SwapFreshFault::NotFull);
     };
     let Some(locked) = parts.cache(arena, cache) else {
-        return Err(SwapFreshFault::NoMemory);
+        return Err(SwapFreshFault::NotFull);
     };
     let size = caches[own].size();
     let Ok(magazine) = Magazine::new(parts.alloc, size) else {

@@ -47,6 +47,7 @@ within_fresh arena cache t n most le = swapped
     swapped : (x : Result (Unit {0}) SwapFreshFault) → Within (λ (p : Placing Tag). most) (on_swap_fresh arena cache t x) (n + 1)
     swapped (Ok u) = within_push arena cache t (n + 1) most le
     swapped (Err (freshing.OldSize m)) = within_changed arena cache m t (n + 1) most le
+    swapped (Err freshing.NotFull) = le
     swapped (Err freshing.NoMemory) = le
     swapped (Err freshing.Stopped) = le
 

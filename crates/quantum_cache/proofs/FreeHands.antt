@@ -62,6 +62,7 @@ handles_fresh arena cache t = (tt, done)
     done : (x : Result (Unit {0}) SwapFreshFault) → Handles placing_left (on_swap_fresh arena cache t x) (Some t)
     done (Ok u) = handles_push arena cache t
     done (Err (freshing.OldSize m)) = handles_changed arena cache m t
+    done (Err freshing.NotFull) = refl
     done (Err freshing.NoMemory) = refl
     done (Err freshing.Stopped) = refl
 

@@ -77,6 +77,7 @@ told_fresh nodes arena cache t told = λ x s. done x
     done : (x : Result (Unit {0}) SwapFreshFault) → Tells nodes PlacingTold (on_swap_fresh arena cache t x) (answered (SwapFresh arena cache) x ∷ told)
     done (Ok u) = told_push nodes arena cache t (answered (SwapFresh arena cache) (Ok u) ∷ told)
     done (Err (freshing.OldSize m)) = told_changed nodes arena cache m t (answered (SwapFresh arena cache) (Err (freshing.OldSize m)) ∷ told)
+    done (Err freshing.NotFull) = tt
     done (Err freshing.NoMemory) = tt
     done (Err freshing.Stopped) = refl
 

@@ -61,6 +61,7 @@ push_changed arena cache size t = Ask (Change arena cache size) (on_change arena
 abbrev pub on_swap_fresh : ℕ → ℕ → Tag → Result (Unit {0}) SwapFreshFault → Plan (Placing Tag)
 on_swap_fresh arena cache t (Ok u) = push_round arena cache t
 on_swap_fresh arena cache t (Err (freshing.OldSize size)) = push_changed arena cache size t
+on_swap_fresh arena cache t (Err freshing.NotFull) = Done (Left t)
 on_swap_fresh arena cache t (Err freshing.NoMemory) = Done (Left t)
 on_swap_fresh arena cache t (Err freshing.Stopped) = Done (Stopped t)
 

@@ -65,6 +65,7 @@ fn freshen_and_push<S: Held, P: Parts<S>>(
     match parts.swap_fresh(arena, cache) {
         Ok(()) => push(parts, arena, cache, segment),
         Err(SwapFreshFault::OldSize(size)) => change_and_push(parts, arena, cache, size, segment),
+        Err(SwapFreshFault::NotFull) => Placing::Left(segment),
         Err(SwapFreshFault::NoMemory) => Placing::Left(segment),
         Err(SwapFreshFault::Stopped) => Placing::Stopped(segment),
     }
