@@ -25,6 +25,8 @@ const TURNS: u64 = 20;
 /// What the two workers tell each other.
 #[derive(Drop)]
 struct Flags {
+    /// The first CPU stopped.
+    stopped: AtomicBool,
     /// The other worker leases and releases.
     runs: AtomicBool,
     /// The failed CPU is drained.
@@ -56,6 +58,7 @@ fn fail_beside<N: Name + Send + Sync, R: Abort + Wait + Threads + Clock + AllocG
 {
     let system: System<N> = made(rt, ground, setup);
     let flags = Flags {
+        stopped: AtomicBool::new(false),
         runs: AtomicBool::new(false),
         drained: AtomicBool::new(false),
     };
@@ -82,6 +85,7 @@ fn fail<N: Name, R: Abort + Wait + Clock + AllocGlobal>(
     }
     let held = row.held.get(turn).expect(rt, "a step");
     stop(rt, system, &mut failed, row.text, turn as u64, *held);
+    flags.stopped.store(true, Ordering::SeqCst);
     assert!(rt; raised(rt, &flags.runs), "the other worker doesn't run");
     match system.drain_failed(rt, failed) {
         Ok(()) => {}
@@ -90,12 +94,14 @@ fn fail<N: Name, R: Abort + Wait + Clock + AllocGlobal>(
     flags.drained.store(true, Ordering::SeqCst);
 }
 
-// Leases one, two and five units and releases them, until the other CPU is drained.
-fn lease_and_release<N: Name, R: Abort + Wait + AllocGlobal>(
+// Leases one, two and five units and releases them, from when the other CPU stopped until it is
+// drained.
+fn lease_and_release<N: Name, R: Abort + Wait + Clock + AllocGlobal>(
     rt: &R,
     system: &System<N>,
     flags: &Flags,
 ) {
+    assert!(rt; raised(rt, &flags.stopped), "the first CPU doesn't stop");
     let mut cpu = cpu(rt, system, 1);
     let mut client = Client::new(rt.alloc(), ClientId::new(2).expect(rt, "a client"));
     let hello = client.restart(1).expect(rt, "an incarnation");
