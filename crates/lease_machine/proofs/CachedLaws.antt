@@ -27,7 +27,7 @@ use Rattle.lease_machine.specs.Chunks.{LacksChunks, LacksRounds, OnSelected, Tak
 use Rattle.lease_machine.specs.Held.{IsHeld, with_parts}
 use Rattle.lease_machine.specs.Moves.{ClimbsInVain, HasBaseUp}
 use Rattle.lease_machine.specs.Picture.{NumberedCpu, Picture, SameSetup, is_cpu}
-use Rattle.lease_machine.specs.Serving.{CacheFor, CachesServe, CanServe, CanTake, HasChunk, IsCachedIn, WasReachable}
+use Rattle.lease_machine.specs.Serving.{CacheFor, CachesServe, CanServe, CanTake, HasChunk, IsCachedIn}
 use Rattle.local_calls.specs.Laws.{AllocsWell}
 use Rattle.local_calls.specs.Runs.{RunsTo}
 use Rattle.local_parts.specs.Cpus.{IsOwnAt}
@@ -52,14 +52,6 @@ use Rattle.stock.specs.Spaces.{IsCacheAt, QuantumCacheState, SpacePlan, SpaceSta
 use Rattle.stock.specs.Steps.{OnSlab}
 use Rattle.stock.specs.Stocks.{IsStock}
 use Rattle.arena_tree.specs.declared.part_faults.ClimbFault.TheVariants as climbing
-
--- a chunk behind the colour fits in the slab
-chunk_within : (slab chunk colour : ℕ) → 0 < chunk → chunk ≤ slab → colour ≤ slab - slab / chunk * chunk → colour + chunk ≤ slab
-chunk_within slab chunk colour some room fits =
-    let one : 1 ≤ slab / chunk = (le-div_iff_mul-le {k = chunk} {x = 1} {y = slab} some).1 (omega (arith, room)) in
-    let more : 1 * chunk ≤ slab / chunk * chunk = mul-le-mul_right chunk one in
-    let less : slab / chunk * chunk ≤ slab = div-mul-le_self slab chunk in
-    omega (arith, more, less, fits)
 
 -- so many quanta are of one number
 same_quanta : (i j quantum : ℕ) → 0 < quantum → (i + 1) * quantum ≡ (j + 1) * quantum → i ≡ j
@@ -169,12 +161,12 @@ module _ (d : Picture) (index : ℕ) (x : TreeArena) (q : Request) (s : LocalSta
         given : IsServedOf (nodes_of d.tree) level q.size t
         given = subst (λ z. IfOk z (IsServed (nodes_of d.tree) (level ∷ above) q.size)) is (allocs.served d index x q s held here c found plain a run)
 
-        granted : CanServe d index x q → WasReachable d index t → CachesServe index x q t d then_d → IsHeld (hands_of (climb_left a)) then_d × SameSetup d then_d → IsFromCaches index x q d (Ok t) then_d
-        granted can was_there serves after =
+        granted : CanServe d index x q → CachesServe index x q t d then_d → IsHeld (hands_of (climb_left a)) then_d × SameSetup d then_d → IsFromCaches index x q d (Ok t) then_d
+        granted can serves after =
             let fits : Fits x.quantum q t.holding.range.base t.holding.range.len = subst (λ z. Fits x.quantum z t.holding.range.base t.holding.range.len) (sym ((plain_is_of_its_size q).0 plain)) (subst (λ n. Fits n (plain_of q.size) t.holding.range.base t.holding.range.len) (allocs.quantum_of_index d.tree index x here) given.fits) in (
               good,
               can,
-              record { arena = given.of_arena; fits = fits; from = inr (inr (cached, was_there, serves)); names = (refl, refl) },
+              record { arena = given.of_arena; fits = fits; from = inr (inr (cached, serves)); names = (refl, refl) },
               subst (λ z. IsHeld (hands_of (climb_left z)) then_d) is after.0,
               after.1,
             )
@@ -193,11 +185,10 @@ module _ (d : Picture) (index : ℕ) (x : TreeArena) (q : Request) (s : LocalSta
             elim r.3 [
               | inl pops ↦
                   let among : IsAmong t (own_rounds f.own) = pops_among t f.own.cpu y pops.0 in
-                  granted (can_take (inl (among_some t (own_rounds f.own) among))) (own_reached d c found index j f law t given.of_arena among) (f.cache, f.own, mine, inl round) after
+                  granted (can_take (inl (among_some t (own_rounds f.own) among))) (f.cache, f.own, mine, inl round) after
               | inr swapped ↦
-                  let among = full_among t f.own.cpu swapped.1.0 y f.cache.depot e swapped.0 swapped.1.1 swapped.1.2 in
                   let full = full_some t f.own.cpu swapped.1.0 y f.cache.depot e swapped.0 swapped.1.1 swapped.1.2 in
-                  granted (can_take (inr (inl (swapped.1.1.sized, full)))) (depot_reached d c found index j f law t given.of_arena among) (f.cache, f.own, mine, inl round) after
+                  granted (can_take (inr (inl (swapped.1.1.sized, full)))) (f.cache, f.own, mine, inl round) after
             ]
 
         idle_given : IsIdle d.tree chain level q.size j was f sized law t s → IsFromCaches index x q d (Ok t) then_d
@@ -208,19 +199,7 @@ module _ (d : Picture) (index : ℕ) (x : TreeArena) (q : Request) (s : LocalSta
             let idle : WasIdle index j f.cache t d then_d = (on_own (LacksRounds f.cache.depot) y (with_slab z f.cache) cpu r.3, slab_becomes was index j f (λ m n. TakeOf m (Some t) n) z s.spaces (ap (λ (w : LocalState). w.spaces) r.2) r.4) in
             let takes = r.4.3 in
             let at : StandsAt r.4.0 r.4.2 f.cache.slab.slabs = (elim takes.next [ inl low ↦ low.stands | inr low ↦ low.1.stands ]) in
-            granted (can_take (inr (inr (some_idle f.cache.slab r.4.0 r.4.1 r.4.2 at takes.lowest))))
-            (idle_reached d c found index j f law t given.of_arena r.4.0 r.4.1 r.4.2 at takes.lowest (ap (λ (w : Tag). w.holding) takes.tag)) (f.cache, f.own, mine, inr (inl idle)) (lacks_kept y (with_slab z f.cache) r.3 cpu)
-
-        -- a unit of the first chunk is one of the span
-        cut_inside : (mid : List SpaceState) (span : Tag) (u : ℕ) → (cut : OnSlab index j (λ m n. (i : ℕ) × Adds i m n span t) mid s.spaces) → IsStock mid → Covers t.holding.range u → Covers span.holding.range u
-        cut_inside mid span u cut mid_law over =
-            let slab = cut.cache.slab in
-            let sound = ((mid_law index cut.space cut.at).caches j cut.cache cut.among).sound in
-            let adds = cut.does.1 in
-            let base : t.holding.range.base ≡ span.holding.range.base + slab.colour + 0 * chunk_of slab = ap (λ (w : Tag). w.holding.range.base) adds.tag in
-            let len : t.holding.range.len ≡ chunk_of slab = ap (λ (w : Tag). w.holding.range.len) adds.tag in
-            let fits : slab.colour + chunk_of slab ≤ slab.slab_size = chunk_within slab.slab_size (chunk_of slab) slab.colour sound.some sound.room sound.colour in
-            (omega (arith, base, over.0), omega (arith, base, len, fits, adds.size, over.1))
+            granted (can_take (inr (inr (some_idle f.cache.slab r.4.0 r.4.1 r.4.2 at takes.lowest)))) (f.cache, f.own, mine, inr (inl idle)) (lacks_kept y (with_slab z f.cache) r.3 cpu)
 
       lacks_chunks : (b : ClimbEnd) → (l : IsLast d.tree chain level q.size j was f sized law b s) → LacksChunks index j f.cache d then_d
       lacks_chunks b l = (on_own (LacksRounds f.cache.depot) l.0 f.cache l.3 l.1, none_idle f.cache.slab l.2)
@@ -233,13 +212,9 @@ module _ (d : Picture) (index : ℕ) (x : TreeArena) (q : Request) (s : LocalSta
             | inl cut ↦
                 let span = cut.0 in
                 let mid = cut.1 in
-                let reached = climbs_reach d held.tree held.plans law 4 index x.slab_size span mid cut.2 in
-                granted t is (inr (inl (plain, fewer_fit d.tree d.spaces index q.size x.slab_size held.tree law small (climbs_has chain x.slab_size span d.spaces mid law cut.2))))
-                (λ y at u over. inl (reached.free_for u (cut_inside t is mid span u cut.3 cut.4 over))) (f.cache, f.own, mine, inr (inr (lacks, inl (span, mid, cut.2, cut.3)))) after
+                granted t is (inr (inl (plain, fewer_fit d.tree d.spaces index q.size x.slab_size held.tree law small (climbs_has chain x.slab_size span d.spaces mid law cut.2)))) (f.cache, f.own, mine, inr (inr (lacks, inl (span, mid, cut.2, cut.3)))) after
             | inr climbed ↦
-                let reached = climbs_reach d held.tree held.plans law 4 index q.size t s.spaces climbed.1 in
-                granted t is (inr (inl (plain, climbs_has chain q.size t d.spaces s.spaces law climbed.1)))
-                (λ y at u over. inl (reached.free_for u over)) (f.cache, f.own, mine, inr (inr (lacks, inr (climbed.0, climbed.1)))) after
+                granted t is (inr (inl (plain, climbs_has chain q.size t d.spaces s.spaces law climbed.1))) (f.cache, f.own, mine, inr (inr (lacks, inr (climbed.0, climbed.1)))) after
           ]
 
       -- where the cache has none, no cache for the size has one

@@ -34,6 +34,9 @@ pub mod Lengths
 pub mod Takings
 pub mod ReapEvents
 pub mod ReapWalks
+pub mod ReapCaches
+pub mod ReapOrder
+pub mod ReapPlans
 pub mod CachedUnits
 pub mod ReapLaws
 pub mod Emptied
@@ -41,4 +44,5 @@ pub mod AllocSteps
 pub mod SlabSteps
 pub mod Reached
 pub mod CachedLaws
+pub mod CachedReach
 pub mod LawProofs

@@ -9,7 +9,7 @@ use Rattle.deed_core.specs.Weights.{of_arena}
 use Rattle.lease_machine.proofs.CpuRows.{rounds_flat}
 use Rattle.lease_machine.proofs.Focus.{Focus}
 use Rattle.lease_machine.specs.Picture.{NumberedCpu, Picture, is_cpu}
-use Rattle.lease_machine.specs.Serving.{WasReachable, all_or_none}
+use Rattle.lease_machine.specs.AnswerLaws.{WasReachable, caches_or_none}
 use Rattle.local_parts.specs.Cpus.{cpu_rounds}
 use Rattle.stock.specs.OwnCaches.{all_own_rounds, own_rounds}
 use Rattle.magazine_layer.specs.Depots.{DepotState, SwapsForFull, all_rounds, depot_rounds}
@@ -139,14 +139,14 @@ module _ (d : Picture) (c : NumberedCpu) (found : find (is_cpu d.selected) d.cpu
   mine : (k u : ℕ) → t.arena ≡ k → Covers t.holding.range u → unit k u t ≡ 1
   mine k u is over = ap (λ b. cond b (covers_held u t.holding) 0) ((Decides-eqb t.arena k).1 is) ∙ (counts_the_unit u t.holding.range).1.1 over
 
-  rounds_here : all_own_rounds (all_or_none (find (is_cpu d.selected) d.cpus)) ≡ cpu_rounds c.caches
-  rounds_here = ap (λ o. all_own_rounds (all_or_none o)) found ∙ sym (rounds_flat c.caches)
+  rounds_here : all_own_rounds (caches_or_none (find (is_cpu d.selected) d.cpus)) ≡ cpu_rounds c.caches
+  rounds_here = ap (λ o. all_own_rounds (caches_or_none o)) found ∙ sym (rounds_flat c.caches)
 
   pub own_reached : IsAmong t (own_rounds f.own) → WasReachable d index t
   own_reached among s at u over =
       let k : ℕ = s.arena.id in
       let is : t.arena ≡ k = home ∙ sym (law index s at).id in
-      let rounds : List Tag = all_own_rounds (all_or_none (find (is_cpu d.selected) d.cpus)) in
+      let rounds : List Tag = all_own_rounds (caches_or_none (find (is_cpu d.selected) d.cpus)) in
       inr (omega (
         arith,
         mine k u is over,
@@ -169,7 +169,7 @@ module _ (d : Picture) (c : NumberedCpu) (found : find (is_cpu d.selected) d.cpu
   depot_reached among s at u over =
       let g : Tag → ℕ = λ x. covers_held u x.holding in
       let depot : DepotState = f.cache.depot in
-      let rounds : List Tag = all_own_rounds (all_or_none (find (is_cpu d.selected) d.cpus)) in
+      let rounds : List Tag = all_own_rounds (caches_or_none (find (is_cpu d.selected) d.cpus)) in
       inr (omega (
         arith,
         (counts_the_unit u t.holding.range).1.1 over,

@@ -20,8 +20,6 @@ use Rattle.stock.specs.Stocks.{IsStock}
 use Rattle.stock_audit.specs.Chains.{IsFreeFor, free, free_above}
 use Rattle.lease_machine.specs.Picture.{Picture}
 use Rattle.lease_machine.specs.Moves.{Climbs, CarvesAt, ImportsAt}
-use Rattle.lease_machine.specs.Machine.{demand_of}
-use Rattle.lease_machine.specs.AnswerLaws.{GrantsWereReachable}
 
 -- a unit that a member covers is covered
 covered_once : (u : ℕ) (hs : List Holding) (h : Holding) → Contains hs h → Covers h.range u → 0 < covering_held u hs
@@ -109,7 +107,7 @@ module _ (d : Picture) (tree : IsTree d.tree) (plans : plans_of d.spaces ≡ pla
     pub top : t.holding.range.len ≤ 2 ^ 62
 
   -- by one carve
-  carve_reaches : (k : ℕ) (q : Request) (t : Tag) (new : List SpaceState) → CarvesAt k q t d.spaces new → (u : ℕ) → Covers t.holding.range u → IsFreeFor d.spaces u k
+  pub carve_reaches : (k : ℕ) (q : Request) (t : Tag) (new : List SpaceState) → CarvesAt k q t d.spaces new → (u : ℕ) → Covers t.holding.range u → IsFreeFor d.spaces u k
   carve_reaches k q t new o u over =
       let carves = o.does.carves in
       free k o.space o.at (covered_once u o.space.arena.free carves.range carves.among (omega (arith, carves.inside.from, over.0), omega (arith, carves.inside.to, over.1)))
@@ -165,10 +163,3 @@ module _ (d : Picture) (tree : IsTree d.tree) (plans : plans_of d.spaces ≡ pla
   pub climbs_reach : (m : ℕ) → ReachesAll m
   climbs_reach zero p n t new climbs = absurd climbs
   climbs_reach (suc m) p n t new climbs = on_reaches m (climbs_reach m) p n t new (slice_get d.tree p) refl climbs
-
-pub grants_were_reachable : GrantsWereReachable
-grants_were_reachable old new id l r is g s at u over = elim g.serves.from [
-  | inl carved ↦ inl (carve_reaches old is.tree is.plans is.units.parts g.index (demand_of l) g.segment new.spaces carved.1 u over)
-  | inr (inl climbed) ↦ inl ((climbs_reach old is.tree is.plans is.units.parts 4 g.index l.size g.segment new.spaces climbed.2).free_for u over)
-  | inr (inr cached) ↦ cached.1 s at u over
-]

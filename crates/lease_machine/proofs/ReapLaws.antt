@@ -1,8 +1,8 @@
 -- What a reaping comes to for a picture.
-use Rattle.std.proofs.Common.{All, ◌≡◌, ℕ, ◌+◌, ◌-◌, ◌*◌, ◌<◌, ◌≤◌, zero, suc, List, [], ◌∷◌, Some, None, Ok, drop, find, length, map, inl, inr, refl, sym, ap, subst, ◌∙◌, arith}
+use Rattle.std.proofs.Common.{All, ◌≡◌, ℕ, ◌+◌, ◌-◌, ◌*◌, ◌<◌, ◌≤◌, zero, suc, List, [], ◌∷◌, ◌++◌, Some, None, Ok, drop, find, length, map, inl, inr, refl, sym, ap, subst, ◌∙◌, append_assoc, arith}
 use Rattle.std.specs.Prelude.{slice_get}
-use Rattle.std.proofs.lemmas.List.{length-map}
-use Rattle.deed_core.proofs.LawProofs.{all_from, mapped, slice_get_mapped, slice_get_one}
+use Rattle.std.proofs.lemmas.List.{append-nil, length-map}
+use Rattle.deed_core.proofs.LawProofs.{all_from}
 use Rattle.arena_tree.specs.declared.limits.TheConstants.{MOST_CACHES}
 use Rattle.magazine_layer.specs.Depots.{DepotState, CanReap}
 use Rattle.stock.specs.Setups.{plan_for}
@@ -17,25 +17,23 @@ use Rattle.local_calls.specs.Reaped.{HasNoneToReap, NoneToReap}
 use Rattle.local_calls.specs.Runs.{RunsTo}
 use Rattle.local_calls.proofs.LawProofs.{reap_leaves_nothing, reap_takes_few_looks}
 use Rattle.lease_machine.specs.Held.{IsHeld, with_parts}
-use Rattle.lease_machine.specs.Moves.{outline_of}
-use Rattle.lease_machine.specs.Operators.{IsReapedOut, LosesSlabs, LosesSpans, ReapsAll, ReapsSome, after_reap, cached_units, depots_of, depots_after_reap, rover_of}
+use Rattle.lease_machine.specs.Moves.{ReturnAll, arenas_with, outlines_of, slab_outlines}
+use Rattle.lease_machine.specs.Operators.{IsReapedOut, PartsAlone, ReapsAll, after_reap, cached_units, depots_of, depots_after_reap, outlines_after_reap, slabs_after_reap, spans_of_cache, spans_to_go}
 use Rattle.lease_machine.specs.Picture.{NumberedCpu, Picture, SameSetup, held_outside, is_cpu}
-use Rattle.lease_machine.specs.ReapLaws.{ReapedTo, ReapReaps, ReapsNone, ReapingsAdd}
+use Rattle.lease_machine.specs.ReapLaws.{ReapedTo, ReapReaps, ReapsNone, ReapsSome, ReapingsAdd}
 use Rattle.lease_machine.proofs.CachedUnits.{units_gone}
 use Rattle.lease_machine.proofs.FreeLaws.{cpus_same, parts_are, selected_then}
 use Rattle.lease_machine.proofs.HeldLaws.{local, reach, there_is}
+use Rattle.lease_machine.proofs.ReapCaches.{no_rounds, none_goes, none_there}
+use Rattle.lease_machine.proofs.ReapOrder.{Went, cache_count, goes_nothing, return_all_then, with_own}
+use Rattle.lease_machine.proofs.ReapPlans.{reap_went}
 use Rattle.lease_machine.proofs.ReapWalks.{Leaves, reap_leaves}
-use Rattle.lease_machine.proofs.Takings.{Takes, loses_none, loses_then, keeps_spans, spans_then}
 use Rattle.lease_machine.proofs.XallocLaws.{held_same}
 
 -- what gives the same of each
 map_alike : {X Y : Type 0} (f g : X → Y) (xs : List X) → ((k : ℕ) (x : X) → slice_get xs k ≡ Some x → f x ≡ g x) → map f xs ≡ map g xs
 map_alike f g [] each = refl
 map_alike f g (x ∷ xs) each = (let rest = map_alike f g xs (λ k y at. each (suc k) y at) in let first = each 0 x refl in λ i. first i ∷ rest i)
-
-none_there : {X : Type 0} (xs : List X) → ¬ (0 < length xs) → xs ≡ []
-none_there [] none = refl
-none_there (x ∷ xs) none = absurd (none (omega arith))
 
 -- a depot of which nothing may be reaped is as reaping leaves it
 settled : (d : DepotState) → ¬ CanReap d → d.empty_reapable ≡ 0 → after_reap d ≡ d
@@ -76,6 +74,31 @@ all_settled spaces none = map_alike depots_of depots_after_reap spaces (λ k s a
 all_out : (spaces : List SpaceState) → NoneToReap spaces → All (λ (s : SpaceState). All IsReapedOut s.caches) spaces
 all_out spaces none = all_from (λ (s : SpaceState). All IsReapedOut s.caches) spaces (λ k s at. all_from IsReapedOut s.caches (λ j c among. (let has = none k j c (record { space = s; at = at; among = among }) in record { rounds = has.rounds; slabs = has.slabs })))
 
+-- nothing goes, and all slabs stay
+module _ (spaces : List SpaceState) (none : NoneToReap spaces) where
+  nothing : (k j : ℕ) (c : QuantumCacheState) → IsCacheAt spaces k j c → (spans_of_cache c ≡ []) × (slabs_after_reap c ≡ slab_outlines c)
+  nothing k j c there = let has = none k j c there in none_goes c (no_rounds c.depot has.rounds) has.slabs
+
+  all_went : spans_to_go spaces ≡ []
+  all_went = goes_nothing spaces (λ k j c there. (nothing k j c there).0)
+
+  all_stay : map outlines_of spaces ≡ map outlines_after_reap spaces
+  all_stay = map_alike outlines_of outlines_after_reap spaces (λ k s at. map_alike slab_outlines slabs_after_reap s.caches (λ j c among. sym (nothing k j c (record { space = s; at = at; among = among })).1))
+
+-- so that what was reaped is all that was to be
+some_is_all : (units : ℕ) (old new : Picture) → ReapsSome units old new → NoneToReap new.spaces → ReapsAll units old new
+some_is_all units old new some none = record {
+  parts = some.parts;
+  units_are = some.units_are;
+  depots = all_settled new.spaces none ∙ some.depots;
+  slabs = all_stay new.spaces none ∙ some.slabs;
+  returns = (
+      let whole : some.went ≡ spans_to_go old.spaces = sym (some.first ∙ (ap (λ ts. some.went ++ ts) (all_went new.spaces none) ∙ append-nil some.went)) in
+      subst (λ ts. ReturnAll ts (arenas_with old.spaces new.spaces) new.spaces) whole (subst (ReturnAll some.went (arenas_with old.spaces new.spaces)) (with_own new.spaces) (some.returns new.spaces))
+      );
+  left = all_out new.spaces none;
+}
+
 module _ (d : Picture) (limit : ℕ) (s : LocalState) (r : Reaping) (held : IsHeld [] d) (c : NumberedCpu) (found : find (is_cpu d.selected) d.cpus ≡ Some c) (run : RunsTo d.tree (reap_plan d.tree limit) (reach d d.selected c found None held) s (Ok r)) where
   abbrev was : LocalState
   was = reach d d.selected c found None held
@@ -83,8 +106,8 @@ module _ (d : Picture) (limit : ℕ) (s : LocalState) (r : Reaping) (held : IsHe
   leaves : Leaves r.units was s
   leaves = reap_leaves d.tree limit r was s run
 
-  takes : Takes r.units d.spaces s.spaces
-  takes = leaves.takes held.units.parts
+  went : Went d.spaces s.spaces
+  went = reap_went d.tree held.tree limit r was s held.units.parts held.plans run
 
   after : IsHeld [] (with_parts s d) × SameSetup d (with_parts s d)
   after = held_same reap_left (reap_plan d.tree limit) d d.selected c found None held (reap_handles d.tree limit) s (Ok r) run leaves.cpu
@@ -101,36 +124,13 @@ module _ (d : Picture) (limit : ℕ) (s : LocalState) (r : Reaping) (held : IsHe
   held_plain = subst (IsHeld []) (sym plain_is) after.0
 
   same_length : length s.spaces ≡ length d.spaces
-  same_length = sym (length-map s.spaces rover_of) ∙ (ap length takes.rovers ∙ length-map d.spaces rover_of)
-
-  slabs : (k j : ℕ) (a x : QuantumCacheState) → IsCacheAt d.spaces k j a → IsCacheAt s.spaces k j x → LosesSlabs a.slab x.slab
-  slabs k j a x at there =
-      let y = takes.slabs k j x there in
-      let space : y.1.space ≡ at.space = slice_get_one d.spaces k y.1.space at.space y.1.at at.at in
-      let same : y.0 ≡ a = slice_get_one at.space.caches j y.0 a (ap (λ (z : SpaceState). slice_get z.caches j) (sym space) ∙ y.1.among) at.among in
-      subst (λ (z : QuantumCacheState). LosesSlabs z.slab x.slab) same y.2
-
-  spans : (k : ℕ) (a x : SpaceState) → slice_get d.spaces k ≡ Some a → slice_get s.spaces k ≡ Some x → LosesSpans a x
-  spans k a x at there =
-      let y = takes.spans k x there in
-      let same : y.0 ≡ a = slice_get_one d.spaces k y.0 a y.1 at in
-      subst (λ (z : SpaceState). LosesSpans z x) same y.2
+  same_length = sym (length-map s.spaces cache_count) ∙ (ap length went.counts ∙ length-map d.spaces cache_count)
 
   units : cached_units d ≡ cached_units plain + r.units
-  units = units_gone d.spaces s.spaces (held_outside d) r.units held.units held_plain.units same_length takes.weigh
+  units = units_gone d.spaces s.spaces (held_outside d) r.units held.units held_plain.units same_length leaves.takes.weigh
 
-  reaps_all : 0 < r.left → ReapsAll r.units d plain
-  reaps_all some =
-      let none = reap_leaves_nothing d.tree limit was s r (local d d.selected c found None held) run some in
-      record {
-        parts = refl;
-        units_are = units;
-        depots = all_settled s.spaces none ∙ takes.depots;
-        slabs = slabs;
-        rovers = takes.rovers;
-        spans = spans;
-        left = all_out s.spaces none;
-      }
+  reaps_some : ReapsSome r.units d plain
+  reaps_some = record { parts = refl; units_are = units; depots = leaves.takes.depots; slabs = went.slabs; went = went.went; first = went.first; returns = went.returns }
 
   looks : limit + finds_in_spaces s.spaces ≤ r.left + finds_in_spaces d.spaces + 2 * MOST_CACHES * length d.tree
   looks =
@@ -140,8 +140,8 @@ module _ (d : Picture) (limit : ℕ) (s : LocalState) (r : Reaping) (held : IsHe
 
   pub reaped : ReapedTo limit d r s
   reaped = record {
-    some = subst (ReapsSome r.units d) plain_is (record { parts = refl; units_are = units; depots = takes.depots; slabs = slabs; rovers = takes.rovers; spans = spans });
-    all = λ some. subst (ReapsAll r.units d) plain_is (reaps_all some);
+    some = subst (ReapsSome r.units d) plain_is reaps_some;
+    all = λ some. subst (ReapsAll r.units d) plain_is (some_is_all r.units d plain reaps_some (reap_leaves_nothing d.tree limit was s r (local d d.selected c found None held) run some));
     held = after.0;
     setup = after.1;
     parts = (let cpu = sym (selected_then d c found s) in λ i. record { spaces = s.spaces; cpu = cpu i });
@@ -155,68 +155,31 @@ reap_reaps d limit s r held run =
 
 -- one reaping after another
 pub reaps_none : ReapsNone
-reaps_none d = record {
-  parts = refl;
-  units_are = omega arith;
-  depots = refl;
-  slabs = λ k j c x at there. (
-      let space : there.space ≡ at.space = slice_get_one d.spaces k there.space at.space there.at at.at in
-      let same : x ≡ c = slice_get_one at.space.caches j x c (ap (λ (z : SpaceState). slice_get z.caches j) (sym space) ∙ there.among) at.among in
-      loses_none c.slab x.slab (ap (λ (z : QuantumCacheState). map outline_of z.slab.slabs) same) (ap (λ (z : QuantumCacheState). record z.slab { slabs = x.slab.slabs }) same)
-      );
-  rovers = refl;
-  spans = λ k s x at there. (let same : x ≡ s = slice_get_one d.spaces k x s there at in keeps_spans s x (ap (λ (z : SpaceState). z.arena) same));
-}
-
--- an arena stands where one stood that was seen so
-space_stood : {Y : Type 0} (old new : List SpaceState) (see after : SpaceState → Y) → map see new ≡ map after old → (k : ℕ) (x : SpaceState) → slice_get new k ≡ Some x → (z : SpaceState) × (slice_get old k ≡ Some z)
-space_stood old new see after same k x at =
-    let m = mapped after old k (see x) (ap (λ ls. slice_get ls k) (sym same) ∙ slice_get_mapped see new k x at) in
-    (m.0, m.1)
-
--- a cache stands where one stood whose depot was left so
-stood : (old new : List SpaceState) (see : SpaceState → List DepotState) → map see new ≡ map depots_after_reap old → (k j : ℕ) (s : SpaceState) (y : DepotState) → slice_get new k ≡ Some s → slice_get (see s) j ≡ Some y → (z : QuantumCacheState) × IsCacheAt old k j z
-stood old new see same k j s y at among =
-    let there : slice_get (map depots_after_reap old) k ≡ Some (see s) = ap (λ ls. slice_get ls k) (sym same) ∙ slice_get_mapped see new k s at in
-    let space = mapped depots_after_reap old k (see s) there in
-    let one : slice_get (depots_after_reap space.0) j ≡ Some y = ap (λ ds. slice_get ds j) (sym space.2) ∙ among in
-    let depot = mapped after_reap (depots_of space.0) j y one in
-    let cache = mapped (λ (c : QuantumCacheState). c.depot) space.0.caches j depot.0 depot.1 in
-    (cache.0, record { space = space.0; at = space.1; among = cache.1 })
+reaps_none d = record { parts = refl; units_are = omega arith; depots = refl; slabs = refl; went = []; first = refl; returns = λ others. refl }
 
 pub reapings_add : ReapingsAdd
-reapings_add m n d e f first = (some, all)
+reapings_add m n d e f one = (some, all)
   where
-    slabs_then : ((k j : ℕ) (x : QuantumCacheState) → IsCacheAt f.spaces k j x → (z : QuantumCacheState) × IsCacheAt e.spaces k j z) → ((k j : ℕ) (c x : QuantumCacheState) → IsCacheAt e.spaces k j c → IsCacheAt f.spaces k j x → LosesSlabs c.slab x.slab)
-        → (k j : ℕ) (c x : QuantumCacheState) → IsCacheAt d.spaces k j c → IsCacheAt f.spaces k j x → LosesSlabs c.slab x.slab
-    slabs_then mid second k j c x at there =
-        let y = mid k j x there in
-        loses_then c.slab y.0.slab x.slab (first.slabs k j c y.0 at y.1) (second k j y.0 x y.1 there)
-
-    spans_between : map rover_of f.spaces ≡ map rover_of e.spaces → ((k : ℕ) (s x : SpaceState) → slice_get e.spaces k ≡ Some s → slice_get f.spaces k ≡ Some x → LosesSpans s x)
-        → (k : ℕ) (s x : SpaceState) → slice_get d.spaces k ≡ Some s → slice_get f.spaces k ≡ Some x → LosesSpans s x
-    spans_between rovers second k s x at there =
-        let y = space_stood e.spaces f.spaces rover_of rover_of rovers k x there in
-        spans_then s y.0 x (first.spans k s y.0 at y.1) (second k y.0 x y.1 there)
+    parts_then : PartsAlone e f → PartsAlone d f
+    parts_then second = second ∙ ap (λ (z : Picture). record z { spaces = f.spaces }) one.parts
 
     some : ReapsSome n e f → ReapsSome (m + n) d f
-    some second = record {
-      parts = second.parts ∙ ap (λ (z : Picture). record z { spaces = f.spaces }) first.parts;
-      units_are = omega (arith, first.units_are, second.units_are);
-      depots = second.depots ∙ first.depots;
-      slabs = slabs_then (λ k j x there. stood e.spaces f.spaces depots_after_reap second.depots k j there.space (after_reap x.depot) there.at
-          (slice_get_mapped after_reap (depots_of there.space) j x.depot (slice_get_mapped (λ (c : QuantumCacheState). c.depot) there.space.caches j x there.among))) second.slabs;
-      rovers = second.rovers ∙ first.rovers;
-      spans = spans_between second.rovers second.spans;
+    some two = record {
+      parts = parts_then two.parts;
+      units_are = omega (arith, one.units_are, two.units_are);
+      depots = two.depots ∙ one.depots;
+      slabs = two.slabs ∙ one.slabs;
+      went = one.went ++ two.went;
+      first = one.first ∙ (ap (λ ts. one.went ++ ts) two.first ∙ sym (append_assoc one.went two.went (spans_to_go f.spaces)));
+      returns = λ others. return_all_then one.went two.went (arenas_with d.spaces others) (arenas_with e.spaces others) (arenas_with f.spaces others) (one.returns others) (two.returns others);
     }
 
     all : ReapsAll n e f → ReapsAll (m + n) d f
-    all second = record {
-      parts = second.parts ∙ ap (λ (z : Picture). record z { spaces = f.spaces }) first.parts;
-      units_are = omega (arith, first.units_are, second.units_are);
-      depots = second.depots ∙ first.depots;
-      slabs = slabs_then (λ k j x there. stood e.spaces f.spaces depots_of second.depots k j there.space x.depot there.at (slice_get_mapped (λ (c : QuantumCacheState). c.depot) there.space.caches j x there.among)) second.slabs;
-      rovers = second.rovers ∙ first.rovers;
-      spans = spans_between second.rovers second.spans;
-      left = second.left;
+    all two = record {
+      parts = parts_then two.parts;
+      units_are = omega (arith, one.units_are, two.units_are);
+      depots = two.depots ∙ one.depots;
+      slabs = two.slabs ∙ one.slabs;
+      returns = subst (λ ts. ReturnAll ts (arenas_with d.spaces f.spaces) f.spaces) (sym one.first) (return_all_then one.went (spans_to_go e.spaces) (arenas_with d.spaces f.spaces) (arenas_with e.spaces f.spaces) f.spaces (one.returns f.spaces) two.returns);
+      left = two.left;
     }

@@ -26,16 +26,16 @@ use Rattle.lease_machine.proofs.ReapEvents.{free_takes, put_takes, depot_takes, 
 -- so many units of slabs were taken out, and the CPU's caches are as they were
 pub record Leaves (units : ℕ) (old new : LocalState) : Type 0 where
   pub stock : IsStock old.spaces → IsStock new.spaces
-  pub takes : IsStock old.spaces → Takes units old.spaces new.spaces
+  pub takes : Takes units old.spaces new.spaces
   pub cpu : new.cpu ≡ old.cpu
 
 leaves_none : (s : LocalState) → Leaves 0 s s
-leaves_none s = record { stock = λ law. law; takes = λ law. takes_none s.spaces; cpu = refl }
+leaves_none s = record { stock = λ law. law; takes = takes_none s.spaces; cpu = refl }
 
 leaves_then : (m n : ℕ) (s t u : LocalState) → Leaves m s t → Leaves n t u → Leaves (m + n) s u
 leaves_then m n s t u first second = record {
   stock = λ law. second.stock (first.stock law);
-  takes = λ law. takes_then m n s.spaces t.spaces u.spaces (first.takes law) (second.takes (first.stock law));
+  takes = takes_then m n s.spaces t.spaces u.spaces first.takes second.takes;
   cpu = second.cpu ∙ first.cpu;
 }
 
@@ -62,7 +62,7 @@ module _ (arenas : List TreeArena) where
   unfolding put_chunk
   put_leaves t old mid new r before run =
       let step = run.2.step in
-      let put : Leaves 0 mid run.0 = record { stock = λ law. step.stock; takes = λ law. put_takes mid.spaces run.0.spaces t run.1 step.does.0; cpu = step.does.1 } in
+      let put : Leaves 0 mid run.0 = record { stock = λ law. step.stock; takes = put_takes mid.spaces run.0.spaces t run.1 step.does.0; cpu = step.does.1 } in
       let all : Leaves 0 old new = subst (Leaves 0 old) run.3.0 (none_then 0 old mid run.0 before put) in
       subst (LookLeaves old new) run.3.1 (returned_leaves old new 0 (on_slab_put run.1) all)
 
@@ -75,7 +75,7 @@ module _ (arenas : List TreeArena) where
       mid = path.0
 
       leaves : (x : Result (Option Tag) Stopped) → SoundStep (nodes_of arenas) old (DepotReap k c) x mid → Leaves 0 old mid
-      leaves x step = record { stock = λ law. step.step.stock; takes = λ law. depot_takes old.spaces mid.spaces k c x step.step.does.0; cpu = step.step.does.1 }
+      leaves x step = record { stock = λ law. step.step.stock; takes = depot_takes old.spaces mid.spaces k c x step.step.does.0; cpu = step.step.does.1 }
 
       looked : (x : Result (Option Tag) Stopped) → SoundStep (nodes_of arenas) old (DepotReap k c) x mid → RunsTo arenas (on_depot_reap x) mid new r → LookLeaves old new r
       looked (Ok None) step rest = subst (LookLeaves old new) rest.1 (subst (Leaves 0 old) rest.0 (leaves (Ok None) step))
@@ -83,7 +83,7 @@ module _ (arenas : List TreeArena) where
       looked (Err e) step rest = absurd (let x : Err e ≡ Ok step.step.does.0.0 = step.step.does.0.1 in cc)
 
   -- spans that go back
-  frees_leave : (chain : List Level) (t : Tag) (old new : LocalState) (r : ReturnEnd) → RunsTo arenas (return_plan chain t) old new r → Leaves 0 old new
+  pub frees_leave : (chain : List Level) (t : Tag) (old new : LocalState) (r : ReturnEnd) → RunsTo arenas (return_plan chain t) old new r → Leaves 0 old new
   frees_leave [] t old new r path = subst (Leaves 0 old) path.0 (leaves_none old)
   frees_leave (l ∷ up) t old new r path = freed path.1 path.2 path.3 (λ w. frees_leave up w)
     where
@@ -91,7 +91,7 @@ module _ (arenas : List TreeArena) where
       mid = path.0
 
       leaves : (x : Result (Option Tag) (FreeFault Tag)) → SoundStep (nodes_of arenas) old (Free t) x mid → Leaves 0 old mid
-      leaves x step = record { stock = λ law. step.step.stock; takes = λ law. free_takes old.spaces mid.spaces t x step.step.does.0; cpu = step.step.does.1 }
+      leaves x step = record { stock = λ law. step.step.stock; takes = free_takes old.spaces mid.spaces t x step.step.does.0; cpu = step.step.does.1 }
 
       freed : (x : Result (Option Tag) (FreeFault Tag)) → SoundStep (nodes_of arenas) old (Free t) x mid → RunsTo arenas (on_free (return_plan up) x) mid new r → ((w : Tag) (s u : LocalState) (a : ReturnEnd) → RunsTo arenas (return_plan up w) s u a → Leaves 0 s u) → Leaves 0 old new
       freed (Ok (Some w)) step rest again = none_then 0 old mid new (leaves (Ok (Some w)) step) (again w mid new r rest)
@@ -109,10 +109,10 @@ module _ (arenas : List TreeArena) where
 
       looked : (x : Result (Option Tag) Stopped) → SoundStep (nodes_of arenas) old (SlabReap k c) x mid → RunsTo arenas (on_slab_reap chain x) mid new r → LookLeaves old new r
       looked (Ok None) step rest =
-          let leaves : Leaves 0 old mid = record { stock = λ law. step.step.stock; takes = λ law. slab_none_takes old.spaces mid.spaces k c step.step.does.0; cpu = step.step.does.1 } in
+          let leaves : Leaves 0 old mid = record { stock = λ law. step.step.stock; takes = slab_none_takes old.spaces mid.spaces k c step.step.does.0; cpu = step.step.does.1 } in
           subst (LookLeaves old new) rest.1 (subst (Leaves 0 old) rest.0 leaves)
       looked (Ok (Some t)) step rest =
-          let leaves : Leaves t.holding.range.len old mid = record { stock = λ law. step.step.stock; takes = λ law. slab_some_takes old.spaces mid.spaces k c t law step.step.does.0; cpu = step.step.does.1 } in
+          let leaves : Leaves t.holding.range.len old mid = record { stock = λ law. step.step.stock; takes = slab_some_takes old.spaces mid.spaces k c t step.step.does.0; cpu = step.step.does.1 } in
           let split = path_split (SoundStep (nodes_of arenas)) (return_plan chain t) (λ a. Done (on_return t.holding.range.len a)) mid new r rest in
           let all : Leaves t.holding.range.len old new = subst (Leaves t.holding.range.len old) split.3.0 (then_none t.holding.range.len old mid split.0 leaves (frees_leave chain t mid split.0 split.1 split.2)) in
           subst (LookLeaves old new) split.3.1 (returned_leaves old new t.holding.range.len split.1 all)
@@ -154,7 +154,7 @@ module _ (arenas : List TreeArena) where
       looked m (Err f) first rest again = absurd (let e : Err _ ≡ Ok y = rest.1 in cc)
 
   -- what goes on after an end that is well
-  ok_on : {X F : Type 0} (p : Plan (Result X F)) (next : X → Plan (Result X F)) (y : X) (old new : LocalState) → RunsTo arenas (then p (if_ok next)) old new (Ok y) → (m : LocalState) × (z : X) × RunsTo arenas p old m (Ok z) × RunsTo arenas (next z) m new (Ok y)
+  pub ok_on : {X F : Type 0} (p : Plan (Result X F)) (next : X → Plan (Result X F)) (y : X) (old new : LocalState) → RunsTo arenas (then p (if_ok next)) old new (Ok y) → (m : LocalState) × (z : X) × RunsTo arenas p old m (Ok z) × RunsTo arenas (next z) m new (Ok y)
   ok_on {X} {F} p next y old new path =
       let split = path_split (SoundStep (nodes_of arenas)) p (if_ok next) old new (Ok y) path in
       on split.0 split.1 split.2 split.3

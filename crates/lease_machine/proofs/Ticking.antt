@@ -125,12 +125,8 @@ pub ticks_keep : TicksKeep
 ticks_keep d is = (picture_stays d is, record { tree = refl; owned = maps_same ticked owned_spans (λ s. refl) d.spaces })
 
 pub ticks_are_answered : TicksAreAnswered
-ticks_are_answered d line is read = (
-  ok_text,
-  after d is,
-  record {
-    answer = subst (λ (y : Result ServedLine LineFault). AnswersLine d y ok_text (after d is)) (sym read) (inl (refl, refl));
-    setup = record { tree = refl; owned = maps_same ticked owned_spans (λ s. refl) d.spaces };
-    picture = picture_stays d is;
-  },
-)
+ticks_are_answered d line is read = record {
+  answer = subst (λ (y : Result ServedLine LineFault). AnswersLine d y ok_text (after d is)) (sym read) (inl (refl, refl));
+  setup = record { tree = refl; owned = maps_same ticked owned_spans (λ s. refl) d.spaces };
+  picture = picture_stays d is;
+}

@@ -1,8 +1,15 @@
 -- What follows for the answers to requests.
-use Rattle.std.specs.Prelude.{◌≡◌, ◌≢◌, ◌⊎◌, ℕ, List, All, Some, Ok, Err, slice_get, true}
-use Rattle.std.specs.List.{AllByRecursion}
+use Rattle.std.specs.Prelude.{◌≡◌, ◌≢◌, ◌⊎◌, ℕ, List, [], All, Option, Some, None, Ok, Err}
+use Rattle.std.specs.Prelude.{slice_get, true}
+use Rattle.std.specs.List.{find, AllByRecursion}
+use Rattle.deed_core.specs.Extent.{Covers}
+use Rattle.deed_core.specs.Tag.{Tag}
 use Rattle.deed_core.specs.Request.{Fits}
 use Rattle.arena_tree.specs.declared.trees.TreeArena.{TreeArena}
+use Rattle.stock.specs.Spaces.{SpaceState}
+use Rattle.stock.specs.OwnCaches.{OwnCacheState}
+use Rattle.stock_audit.specs.Outside.{Outside, outside}
+use Rattle.stock_audit.specs.Chains.{IsReachable}
 use Rattle.lease_terms.specs.Names.{is_name}
 use Rattle.lease_terms.specs.Requests.{RequestId}
 use Rattle.lease_proto.specs.declared.lines.Line.{Line}
@@ -22,8 +29,7 @@ use Rattle.lease_book.specs.BookState.{account_in}
 use Rattle.lease_book.specs.Answers.{IsNew}
 use Rattle.lease_book.specs.declared.receipts.Terms.{Terms}
 use Rattle.lease_book.specs.declared.receipts.KeptReply.TheVariants as kept
-use Rattle.lease_machine.specs.Picture.{Picture, IsPicture, Finds}
-use Rattle.lease_machine.specs.Serving.{WasReachable}
+use Rattle.lease_machine.specs.Picture.{NumberedCpu, Picture, IsPicture, Finds, is_cpu, caches_of}
 use Rattle.lease_machine.specs.Machine.{LeaseStep, Grants, demand_of}
 use Rattle.lease_machine.specs.Laws.{Runs}
 
@@ -135,8 +141,21 @@ abbrev pub KeptGrantsFit : Type 0
 KeptGrantsFit = (d : Picture) (c : ℕ) (k : Kept) → IsPicture d
     → (account_in c d.book).kept ≡ Some k → IsFitting d k
 
--- what is granted was in reach: each unit of it was free in the arena or, outside its spans, in a
--- source, or it was in a slab, a depot or a magazine of the selected CPU
+abbrev pub caches_or_none : Option NumberedCpu → List OwnCacheState
+caches_or_none None = []
+caches_or_none (Some c) = caches_of c
+
+-- what the selected CPU has out of the parts
+abbrev pub selected_outside : Picture → Outside
+selected_outside d = outside [] [] (caches_or_none (find (is_cpu d.selected) d.cpus))
+
+-- each unit of the segment was free in the arena or, outside its spans, in a source, or it was in a
+-- slab, a depot or a magazine of the selected CPU
+abbrev pub WasReachable : Picture → ℕ → Tag → Type 0
+WasReachable d index t = (s : SpaceState) → slice_get d.spaces index ≡ Some s → (u : ℕ)
+    → Covers t.holding.range u → IsReachable d.spaces (selected_outside d) index s u
+
+-- what is granted was in reach
 abbrev pub GrantsWereReachable : Type 0
 GrantsWereReachable = (old new : Picture) (id : RequestId) (l : LeaseLine) (r : Reply)
     → IsPicture old → (g : Grants id l old new r) → WasReachable old g.index g.segment

@@ -10,7 +10,7 @@ use Rattle.arena_tree.specs.declared.levels.Level.{Level}
 use Rattle.arena_tree.specs.Chains.{amount_of}
 use Rattle.slab_layer.specs.Slab.{SlabState}
 use Rattle.slab_layer.specs.Cache.{SlabCacheState}
-use Rattle.stock.specs.Spaces.{SpaceState, QuantumCacheState}
+use Rattle.stock.specs.Spaces.{SpaceState, QuantumCacheState, with_caches}
 use Rattle.stock.specs.Steps.{OnArena}
 use Rattle.lease_machine.specs.Picture.{Picture, is_cpu}
 
@@ -50,6 +50,17 @@ pub data Returns (new : List SpaceState) : Tag → List SpaceState → Type 0 wh
   rises : (t whole : Tag) (old mid : List SpaceState)
       → OnArena t.arena (λ a b. WasFreed a t (Some whole) b) old mid → Returns new whole mid
       → Returns new t old
+
+-- these segments went back so, one after another
+abbrev pub ReturnAll : List Tag → List SpaceState → List SpaceState → Type 0
+ReturnAll [] old new = new ≡ old
+ReturnAll (t ∷ ts) old new = (mid : List SpaceState) × Returns mid t old × ReturnAll ts mid new
+
+-- these arenas, with the caches of those
+abbrev pub arenas_with : List SpaceState → List SpaceState → List SpaceState
+arenas_with [] others = []
+arenas_with (s ∷ spaces) [] = with_caches [] s ∷ arenas_with spaces []
+arenas_with (s ∷ spaces) (x ∷ others) = with_caches x.caches s ∷ arenas_with spaces others
 
 -- nothing changed, or what was carved for the request went back
 abbrev pub CarvesInVain : ℕ → Request → List SpaceState → List SpaceState → Type 0

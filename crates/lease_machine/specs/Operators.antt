@@ -1,16 +1,17 @@
 -- What an operator's line is answered.
-use Rattle.std.specs.Prelude.{◌≡◌, ◌≢◌, ◌⊎◌, ℕ, ◌+◌, ◌-◌, ◌<◌, Bool, List, [], ◌∷◌, ◌++◌, All}
-use Rattle.std.specs.Prelude.{Any, false, map, filter, drop, set}
-use Rattle.std.specs.Prelude.{nat_lt, if◌then◌else◌, sum_by, slice_get, Some, None}
+use Rattle.std.specs.Prelude.{◌≡◌, ◌≢◌, ◌⊎◌, ℕ, ◌+◌, ◌-◌, ◌<◌, ◌==◌, ◌&&◌, not, Bool, false}
+use Rattle.std.specs.Prelude.{List, [], ◌∷◌, ◌++◌, All, Any, map, filter, take, drop, set, length}
+use Rattle.std.specs.Prelude.{nat_lt, nat_le, if◌then◌else◌, sum_by, count_by, slice_get}
+use Rattle.std.specs.Prelude.{Some, None}
 use Rattle.std.specs.List.{find, flat_map, list_any}
-use Rattle.std.specs.FinMap as finmap
+use Rattle.deed_core.specs.Extent.{end_of}
 use Rattle.deed_core.specs.Tag.{Tag}
-use Rattle.slab_layer.specs.Slab.{SlabState, IsComplete}
-use Rattle.slab_layer.specs.Cache.{SlabCacheState}
-use Rattle.magazine_layer.specs.Depots.{DepotState, CanReap, after_tick, after_resize}
+use Rattle.slab_layer.specs.Slab.{SlabState, IsComplete, idle_count}
+use Rattle.slab_layer.specs.Cache.{SlabCacheState, span_tag}
+use Rattle.magazine_layer.specs.Depots.{DepotState, CanReap, after_tick, after_resize, all_rounds}
 use Rattle.arena_tree.specs.declared.trees.TreeArena.{TreeArena}
 use Rattle.arena_tree.specs.Trees.{index_in}
-use Rattle.stock.specs.Spaces.{SpaceState, QuantumCacheState, IsCacheAt, with_caches}
+use Rattle.stock.specs.Spaces.{SpaceState, QuantumCacheState, with_caches}
 use Rattle.stock.specs.Spaces.{with_depot}
 use Rattle.stock.specs.Sums.{Sums}
 use Rattle.stock_audit.specs.Audits.{sums_of_arena}
@@ -25,7 +26,8 @@ use Rattle.lease_proto.specs.Faults.{error_text}
 use Rattle.lease_proto.specs.Operators.{rounds_named}
 use Rattle.lease_proto.specs.Reports.{audit_text, client_text, reaped_text, ok_text}
 use Rattle.lease_machine.specs.Picture.{NumberedCpu, Picture, is_cpu, fresh_cpu, held_outside}
-use Rattle.lease_machine.specs.Moves.{ArenasStay, outline_of}
+use Rattle.lease_machine.specs.Moves.{ArenasStay, ReturnAll, arenas_with, outline_of}
+use Rattle.lease_machine.specs.Moves.{outlines_of}
 
 -- the CPUs with that one, which is made if it is new
 abbrev pub with_cpu : ℕ → Picture → List NumberedCpu
@@ -100,53 +102,60 @@ after_reap d = record d {
   draining = [];
 }
 
--- some slabs went; each other is as it was, but for which chunks are at home, and so is the colour
--- of the next
-pub record LosesSlabs (old new : SlabCacheState) : Type 0 where
-  pub stays : SlabState → Bool
-  pub slabs : map outline_of new.slabs ≡ filter stays (map outline_of old.slabs)
-  pub rest : new ≡ record old { slabs = new.slabs }
-
--- where the arena's next search begins
-abbrev pub rover_of : SpaceState → ℕ
-rover_of s = s.arena.rover
-
--- some of the spans that the arena imported went back to its source, and none came; and it is as it
--- was, or has fewer segments allocated
-pub record LosesSpans (old new : SpaceState) : Type 0 where
-  pub stays : Tag → Bool
-  pub imported : new.arena.imported ≡ filter stays old.arena.imported
-  pub arena : (new.arena ≡ old.arena)
-      ⊎ (finmap.len new.arena.allocated < finmap.len old.arena.allocated)
-
--- so many units, of whole slabs, went from the caches to their arenas, which import nothing for it
--- and search on from where they did, and nothing is left to reap
-pub record ReapsAll (units : ℕ) (old new : Picture) : Type 0 where
-  pub parts : PartsAlone old new
-  pub units_are : cached_units old ≡ cached_units new + units
-  pub depots : map depots_of new.spaces ≡ map (λ s. map after_reap (depots_of s)) old.spaces
-  pub slabs : (k j : ℕ) (c x : QuantumCacheState) → IsCacheAt old.spaces k j c
-      → IsCacheAt new.spaces k j x → LosesSlabs c.slab x.slab
-  pub rovers : map rover_of new.spaces ≡ map rover_of old.spaces
-  pub spans : (k : ℕ) (s x : SpaceState) → slice_get old.spaces k ≡ Some s
-      → slice_get new.spaces k ≡ Some x → LosesSpans s x
-  pub left : All (λ s. All IsReapedOut s.caches) new.spaces
-
 -- what reaping leaves of an arena's depots
 abbrev pub depots_after_reap : SpaceState → List DepotState
 depots_after_reap s = map after_reap (depots_of s)
 
--- the same of a reaping that may have been broken off: reaping leaves of the new depots what it
--- leaves of the old ones
-pub record ReapsSome (units : ℕ) (old new : Picture) : Type 0 where
+-- the rounds that a depot may let go: of the magazine being drained, of old sizes, and of the full
+-- magazines outside the working set
+abbrev pub rounds_to_go : DepotState → List Tag
+rounds_to_go d =
+    d.draining ++ (all_rounds d.old_full ++ all_rounds (take d.full_reapable d.full))
+
+-- the chunk lies in the slab
+abbrev pub is_in_slab : SlabState → Tag → Bool
+is_in_slab s t = nat_le s.span.range.base t.holding.range.base
+    && nat_lt t.holding.range.base (end_of s.span.range)
+
+-- each chunk of the slab is at home, or one of these rounds, which come home
+abbrev pub comes_whole : List Tag → SlabState → Bool
+comes_whole rounds s = (idle_count s + count_by (is_in_slab s) rounds) == length s.home
+
+-- so it is with the rounds that the cache's depot may let go
+abbrev pub goes : QuantumCacheState → SlabState → Bool
+goes c s = comes_whole (rounds_to_go c.depot) s
+
+-- the spans of the slabs that go: of a cache by their bases
+abbrev pub spans_of_cache : QuantumCacheState → List Tag
+spans_of_cache c = map (span_tag c.slab.arena) (filter (goes c) c.slab.slabs)
+
+-- of an arena, the caches from the least size
+abbrev pub spans_of_arena : SpaceState → List Tag
+spans_of_arena s = flat_map spans_of_cache s.caches
+
+-- and of all arenas, the last first
+abbrev pub spans_to_go : List SpaceState → List Tag
+spans_to_go [] = []
+spans_to_go (s ∷ spaces) = spans_to_go spaces ++ spans_of_arena s
+
+-- the slabs that stay, without which of their chunks are at home
+abbrev pub slabs_after_reap : QuantumCacheState → SlabCacheState
+slabs_after_reap c =
+    record c.slab { slabs = map outline_of (filter (λ s. not (goes c s)) c.slab.slabs) }
+
+abbrev pub outlines_after_reap : SpaceState → List SlabCacheState
+outlines_after_reap s = map slabs_after_reap s.caches
+
+-- So many units, of whole slabs, went from the caches to their arenas, and nothing is left to reap.
+-- The rounds that depots may let go came home, and the slabs that were whole then went: their spans
+-- were freed one after another.
+pub record ReapsAll (units : ℕ) (old new : Picture) : Type 0 where
   pub parts : PartsAlone old new
   pub units_are : cached_units old ≡ cached_units new + units
-  pub depots : map depots_after_reap new.spaces ≡ map depots_after_reap old.spaces
-  pub slabs : (k j : ℕ) (c x : QuantumCacheState) → IsCacheAt old.spaces k j c
-      → IsCacheAt new.spaces k j x → LosesSlabs c.slab x.slab
-  pub rovers : map rover_of new.spaces ≡ map rover_of old.spaces
-  pub spans : (k : ℕ) (s x : SpaceState) → slice_get old.spaces k ≡ Some s
-      → slice_get new.spaces k ≡ Some x → LosesSpans s x
+  pub depots : map depots_of new.spaces ≡ map depots_after_reap old.spaces
+  pub slabs : map outlines_of new.spaces ≡ map outlines_after_reap old.spaces
+  pub returns : ReturnAll (spans_to_go old.spaces) (arenas_with old.spaces new.spaces) new.spaces
+  pub left : All (λ s. All IsReapedOut s.caches) new.spaces
 
 abbrev pub audit_line : List ℕ → Sums → AuditLine
 audit_line name x = record {

@@ -1,5 +1,5 @@
 -- What is seen of a service of leases between two lines, when nothing is in a hand.
-use Rattle.std.specs.Prelude.{◌≡◌, ◌≢◌, ℕ, ◌≤◌, ◌==◌, Bool, List, [], ◌∷◌, All, AllPairs}
+use Rattle.std.specs.Prelude.{◌≡◌, ◌≢◌, ℕ, ◌≤◌, ◌==◌, Bool, List, [], All, AllPairs}
 use Rattle.std.specs.Prelude.{map, slice_get, Option, Some, None}
 use Rattle.std.specs.List.{find, flat_map, AllByRecursion}
 use Rattle.deed_core.specs.Holding.{Holding}
@@ -96,13 +96,6 @@ pub record IsPicture (d : Picture) : Type 0 where
   pub units : IsAccountedFor d.spaces (held_outside d)
   pub cpus : AreCpus d.spaces d.cpus d.selected
   pub book : IsBookOf d.tree d.book
-
--- the same on the way from one line to the next, with this segment in a hand
-pub record HoldsInHand (t : Tag) (d : Picture) : Type 0 where
-  pub plans : plans_of d.spaces ≡ plans_for d.tree
-  pub units : IsAccountedFor d.spaces
-      (outside (t ∷ []) (leased_segments d.book) (flat_map caches_of d.cpus))
-  pub cpus : AreCpus d.spaces d.cpus d.selected
 
 -- the spans that an arena owns
 abbrev pub owned_spans : SpaceState → List Holding

@@ -1,14 +1,30 @@
 -- What a reaping over one thread's parts comes to for a picture.
-use Rattle.std.specs.Prelude.{◌≡◌, ℕ, ◌+◌, ◌*◌, ◌^◌, ◌<◌, ◌≤◌, [], Ok, length}
+use Rattle.std.specs.Prelude.{◌≡◌, ℕ, ◌+◌, ◌*◌, ◌^◌, ◌<◌, ◌≤◌, List, [], ◌++◌, Ok, length, map}
+use Rattle.deed_core.specs.Tag.{Tag}
 use Rattle.arena_tree.specs.declared.limits.TheConstants.{MOST_CACHES}
 use Rattle.quantum_cache.specs.declared.reaps.Reaping.{Reaping}
 use Rattle.quantum_cache.specs.Reaps.{reap_plan}
+use Rattle.stock.specs.Spaces.{SpaceState}
 use Rattle.local_parts.specs.States.{LocalState}
 use Rattle.local_calls.specs.Looks.{finds_in_spaces}
 use Rattle.local_calls.specs.Runs.{RunsTo}
 use Rattle.lease_machine.specs.Picture.{Picture, SameSetup}
-use Rattle.lease_machine.specs.Operators.{ReapsSome, ReapsAll, cached_units}
+use Rattle.lease_machine.specs.Moves.{ReturnAll, arenas_with}
+use Rattle.lease_machine.specs.Operators.{PartsAlone, ReapsAll, cached_units, depots_after_reap}
+use Rattle.lease_machine.specs.Operators.{outlines_after_reap, spans_to_go}
 use Rattle.lease_machine.specs.Held.{IsHeld, parts_in, with_parts}
+
+-- What a reaping comes to that may have been broken off: so many units of whole slabs went, the
+-- first of those that go. Of depots and slabs it leaves what is left when all is reaped.
+pub record ReapsSome (units : ℕ) (old new : Picture) : Type 0 where
+  pub parts : PartsAlone old new
+  pub units_are : cached_units old ≡ cached_units new + units
+  pub depots : map depots_after_reap new.spaces ≡ map depots_after_reap old.spaces
+  pub slabs : map outlines_after_reap new.spaces ≡ map outlines_after_reap old.spaces
+  pub went : List Tag
+  pub first : spans_to_go old.spaces ≡ went ++ spans_to_go new.spaces
+  pub returns : (others : List SpaceState)
+      → ReturnAll went (arenas_with old.spaces others) (arenas_with new.spaces others)
 
 -- A reaping that ended, whatever its limit. Where looks are left, it left nothing. Where none is,
 -- it found almost as much as it might look for, and another may begin where it ended.

@@ -42,11 +42,11 @@ use Rattle.lease_history.specs.Told.{reply_to}
 use Rattle.lease_server.specs.Serving.{ServesLines}
 use Rattle.lease_machine.specs.Picture.{Picture, IsPicture, Finds, SameSetup, arena_named}
 use Rattle.lease_machine.specs.Picture.{held_outside}
-use Rattle.lease_machine.specs.Serving.{CanServe, WasReachable}
+use Rattle.lease_machine.specs.Serving.{CanServe}
 use Rattle.lease_machine.specs.Replies.{IsKnownReply, again_of}
 use Rattle.lease_machine.specs.Machine.{LeaseStep, TakesDemand, demand_of}
 use Rattle.lease_machine.specs.Laws.{Runs}
-use Rattle.lease_machine.specs.AnswerLaws.{reply_bytes, IsKept, IsRequestLine}
+use Rattle.lease_machine.specs.AnswerLaws.{reply_bytes, IsKept, IsRequestLine, WasReachable}
 use Rattle.lease_machine.specs.LeaseLaws.{leases_in, LeasesStay, LeasesBecome, LosesLease}
 use Rattle.lease_machine.specs.LeaseLaws.{HelloMoves, grant_told}
 use Rattle.lease_machine.specs.RoomLaws.{HasRun, HasRunUp}

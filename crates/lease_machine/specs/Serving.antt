@@ -1,32 +1,20 @@
 -- What a request for a lease can be served with.
-use Rattle.std.specs.Prelude.{◌≡◌, ◌≢◌, ◌⊎◌, ℕ, ◌+◌, ◌*◌, ◌≤◌, List, [], slice_get, Option}
-use Rattle.std.specs.Prelude.{Some, None}
-use Rattle.std.specs.List.{find}
-use Rattle.deed_core.specs.Extent.{Covers}
+use Rattle.std.specs.Prelude.{◌≡◌, ◌≢◌, ◌⊎◌, ℕ, ◌+◌, ◌*◌, ◌≤◌, [], ◌∷◌}
 use Rattle.deed_core.specs.Tag.{Tag}
 use Rattle.deed_core.specs.Request.{Fits, IsPlain, rounding_of}
 use Rattle.deed_core.specs.declared.requests.Request.{Request}
 use Rattle.slab_layer.specs.Cache.{idle_chunks}
 use Rattle.arena_tree.specs.declared.trees.TreeArena.{TreeArena}
 use Rattle.quantum_cache.specs.Caches.{chain_in}
-use Rattle.stock.specs.Spaces.{SpaceState, QuantumCacheState, IsCacheAt}
+use Rattle.stock.specs.Spaces.{QuantumCacheState, IsCacheAt}
 use Rattle.stock.specs.OwnCaches.{OwnCacheState, own_rounds}
-use Rattle.stock_audit.specs.Outside.{Outside, outside}
-use Rattle.stock_audit.specs.Chains.{IsReachable}
 use Rattle.local_parts.specs.Cpus.{IsOwnAt}
-use Rattle.lease_machine.specs.Picture.{NumberedCpu, Picture, HoldsInHand, is_cpu, caches_of}
+use Rattle.lease_machine.specs.Picture.{Picture}
 use Rattle.lease_machine.specs.Moves.{HasBase, HasBaseUp, CarvesAt, Climbs, CarvesInVain}
 use Rattle.lease_machine.specs.Moves.{ClimbsInVain, SameNames}
 use Rattle.lease_machine.specs.Chunks.{selected_caches, OnSelected, LacksRounds, WasRound, WasIdle}
 use Rattle.lease_machine.specs.Chunks.{LacksChunks, IsOfNewSlab, GoesBack}
-
-abbrev pub all_or_none : Option NumberedCpu → List OwnCacheState
-all_or_none None = []
-all_or_none (Some c) = caches_of c
-
--- what the selected CPU has out of the parts
-abbrev pub selected_outside : Picture → Outside
-selected_outside d = outside [] [] (all_or_none (find (is_cpu d.selected) d.cpus))
+use Rattle.lease_machine.specs.Held.{IsHeld}
 
 -- the arena serves the request by its caches: it isn't constrained, and no greater than they are
 abbrev pub IsCachedIn : TreeArena → Request → Type 0
@@ -59,12 +47,6 @@ CanServe d index x q = (IsCachedIn x q × HasChunk d index x q)
     ⊎ (IsPlain q × HasBaseUp d.spaces (chain_in d.tree index) q.size)
     ⊎ ((¬ IsPlain q) × HasBase d.spaces index q)
 
--- each unit of the segment was free in the arena or, outside its spans, in a source, or it was in a
--- slab, a depot or a magazine of the selected CPU
-abbrev pub WasReachable : Picture → ℕ → Tag → Type 0
-WasReachable d index t = (s : SpaceState) → slice_get d.spaces index ≡ Some s → (u : ℕ)
-    → Covers t.holding.range u → IsReachable d.spaces (selected_outside d) index s u
-
 -- how the arena's caches served it: by a round, by an idle chunk, by one of a new slab or, where no
 -- slab fits, by a climb for the request itself; and nothing else changed
 abbrev pub CachesServe : ℕ → TreeArena → Request → Tag → Picture → Picture → Type 0
@@ -77,13 +59,13 @@ CachesServe index x q t old new = (c : QuantumCacheState) × (o : OwnCacheState)
     × Climbs (chain_in old.tree index) q.size t old.spaces new.spaces))))
 
 -- where the segment is from: of a constrained request one carve and nothing else; where no cache
--- serves, a climb and nothing else; else of the caches, and of what was reachable
+-- serves, a climb and nothing else; else of the caches
 abbrev pub ComesFrom : ℕ → TreeArena → Request → Tag → Picture → Picture → Type 0
 ComesFrom index x q t old new =
     ((¬ IsPlain q) × CarvesAt index q t old.spaces new.spaces × (new.cpus ≡ old.cpus))
     ⊎ (IsPlain q × (¬ IsCachedIn x q)
     × Climbs (chain_in old.tree index) q.size t old.spaces new.spaces × (new.cpus ≡ old.cpus))
-    ⊎ (IsCachedIn x q × WasReachable old index t × CachesServe index x q t old new)
+    ⊎ (IsCachedIn x q × CachesServe index x q t old new)
 
 -- the request was served with the segment
 pub record ServesWith (index : ℕ) (x : TreeArena) (q : Request) (t : Tag) (old new : Picture)
@@ -108,7 +90,7 @@ pub record ServesNone (index : ℕ) (x : TreeArena) (q : Request) (old new : Pic
 -- what it was served with went back
 abbrev pub ServesInVain : ℕ → TreeArena → Request → Picture → Picture → Type 0
 ServesInVain index x q old new = (t : Tag) × (mid : Picture) × (mid.book ≡ old.book)
-    × HoldsInHand t mid × ServesWith index x q t old mid × GoesBack t mid new
+    × IsHeld (t ∷ []) mid × ServesWith index x q t old mid × GoesBack t mid new
 
 -- its caches have no chunk, and what was climbed for went back: for a slab, or where none fits for
 -- the request itself

@@ -23,7 +23,8 @@ ghost use Rattle.lease_machine.specs.EmptyingLaws.{TickAndReapEmpty, AgainMeansR
 ghost use Rattle.lease_machine.specs.StepLaws.{FaultsAreAnswered, KnownAreAnswered};
 ghost use Rattle.lease_machine.specs.StepLaws.{OldHellosAreAnswered, AuditsAreAnswered};
 ghost use Rattle.lease_machine.specs.StepLaws.{ClientsAreTold, CpusAreSelected, TicksAreAnswered};
-ghost use Rattle.lease_machine.specs.StepLaws.{VainResizesAreAnswered, TicksKeep, ResizesKeep};
+ghost use Rattle.lease_machine.specs.StepLaws.{ResizesAreAnswered, ReleasesAreSettled};
+ghost use Rattle.lease_machine.specs.StepLaws.{TicksKeep, ResizesKeep};
 
 /// What a desk begins with is a picture, and it stays one when a CPU is selected.
 pub fn picture_laws()
@@ -105,7 +106,8 @@ pub fn cache_laws()
     ensures { CachedByNumber }
 {}
 
-/// From each picture these lines can be answered: the machine isn't empty.
+/// From each picture these lines can be answered so: the machine isn't empty. A new release is
+/// never out of memory.
 pub fn step_laws()
     ensures faults { FaultsAreAnswered }
     ensures known { KnownAreAnswered }
@@ -114,7 +116,8 @@ pub fn step_laws()
     ensures clients { ClientsAreTold }
     ensures cpus { CpusAreSelected }
     ensures ticks { TicksAreAnswered }
-    ensures vain_resizes { VainResizesAreAnswered }
+    ensures resizes { ResizesAreAnswered }
+    ensures releases { ReleasesAreSettled }
 {}
 
 /// What a tick and greater magazines leave is a picture of the same setup.

@@ -18,6 +18,11 @@ use std::marker::Model;
 /// How many times a stream is read at most.
 pub const MOST_READS: u64 = 1 << 40;
 
+/// The limit as the rules have it: who changes it changes it here, too.
+pub fn read_limit_law()
+    ensures { MOST_READS ≡ 2 ^ 40 }
+{}
+
 /// How many bytes are read at once.
 const PIECE: usize = 16_384;
 

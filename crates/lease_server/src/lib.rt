@@ -22,7 +22,7 @@ mod serving;
 mod watching;
 
 pub use faults::ServeFault;
-pub use intakes::{Intake, MOST_READS, hand_law};
+pub use intakes::{Intake, MOST_READS, hand_law, read_limit_law};
 pub use output::deliver;
 pub use responders::Responder;
 pub use serving::serve;

@@ -27,7 +27,7 @@ use Rattle.lease_machine.specs.Held.{IsHeld}
 use Rattle.lease_machine.specs.Machine.{NewLease, demand_of}
 use Rattle.lease_machine.specs.Moves.{Climbs, ClimbsInVain, Returns}
 use Rattle.lease_history.specs.Told.{reply_to}
-use Rattle.lease_machine.specs.Picture.{Picture, IsPicture, IsBookOf, HoldsInHand, SameSetup, arena_named}
+use Rattle.lease_machine.specs.Picture.{Picture, IsPicture, IsBookOf, SameSetup, arena_named}
 use Rattle.lease_machine.specs.Replies.{reply_of_settled}
 use Rattle.lease_machine.specs.Serving.{ServesWith, FallsBack}
 use Rattle.stock_desk.specs.Leasing.{IsTakenFor}
@@ -54,7 +54,7 @@ module _ (index : ℕ) (x : TreeArena) (q : Request) (t : Tag) (old mid new : Pi
   by_direct route back = subst (λ (r : Route). GoesBackBy r t mid new) route back.1
 
   -- what served it went back
-  pub falls_back : mid.book ≡ old.book → HoldsInHand t mid → ServesWith index x q t old mid → GoesBack t mid new → FallsBack index x q old new
+  pub falls_back : mid.book ≡ old.book → IsHeld (t ∷ []) mid → ServesWith index x q t old mid → GoesBack t mid new → FallsBack index x q old new
   falls_back book hand serves back = elim serves.from [
     | inl carved ↦
         let home = by_direct (ap (λ (y : Tag). y.route) carved.1.does.segment) back in
@@ -66,9 +66,6 @@ module _ (index : ℕ) (x : TreeArena) (q : Request) (t : Tag) (old mid new : Pi
       | inr cached ↦ inr (cached.0, inr (inr (t, mid, book, hand, serves, back)))
     ])
   ]
-
-in_hand : (t : Tag) (d : Picture) → IsHeld (t ∷ []) d → HoldsInHand t d
-in_hand t d is = record { plans = is.plans; units = is.units; cpus = is.cpus }
 
 book_in : (old new : Picture) → SameSetup old new → IsPicture old → new.book ≡ old.book → IsBookOf new.tree new.book
 book_in old new setup is book = subst (λ (ts : List TreeArena). IsBookOf ts new.book) (sym setup.tree) (subst (λ (b : BookState). IsBookOf old.tree b) (sym book) is.book)
@@ -152,7 +149,7 @@ module _ (id : RequestId) (l : LeaseLine) (index : ℕ) (t : Tag) (before : Pict
           x,
           record { finds = taken.finds; good = taken.served.good },
           taken.served.can,
-          (t, picture_with a s, taken.book, in_hand t (picture_with a s) taken.served.held, taken.served.serves, went_back),
+          (t, picture_with a s, taken.book, taken.served.held, taken.served.serves, went_back),
           subst (λ (z : BookState). MOST_LEASES ≤ length (account_in id.client z).leases) taken.book o.2,
         ),
       )
@@ -163,7 +160,7 @@ module _ (id : RequestId) (l : LeaseLine) (index : ℕ) (t : Tag) (before : Pict
           arena = x;
           takes = record { finds = taken.finds; good = taken.served.good };
           can = taken.served.can;
-          back = falls_back index x (demand_of l) t before (picture_with a s) (picture_with b u) taken.book (in_hand t (picture_with a s) taken.served.held) taken.served.serves went_back;
+          back = falls_back index x (demand_of l) t before (picture_with a s) (picture_with b u) taken.book taken.served.held taken.served.serves went_back;
           names = (back.back.0.0 ∙ taken.served.serves.names.0, back.back.0.1 ∙ taken.served.serves.names.1);
           book = o.1 ∙ taken.book;
         },

@@ -6,7 +6,7 @@ use Rattle.quantum_cache.specs.Reaps.{reap_plan}
 use Rattle.local_parts.specs.States.{LocalState}
 use Rattle.local_calls.specs.Runs.{RunsTo}
 use Rattle.lease_machine.specs.Picture.{NumberedCpu, Picture, SameSetup, is_cpu}
-use Rattle.lease_machine.specs.Operators.{ReapsSome}
+use Rattle.lease_machine.specs.ReapLaws.{ReapsSome}
 use Rattle.lease_machine.specs.Held.{IsHeld}
 use Rattle.lease_machine.proofs.LawProofs.{reap_reaps, reaps_none, reapings_add, cached_units_fit}
 use Rattle.arena_tree.specs.declared.limits.TheConstants.{MOST_ARENAS}

@@ -57,7 +57,7 @@ module _ (old new : Picture) (b : BookState) where
     | inl carved ↦ inl carved
     | inr other ↦ inr (elim other [
       | inl climbed ↦ inl climbed
-      | inr cached ↦ inr (cached.0, cached.1, cached_then index x q t cached.2)
+      | inr cached ↦ inr (cached.0, cached_then index x q t cached.1)
     ])
   ]
 

@@ -5,7 +5,8 @@ use Rattle.quantum_cache.specs.declared.reaps.Reaping.{Reaping}
 use Rattle.local_calls.specs.Looks.{finds_in_spaces}
 use Rattle.lease_proto.specs.declared.operators.OperatorLine.{OperatorLine}
 use Rattle.lease_machine.specs.Picture.{Picture, IsPicture, SameSetup}
-use Rattle.lease_machine.specs.Operators.{GoesOffline, ReapsSome, ReapsAll, Performs}
+use Rattle.lease_machine.specs.Operators.{GoesOffline, ReapsAll, Performs}
+use Rattle.lease_machine.specs.ReapLaws.{ReapsSome}
 use Rattle.lease_machine.specs.Held.{IsHeld}
 
 -- a CPU went offline

@@ -1,5 +1,5 @@
 use Rattle.lease_machine.proofs.Fitting.{grants_fit, kept_grants_fit}
-use Rattle.lease_machine.proofs.Reaching.{grants_were_reachable}
+use Rattle.lease_machine.proofs.CachedReach.{grants_were_reachable}
 use Rattle.lease_machine.proofs.Agreeing.{repeats_fit}
 use Rattle.lease_machine.proofs.laws.grant_laws.Goals as goal
 

@@ -1,4 +1,4 @@
-use Rattle.lease_machine.proofs.Stepping.{faults_are_answered, known_are_answered, old_hellos_are_answered, audits_are_answered, clients_are_told, cpus_are_selected, vain_resizes_are_answered}
+use Rattle.lease_machine.proofs.Stepping.{faults_are_answered, known_are_answered, old_hellos_are_answered, audits_are_answered, clients_are_told, cpus_are_selected, resizes_are_answered, releases_are_settled}
 use Rattle.lease_machine.proofs.Ticking.{ticks_are_answered}
 use Rattle.lease_machine.proofs.laws.step_laws.Goals as goal
 
@@ -23,5 +23,8 @@ returns-clause-cpus c = cpus_are_selected
 pub returns-clause-ticks : goal.returns-clause-ticks
 returns-clause-ticks c = ticks_are_answered
 
-pub returns-clause-vain_resizes : goal.returns-clause-vain_resizes
-returns-clause-vain_resizes c = vain_resizes_are_answered
+pub returns-clause-resizes : goal.returns-clause-resizes
+returns-clause-resizes c = resizes_are_answered
+
+pub returns-clause-releases : goal.returns-clause-releases
+returns-clause-releases c = releases_are_settled
