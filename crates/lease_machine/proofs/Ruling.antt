@@ -34,7 +34,7 @@ use Rattle.lease_machine.proofs.Repeats.{history_of, request_answer, request_kep
 use Rattle.lease_machine.proofs.Fitting.{not_known}
 use Rattle.lease_machine.proofs.Rooms.{run_serves, base_serves}
 use Rattle.lease_machine.proofs.NoRoom.{runs_up}
-use Rattle.lease_machine.proofs.Reaching.{grants_were_reachable}
+use Rattle.lease_machine.proofs.CachedReach.{grants_were_reachable}
 use Rattle.lease_machine.proofs.Leases.{leases_move, lease_moves, release_moves, hello_moves, welcome_moves, settled_becomes, answer_to}
 
 nothing_serves : (old : Picture) (index : ℕ) (x : TreeArena) (l : LeaseLine) → IsPicture old → slice_get old.tree index ≡ Some x → ¬ CanServe old index x (demand_of l) → NothingServes index x l old
