@@ -1,5 +1,5 @@
 -- What a CPU had that has failed goes to others, and a world stays one by it.
-use Rattle.std.proofs.Common.{◌≡◌, ◌≢◌, ℕ, suc, zero, ◌<◌, ◌≤◌, List, [], ◌∷◌, length, set, Option, Some, None, refl, sym, subst, ap, ◌∙◌, inl, inr, arith}
+use Rattle.std.proofs.Common.{◌≡◌, ◌≢◌, ℕ, suc, zero, ◌<◌, ◌≤◌, true, List, [], ◌∷◌, length, set, Option, Some, None, refl, sym, subst, ap, ◌∙◌, inl, inr, arith}
 use Rattle.std.specs.Prelude.{slice_get}
 use Rattle.std.proofs.lemmas.List.Sums.{sum_by-cons}
 use Rattle.deed_core.specs.Tag.{Tag}
@@ -15,6 +15,7 @@ use Rattle.world_core.specs.Moves.{after_failure, HandAdopted, RoundAdopted, IsF
 use Rattle.world_core.specs.Events.{EndsAs, HasInHand}
 use Rattle.world_core.specs.declared.events.WorldEvent.TheVariants as events
 use Rattle.world_core.specs.declared.events.Outcome.TheVariants.{Done}
+use Rattle.world_core.proofs.CpuLemmas.{hand_changed, failed_changed}
 use Rattle.world_core.proofs.Members.{each_written}
 use Rattle.world_core.proofs.HandLemmas.{hand_set, hands_pass}
 use Rattle.world_core.proofs.OwnLemmas.{pop_kept}
@@ -35,6 +36,7 @@ failing_keeps cpu w is = record {
   ids = is.ids;
   known = is.known;
   said = is.said;
+  cpus = failed_changed w.hands w.tasks w.failed w.owners is.cpus cpu None true;
   tasks = each_written (IsOfLines w.requests) w.tasks cpu None is.tasks tt;
   own = is.own;
   shaped = is.shaped;
@@ -58,6 +60,7 @@ hand_adopted_keeps cpu other w v is m =
       ids = is.ids;
       known = is.known;
       said = is.said;
+      cpus = hand_changed given w.tasks w.failed w.owners (hand_changed w.hands w.tasks w.failed w.owners is.cpus other None) cpu (Some m.segment);
       tasks = is.tasks;
       own = is.own;
       shaped = is.shaped;

@@ -1,5 +1,6 @@
 -- What CPUs do with the book keeps a world.
-use Rattle.std.proofs.Common.{◌≡◌, ℕ, List, [], ◌∷◌, ◌++◌, set, Option, Some, None, refl, sym, subst, ap, arith}
+use Rattle.std.proofs.Common.{◌≡◌, ℕ, List, [], ◌∷◌, ◌++◌, length, set, Option, Some, None, refl, sym, subst, ap, arith}
+use Rattle.std.proofs.lemmas.List.{length-set}
 use Rattle.std.proofs.lemmas.List.Sums.{sum_by-cons}
 use Rattle.deed_core.specs.Tag.{Tag}
 use Rattle.stock_audit.specs.Outside.{outside}
@@ -25,7 +26,8 @@ use Rattle.lease_history.specs.Told.{reply_to, MayTell}
 use Rattle.lease_history.proofs.LawProofs.{told_stays_told, hellos_keep_known, sweeps_keep_known, settlements_keep_known}
 use Rattle.world_core.specs.WorldState.{WorldState, arena_name, in_hands}
 use Rattle.world_core.specs.Moves.{IsAnswered, reply_of_settled, HelloTaken, HelloRefused, AnsweredAtOnce, TaskTaken, HasTask, TaskGranted, TaskRefused, TaskReleased, TaskEnded, TaskAnswered, TaskGivenUp, LeaseSwept}
-use Rattle.world_core.specs.IsWorld.{IsWorld, IsDue, IsOfLines}
+use Rattle.world_core.specs.IsWorld.{IsWorld, IsDue, IsOfLines, AreCpus}
+use Rattle.world_core.proofs.CpuLemmas.{hand_changed, task_changed}
 use Rattle.world_core.proofs.Members.{each_written, each_pushed, each_cons}
 use Rattle.world_core.proofs.HandLemmas.{hand_leased}
 
@@ -78,6 +80,7 @@ hello_refused_keeps which w v is m = subst IsWorld (sym m.after) (record {
   ids = is.ids;
   known = is.known;
   said = is.said;
+  cpus = is.cpus;
   tasks = is.tasks;
   own = is.own;
   shaped = is.shaped;
@@ -95,6 +98,7 @@ answered_keeps which w v is m = subst IsWorld (sym m.after) (record {
   ids = is.ids;
   known = is.known;
   said = is.said;
+  cpus = is.cpus;
   tasks = is.tasks;
   own = is.own;
   shaped = is.shaped;
@@ -113,6 +117,7 @@ ended_keeps cpu May w v is tells m = subst IsWorld (sym m.after) (record {
   ids = is.ids;
   known = is.known;
   said = is.said;
+  cpus = task_changed w.hands w.tasks w.failed w.owners is.cpus cpu None;
   tasks = each_written (IsOfLines w.requests) w.tasks cpu None is.tasks tt;
   own = is.own;
   shaped = is.shaped;
@@ -136,6 +141,7 @@ taken_keeps cpu which w v is m = subst IsWorld (sym m.after) (record {
   ids = is.ids;
   known = is.known;
   said = is.said;
+  cpus = task_changed w.hands w.tasks w.failed w.owners is.cpus cpu (Some (record { id = m.id; op = m.op }));
   tasks = each_written (IsOfLines w.requests) w.tasks cpu (Some (record { id = m.id; op = m.op })) is.tasks (which, m.sent);
   own = is.own;
   shaped = is.shaped;
@@ -159,6 +165,7 @@ hello_taken_keeps which w v is m =
       ids = is.ids;
       known = λ k c at. hellos_keep_known names w.entries c m.hello.client m.hello.incarnation (is.known k c at) (is.said k c at which (lines.Hello m.hello) m.sent);
       said = is.said;
+      cpus = is.cpus;
       tasks = is.tasks;
       own = is.own;
       shaped = is.shaped;
@@ -184,6 +191,7 @@ swept_keeps cpu c w v is m =
       ids = is.ids;
       known = λ k x at. sweeps_keep_known names w.entries x m.id.client m.id.incarnation m.segment.arena m.segment.holding.range.base (is.known k x at) (omega arith);
       said = is.said;
+      cpus = hand_changed w.hands w.tasks w.failed w.owners is.cpus cpu (Some m.segment);
       tasks = is.tasks;
       own = is.own;
       shaped = is.shaped;
@@ -196,9 +204,9 @@ settled_told names es id s = outcome_told names (Settled id s ∷ es) id (kept_r
 -- a request is settled
 settles : (w : WorldState) (cpu : ℕ) (hands : List (Option Tag)) (book : BookState) (id : RequestId) (op : Op) (s : Settlement) → IsWorld w
     → HasTask w cpu id op → Enters (Settled id s) w.book book → IsFor (arena_name w.names) op s → IsDue w.stock w.names w.requests (Settled id s)
-    → IsAccountedFor w.stock (outside (in_hands hands) (leased_segments book) w.caches)
+    → length hands ≡ length w.hands → IsAccountedFor w.stock (outside (in_hands hands) (leased_segments book) w.caches)
     → IsWorld (record w { hands = hands; tasks = set w.tasks cpu None; book = book; entries = Settled id s ∷ w.entries; replies = w.replies ++ reply_of_settled w id s ∷ [] })
-settles w cpu hands book id op s is task enters for due accounts =
+settles w cpu hands book id op s is task enters for due even accounts =
     let names = arena_name w.names in
     let now : IsHistory (Settled id s ∷ w.entries) book = enters.history w.entries is.book in
     let line = is.tasks cpu (Some (record { id = id; op = op })) task in
@@ -212,6 +220,7 @@ settles w cpu hands book id op s is task enters for due accounts =
       ids = is.ids;
       known = λ k c at. settlements_keep_known names w.entries c id op s (is.known k c at) now.orderly for (is.said k c at line.0 (lines.Request id op) line.1);
       said = is.said;
+      cpus = subst (λ (count : ℕ). AreCpus count (set w.tasks cpu None) w.failed w.owners) (sym even) (task_changed w.hands w.tasks w.failed w.owners is.cpus cpu None);
       tasks = each_written (IsOfLines w.requests) w.tasks cpu None is.tasks tt;
       own = is.own;
       shaped = is.shaped;
@@ -229,6 +238,7 @@ granted_keeps cpu w v is m = subst IsWorld (sym m.after)
       quantum = m.quantum;
       request = m.request;
     })
+    (length-set w.hands cpu None)
     (hand_leased w.stock w.hands (leased_segments w.book) w.caches cpu (Some m.segment) None m.holds (leased_segments m.book)
     (λ f. (let l = m.granted.leases f in let e = sum_by-cons f m.segment [] in omega arith)) is.parts))
 
@@ -238,11 +248,11 @@ refuse_for names (ops.Release r) why = tt
 
 pub refused_keeps : (cpu : ℕ) (why : Refusal) (w v : WorldState) → IsWorld w → TaskRefused cpu why w v → IsWorld v
 refused_keeps cpu why w v is m = subst IsWorld (sym m.after)
-    (settles w cpu w.hands m.book m.id m.op (Refuse why) is m.serves m.refused.entry (refuse_for (arena_name w.names) m.op why) tt
+    (settles w cpu w.hands m.book m.id m.op (Refuse why) is m.serves m.refused.entry (refuse_for (arena_name w.names) m.op why) tt refl
     (subst (λ (leases : List Tag). IsAccountedFor w.stock (outside (in_hands w.hands) leases w.caches)) (sym m.refused.leases) is.parts))
 
 pub released_keeps : (cpu : ℕ) (w v : WorldState) → IsWorld w → TaskReleased cpu w v → IsWorld v
 released_keeps cpu w v is m = subst IsWorld (sym m.after)
-    (settles w cpu (set w.hands cpu (Some m.segment)) m.book m.id (ops.Release m.release) (Return m.arena m.release.base) is m.serves m.released.entry (m.home.is, refl) tt
+    (settles w cpu (set w.hands cpu (Some m.segment)) m.book m.id (ops.Release m.release) (Return m.arena m.release.base) is m.serves m.released.entry (m.home.is, refl) tt (length-set w.hands cpu (Some m.segment))
     (hand_leased w.stock w.hands (leased_segments w.book) w.caches cpu None (Some m.segment) m.empty (leased_segments m.book)
     (λ f. (let l = m.released.leases f in let e = sum_by-cons f m.segment [] in omega arith)) is.parts))

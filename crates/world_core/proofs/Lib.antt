@@ -1,4 +1,5 @@
 mod Members
+mod CpuLemmas
 mod HandLemmas
 mod StockLemmas
 mod CallLemmas
@@ -16,4 +17,6 @@ mod SwapLemmas
 mod MakingLemmas
 mod OwnSetups
 mod AdoptLemmas
+mod Having
+mod Draining
 mod GoingHome

@@ -2,7 +2,7 @@
 use Rattle.std.proofs.Common.{◌≡◌, ◌≢◌, ℕ, zero, suc, ◌<◌, nat_lt, Bool, true, false, All, AllPairs, List, [], map, replicate, length, Option, Some, None, unwrap_or, refl, sym, subst, ap, ◌∙◌, arith}
 use Rattle.std.specs.Prelude.{slice_get, get_or}
 use Rattle.std.proofs.lemmas.Bool.{ltb-true, ltb-false, false≢true}
-use Rattle.std.proofs.lemmas.List.{length-map}
+use Rattle.std.proofs.lemmas.List.{length-map, length-replicate}
 use Rattle.std.proofs.lemmas.Option.{slice_get_past, unwrap_or-slice_get, get_or_from_slice_get}
 use Rattle.deed_core.specs.Tag.{Tag}
 use Rattle.deed_core.proofs.LawProofs.{slice_get_some, slice_get_mapped}
@@ -60,12 +60,14 @@ none_served requests zero k x at = absurd (let e : None ≡ Some x = at in cc)
 none_served requests (suc cpus) zero x at = subst (IsOfLines requests) (let e : Some None ≡ Some x = at in let f : None ≡ x = cc in f) tt
 none_served requests (suc cpus) (suc k) x at = none_served requests cpus k x at
 
-pub with_cpus : (w : WorldState) (cpus : ℕ) (hands : List (Option Tag)) (tasks : List (Option Task)) → IsWorld (record w { hands = []; tasks = [] }) → hands ≡ replicate cpus None → tasks ≡ replicate cpus None
-    → IsWorld (record w { hands = hands; tasks = tasks })
-with_cpus w cpus hands tasks is h t =
+pub with_cpus : (w : WorldState) (cpus : ℕ) (hands : List (Option Tag)) (tasks : List (Option Task)) (failed : List Bool) → IsWorld (record w { hands = []; tasks = []; failed = []; owners = [] })
+    → hands ≡ replicate cpus None → tasks ≡ replicate cpus None → failed ≡ replicate cpus false → IsWorld (record w { hands = hands; tasks = tasks; failed = failed; owners = [] })
+with_cpus w cpus hands tasks failed is h t f =
     let hs = sym h in
     let ts = sym t in
-    subst IsWorld (λ j. record w { hands = hs j; tasks = ts j }) (record {
+    let fs = sym f in
+    let count : length (replicate cpus None) ≡ cpus = length-replicate cpus None in
+    subst IsWorld (λ j. record w { hands = hs j; tasks = ts j; failed = fs j; owners = [] }) (record {
       parts = subst (λ (out : List Tag). IsAccountedFor w.stock (outside out (leased_segments w.book) w.caches)) (sym (none_held cpus)) is.parts;
       named = is.named;
       few = is.few;
@@ -75,6 +77,11 @@ with_cpus w cpus hands tasks is h t =
       ids = is.ids;
       known = is.known;
       said = is.said;
+      cpus = record {
+        served = length-replicate cpus None ∙ sym count;
+        marked = length-replicate cpus false ∙ sym count;
+        owned = λ k cpu at. absurd (let e : None ≡ Some cpu = at in cc);
+      };
       tasks = none_served w.requests cpus;
       own = is.own;
       shaped = is.shaped;

@@ -24,6 +24,7 @@ use Rattle.world_core.specs.IsWorld.{IsWorld, AreInOrder, IsBefore}
 use Rattle.world_core.specs.Events.{EndsAs, HasInHand}
 use Rattle.world_core.specs.declared.events.WorldEvent.TheVariants as events
 use Rattle.world_core.specs.declared.events.Outcome.TheVariants.{Done, NotEnabled}
+use Rattle.world_core.proofs.CpuLemmas.{hand_changed}
 use Rattle.world_core.proofs.Members.{each_written}
 use Rattle.world_core.proofs.HandLemmas.{hand_set}
 use Rattle.world_core.proofs.StockLemmas.{due_stays}
@@ -121,6 +122,7 @@ module _ (cpu index : ℕ) (own next : OwnCacheState) (w v : WorldState) (is : I
     ids = is.ids;
     known = is.known;
     said = is.said;
+    cpus = hand_changed w.hands w.tasks w.failed w.owners is.cpus cpu answered;
     tasks = is.tasks;
     own = still_ordered w.owners w.caches index own next is.own at m.goes.same;
     shaped = each_written (λ (o : OwnCacheState). IsShaped o.cpu) w.caches index next is.shaped m.goes.shaped;
@@ -161,6 +163,7 @@ own_move_keeps cpu arena cache Does w v is m =
       ids = is.ids;
       known = is.known;
       said = is.said;
+      cpus = is.cpus;
       tasks = is.tasks;
       own = still_ordered w.owners w.caches m.index m.own m.next is.own m.here.mine.at m.goes.same;
       shaped = each_written (λ (o : OwnCacheState). IsShaped o.cpu) w.caches m.index m.next is.shaped m.goes.shaped;

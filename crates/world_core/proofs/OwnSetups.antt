@@ -189,9 +189,9 @@ module _ (arenas : List TreeArena) (tree : IsTree arenas) (stock : List SpaceSta
         quantum = λ x at. (let same : x ≡ s = slice_get_one stock m.index x s at space.1 in ap (λ (y : SpaceState). y.arena.quantum) same ∙ sym quantum);
       })
 
-pub with_own : (w : WorldState) (cpus : ℕ) (arenas : List TreeArena) (owners : List ℕ) (caches : List OwnCacheState) → IsWorld (record w { owners = []; caches = [] }) → IsTree arenas → plans_of w.stock ≡ plans_for arenas
+pub with_own : (w : WorldState) (cpus : ℕ) (arenas : List TreeArena) (owners : List ℕ) (caches : List OwnCacheState) → IsWorld (record w { owners = []; caches = [] }) → length w.hands ≡ cpus → IsTree arenas → plans_of w.stock ≡ plans_for arenas
     → owners ≡ own_owners cpus arenas → caches ≡ own_caches cpus arenas → IsWorld (record w { owners = owners; caches = caches })
-with_own w cpus arenas owners caches is tree plans os cs =
+with_own w cpus arenas owners caches is count tree plans os cs =
     let of = sym os in
     let among = sym cs in
     let all = own_caches cpus arenas in
@@ -210,6 +210,11 @@ with_own w cpus arenas owners caches is tree plans os cs =
       ids = is.ids;
       known = is.known;
       said = is.said;
+      cpus = record {
+        served = is.cpus.served;
+        marked = is.cpus.marked;
+        owned = λ k cpu at. (let below = owner_below cpus arenas k cpu at in omega (arith, below, count));
+      };
       tasks = is.tasks;
       own = caches_in_order cpus arenas;
       shaped = λ k o at. subst (λ (x : OwnCacheState). IsShaped x.cpu) (sym (caches_member cpus arenas k o at).is) (record { sized = inl refl; most = omega arith; whole = inl refl });

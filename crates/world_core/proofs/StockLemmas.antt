@@ -15,6 +15,7 @@ use Rattle.lease_book.specs.BookState.{leased_segments}
 use Rattle.world_core.specs.WorldState.{WorldState, in_hands}
 use Rattle.world_core.specs.Moves.{HandMoves, PartMoves}
 use Rattle.world_core.specs.IsWorld.{IsWorld, IsDue}
+use Rattle.world_core.proofs.CpuLemmas.{hand_changed}
 use Rattle.world_core.proofs.HandLemmas.{hand_moved, part_moved}
 
 -- an arena keeps its quantum
@@ -54,6 +55,7 @@ part_move_keeps Does w v is m =
       ids = is.ids;
       known = is.known;
       said = is.said;
+      cpus = is.cpus;
       tasks = is.tasks;
       own = is.own;
       shaped = is.shaped;
@@ -74,6 +76,7 @@ hand_move_keeps cpu given answered Does w v is m =
       ids = is.ids;
       known = is.known;
       said = is.said;
+      cpus = hand_changed w.hands w.tasks w.failed w.owners is.cpus cpu answered;
       tasks = is.tasks;
       own = is.own;
       shaped = is.shaped;

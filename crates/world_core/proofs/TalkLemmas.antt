@@ -96,6 +96,7 @@ says w index c next line is at goes own may = record {
     | inr other ↦ each_pushed (MayBeSaid x) w.requests line (is.said k x other.1)
         (not_own x line (λ e. other.0 (one_index (λ (y : ClientState). y.id) w.clients k index x c is.ids other.1 at (sym e ∙ own))))
   ];
+  cpus = is.cpus;
   tasks = λ k o there. lines_more w.requests line o (is.tasks k o there);
   own = is.own;
   shaped = is.shaped;
@@ -171,6 +172,7 @@ hear_keeps index which w v is m =
       ids = subst (IsDistinct nat_eq) (sym (map_set_same (λ (x : ClientState). x.id) w.clients index c next m.at goes.id)) is.ids;
       known = each_written (IsKnown (arena_name w.names) w.entries) w.clients index next is.known goes.known;
       said = each_written (λ x. Each (MayBeSaid x) w.requests) w.clients index next is.said (λ j l here. goes.said l (is.said index c m.at j l here));
+      cpus = is.cpus;
       tasks = is.tasks;
       own = is.own;
       shaped = is.shaped;

@@ -1,5 +1,6 @@
 -- What every world is.
 use Rattle.std.specs.Prelude.{◌≡◌, ◌⊎◌, ℕ, ◌<◌, ◌≤◌, ◌^◌, nat_eq, List, length, map, slice_get}
+use Rattle.std.specs.Prelude.{Bool}
 use Rattle.std.specs.Prelude.{Option, Some, None}
 use Rattle.std.specs.List.{IsDistinct}
 use Rattle.deed_core.specs.Tag.{Tag}
@@ -69,10 +70,18 @@ pub record AreInOrder (owners : List ℕ) (caches : List OwnCacheState) : Type 0
       → slice_get owners i ≡ Some cpu → slice_get caches i ≡ Some o
       → slice_get owners j ≡ Some cpu → slice_get caches j ≡ Some p → IsBefore o p
 
+-- so many CPUs: each serves a request or none, each is marked as failed or not, and each cache is
+-- owned by one
+pub record AreCpus (count : ℕ) (tasks : List (Option Task)) (failed : List Bool)
+    (owners : List ℕ) : Type 0 where
+  pub served : length tasks ≡ count
+  pub marked : length failed ≡ count
+  pub owned : Each (λ cpu. cpu < count) owners
+
 -- What the parts have given is in hands, in CPUs' caches or leased; loaded magazines have at most
 -- their size, and previous ones none or as many; the book is what is read off the entries, of which
 -- each grant was asked for; the clients, each with an id of its own, are known to the book; lines
--- were said by their clients, and the book may tell what was replied.
+-- were said by their clients, and the book may tell what was replied. CPUs are those that have hands.
 pub record IsWorld (w : WorldState) : Type 0 where
   pub parts : IsAccountedFor w.stock (outside_of w)
   pub named : length w.names ≡ length w.stock
@@ -83,6 +92,7 @@ pub record IsWorld (w : WorldState) : Type 0 where
   pub ids : IsDistinct nat_eq (map (λ c. c.id) w.clients)
   pub known : Each (IsKnown (arena_name w.names) w.entries) w.clients
   pub said : Each (λ c. Each (MayBeSaid c) w.requests) w.clients
+  pub cpus : AreCpus (length w.hands) w.tasks w.failed w.owners
   pub tasks : Each (IsOfLines w.requests) w.tasks
   pub own : AreInOrder w.owners w.caches
   pub shaped : Each (λ o. IsShaped o.cpu) w.caches

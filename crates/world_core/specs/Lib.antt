@@ -3,4 +3,5 @@ pub mod Moves
 pub mod IsWorld
 pub mod Events
 pub mod Safe
+pub mod Drains
 pub mod Setups

@@ -24,7 +24,8 @@ pub enum WorldEvent {
     Repeats {
         client: usize,
     },
-    /// A reply comes to a client, in whatever order, and as often as it likes.
+    /// A reply comes to a client, in whatever order, and as often as it likes. Another client's
+    /// changes nothing of it.
     Hears {
         client: usize,
         which: usize,
@@ -44,11 +45,12 @@ pub enum WorldEvent {
         cpu: usize,
         refusal: Refusal,
     },
-    /// A CPU answers `again` to the request that it serves.
+    /// A CPU answers `again` to the request that it serves, and nothing is settled.
     GivesUp {
         cpu: usize,
     },
-    /// A CPU takes the lease into its hand that the release names that it serves.
+    /// A CPU takes the lease into its hand that the release names that it serves. A release of an
+    /// arena that isn't here ends by `Declines`.
     Releases {
         cpu: usize,
     },

@@ -16,8 +16,8 @@
 //! each deed. Begin with [`World::step`] and `specs/Events.antt`: where each event can be tried,
 //! where it can happen, why its part refuses it, and what may become of a world at it;
 //! `specs/Moves.antt` has the moves. A CPU that another adopts from has failed: it has no further
-//! events, and what it had goes to others, one segment an event. What holds of every list of events
-//! holds from any world that is one.
+//! events, and what it had goes to others, one segment an event, until it has nothing
+//! (`specs/Drains.antt`). What holds of every list of events holds from any world that is one.
 //!
 //! What it costs: a world keeps each line, reply and entry of the book for good. An event takes the
 //! time of its part's call, and a release looks the name of its arena up among all names.
@@ -50,7 +50,7 @@ mod tasks;
 mod worlds;
 
 pub use events::{EventFault, Outcome, WorldEvent};
-pub use laws::always_safe;
+pub use laws::{always_safe, drain_laws};
 pub use logs::{Label, Logged};
 pub use tasks::Task;
 pub use worlds::World;

@@ -60,7 +60,7 @@ impl<D: Deed> World<D> {
     }
 
     /// What is true of every world. This does nothing: it is called for its clause.
-    pub fn check(&self)
+    fn check(&self)
         ensures { Safe self.now }
     {
         let _ = &self.parts;

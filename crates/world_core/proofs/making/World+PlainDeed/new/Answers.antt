@@ -1,5 +1,5 @@
 use Rattle.std.proofs.Common.{◌≡◌, ℕ, ◌≤◌, ◌++◌, ◌^◌, List, [], map, replicate, length, Option, None, refl, sym, ap, ◌∙◌, arith}
-use Rattle.std.proofs.lemmas.List.{length-map}
+use Rattle.std.proofs.lemmas.List.{length-map, length-replicate}
 use Rattle.deed_core.specs.Tag.{Tag}
 use Rattle.arena_tree.specs.declared.limits.TheConstants.{MOST_ARENAS}
 use Rattle.arena_tree.specs.declared.trees.TreeArena.{TreeArena}
@@ -23,10 +23,12 @@ invariant_of-result c =
     let alike : map plan_of stock ≡ map plan_for arenas = c.in-Ok-plain_stock.ensures.set_up.plans in
     let count : length names ≡ length stock = as_many arenas names is ∙ sym (length-map arenas plan_for) ∙ sym (ap length alike) ∙ length-map stock plan_of in
     let few : length names ≤ 2 ^ 32 = (let f : length arenas ≤ MOST_ARENAS = c.tree.ensures.tree.few in let n : length names ≡ length arenas = as_many arenas names is in omega (arith, f, n)) in
-    let w : WorldState = record { stock = stock; names = names; hands = []; tasks = []; failed = c.in_ok-failed.failed.items; owners = []; caches = []; book = c.new-2.result; entries = entries_of c.new-3.result.items; clients = c.new-4.result.items; requests = c.new-5.result.items; replies = c.new-6.result.items } in
-    let idle : IsWorld w = born stock names c.new-2.result [] [] w.failed [] [] c.new-3.result.items c.new-4.result.items c.new-5.result.items c.new-6.result.items c.count.ensures.stock c.in-Ok-plain_stock.ensures.nothing_out count few
-    (are_names arenas names is c.tree.ensures.tree.names c.in_ok-names.ensures.names) c.new-2.ensures.empty refl refl refl refl c.new-3.ensures.items c.new-4.ensures.items c.new-5.ensures.items c.new-6.ensures.items in
-    let working = with_cpus w c.args.cpus c.fill_empty-2.new.list.items c.fill_empty.new.list.items idle
-    (c.fill_empty-2.ensures ∙ ap (λ (xs : List (Option Tag)). xs ++ replicate c.args.cpus None) c.in_ok-hands.ensures.items)
-    (c.fill_empty.ensures ∙ ap (λ (xs : List (Option Task)). xs ++ replicate c.args.cpus None) c.in_ok-tasks.ensures.items) in
-    with_own (record w { hands = c.fill_empty-2.new.list.items; tasks = c.fill_empty.new.list.items }) c.args.cpus arenas _ _ working c.tree.ensures.tree alike (c.in-Ok.ensures.owners ∙ ap (own_owners c.args.cpus) c.tree-2.ensures.value) (c.in-Ok.ensures.caches ∙ ap (own_caches c.args.cpus) c.tree-2.ensures.value)
+    let w : WorldState = record { stock = stock; names = names; hands = []; tasks = []; failed = []; owners = []; caches = []; book = c.new-2.result; entries = entries_of c.new-3.result.items; clients = c.new-4.result.items; requests = c.new-5.result.items; replies = c.new-6.result.items } in
+    let idle : IsWorld w = born stock names c.new-2.result [] [] [] [] [] c.new-3.result.items c.new-4.result.items c.new-5.result.items c.new-6.result.items c.count.ensures.stock c.in-Ok-plain_stock.ensures.nothing_out count few
+    (are_names arenas names is c.tree.ensures.tree.names c.in_ok-names.ensures.names) c.new-2.ensures.empty refl refl refl refl refl c.new-3.ensures.items c.new-4.ensures.items c.new-5.ensures.items c.new-6.ensures.items in
+    let hands = c.fill_empty-2.new.list.items in
+    let handed : hands ≡ replicate c.args.cpus None = c.fill_empty-2.ensures ∙ ap (λ (xs : List (Option Tag)). xs ++ replicate c.args.cpus None) c.in_ok-hands.ensures.items in
+    let working = with_cpus w c.args.cpus hands c.fill_empty.new.list.items c.in_ok-failed.failed.items idle handed
+    (c.fill_empty.ensures ∙ ap (λ (xs : List (Option Task)). xs ++ replicate c.args.cpus None) c.in_ok-tasks.ensures.items) (c.in_ok-failed.ensures.items_if_clones_equal (λ y same. same)) in
+    with_own (record w { hands = hands; tasks = c.fill_empty.new.list.items; failed = c.in_ok-failed.failed.items }) c.args.cpus arenas _ _ working (ap length handed ∙ length-replicate c.args.cpus None) c.tree.ensures.tree alike
+    (c.in-Ok.ensures.owners ∙ ap (own_owners c.args.cpus) c.tree-2.ensures.value) (c.in-Ok.ensures.caches ∙ ap (own_caches c.args.cpus) c.tree-2.ensures.value)
