@@ -1,5 +1,5 @@
 -- The rules of leases over a whole script.
-use Rattle.std.proofs.Common.{◌≡◌, refl, sym, subst, ap, ◌∙◌, List, [], ◌∷◌, ◌++◌, ℕ, All, true, Ok, arith}
+use Rattle.std.proofs.Common.{◌≡◌, refl, sym, subst, ap, ◌∙◌, List, [], ◌∷◌, ℕ, true, arith}
 use Rattle.std.proofs.lemmas.List.Elements.{All-push}
 use Rattle.arena_tree.specs.declared.trees.TreeArena.{TreeArena}
 use Rattle.arena_tree.specs.Settings.{SetupState}
