@@ -10,9 +10,9 @@
 //! `reply_law`), and a setup line is its text (`setup_law`).
 //!
 //! What bytes a line may be is stated in specs/Grammar.antt, specs/Operators.antt,
-//! specs/SetupLines.antt and specs/SetupTexts.antt, of a reply in specs/Replies.antt, and of a report in specs/Reports.antt:
-//! there `X_of` is what whole bytes are, `X_in` what a word or some words say, and `X_text` and
-//! `X_words` what is written. The limits stand in src/limits.rt.
+//! specs/SetupLines.antt and specs/SetupTexts.antt, of a reply in specs/Replies.antt, and of a
+//! report in specs/Reports.antt: there `X_of` is what whole bytes are, `X_in` what a word or some
+//! words say, and `X_text` and `X_words` what is written. The limits stand in src/limits.rt.
 //!
 //! To read a line looks at each of its bytes, at most `LONGEST_LINE`, a few times and takes no
 //! memory; to write one takes at most `LINE_ROOM` bytes of the buffer. The lines are served by the

@@ -81,7 +81,8 @@ pub record AreCpus (count : ℕ) (tasks : List (Option Task)) (failed : List Boo
 -- What the parts have given is in hands, in CPUs' caches or leased; loaded magazines have at most
 -- their size, and previous ones none or as many; the book is what is read off the entries, of which
 -- each grant was asked for; the clients, each with an id of its own, are known to the book; lines
--- were said by their clients, and the book may tell what was replied. CPUs are those that have hands.
+-- were said by their clients, and the book may tell what was replied. CPUs are those that have
+-- hands.
 pub record IsWorld (w : WorldState) : Type 0 where
   pub parts : IsAccountedFor w.stock (outside_of w)
   pub named : length w.names ≡ length w.stock
