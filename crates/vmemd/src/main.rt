@@ -6,7 +6,8 @@
 //!
 //! `vmemd serve` answers clients over TCP (running): the setup comes from a file (configs), a
 //! running system is made of it, and each worker serves one connection after another over a CPU of
-//! its own, until standard input ends and the system is shut (signals tell the workers).
+//! its own, until standard input ends and the system is shut (signals tell the workers, closers
+//! ends the accepting of connections).
 //!
 //! The words of the command line and the help are in commands, why a run ends early in faults, the
 //! exit statuses in endings.
@@ -22,6 +23,7 @@
 //! does for each line.
 #![tactic(auto)]
 
+pub mod closers;
 pub mod commands;
 pub mod configs;
 pub mod endings;
