@@ -7,7 +7,7 @@
 //! `vmemd serve` answers clients over TCP (running): the setup comes from a file (configs), a
 //! running system is made of it, and each worker serves one connection after another over a CPU of
 //! its own, until standard input ends and the system is shut (signals tell the workers, closers
-//! ends the accepting of connections).
+//! ends the accepting of connections, inputs waits for an input that doesn't block).
 //!
 //! The words of the command line and the help are in commands, why a run ends early in faults, the
 //! exit statuses in endings.
@@ -28,6 +28,7 @@ pub mod commands;
 pub mod configs;
 pub mod endings;
 pub mod faults;
+pub mod inputs;
 pub mod laws;
 pub mod running;
 pub mod scripts;
@@ -41,6 +42,7 @@ use crate::commands::{GivenWords, WordsFault, read_words};
 use crate::configs::read_config;
 use crate::endings::{end_run, end_script, end_words};
 use crate::faults::ScriptFault;
+use crate::inputs::PatientReader;
 use crate::running::{Console, RunFault, run_serve};
 use crate::scripts::run_script;
 use arena_tree::Setup;
@@ -143,7 +145,7 @@ fn serve<
         Err(fault) => return end_script(rt, Err(fault)),
     };
     let console = Console {
-        input: Watched::new(rt.reader()),
+        input: Watched::new(PatientReader::new(rt, rt.reader())),
         out: Watched::new(io::writer(rt)),
     };
     let ended = run_serve(rt, address, setup, workers, console).ended;
