@@ -24,6 +24,7 @@ struct Config {
 
 impl Model for Config {
     ghost use Rattle.arena_tree.specs.Settings.{SetupState};
+    ghost use Rattle.lease_threads.specs.Openings.{OneSpanEach};
 
     ghost Value = { SetupState };
 

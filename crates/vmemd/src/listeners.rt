@@ -19,6 +19,7 @@ pub struct Listener {
 
 impl Model for Listener {
     ghost use Rattle.std.specs.Prelude.{ℕ, List};
+    ghost use Rattle.vmemd.specs.Running.{TellsAddress};
 
     ghost Value = { List ℕ };
 
