@@ -5,9 +5,11 @@ long the processes of `Crowd` run, 10 where it isn't set."""
 import multiprocessing
 import os
 import random
+import signal
 import socket
 import struct
 import subprocess
+import sys
 import tempfile
 import threading
 import time
@@ -39,12 +41,14 @@ class Served(unittest.TestCase):
         self.config = os.path.join(self.folder.name, "config")
         with open(self.config, "w", encoding="ascii") as opened:
             opened.write(self.config_lines)
-        words = [PROGRAM, "serve", "127.0.0.1:0", self.config, str(self.workers)]
-        self.server = subprocess.Popen(words, stdin=subprocess.PIPE, stdout=subprocess.PIPE,
-                                       stderr=subprocess.PIPE, text=True)
+        self.server = self.start([PROGRAM, "serve", "127.0.0.1:0", self.config, str(self.workers)])
         told, _, address = self.server.stdout.readline().strip().partition(" ")
         self.assertEqual(told, "listening")
         self.port = int(address.rpartition(":")[2])
+
+    def start(self, words, stdin=subprocess.PIPE):
+        return subprocess.Popen(words, stdin=stdin, stdout=subprocess.PIPE, stderr=subprocess.PIPE,
+                                text=True)
 
     def tearDown(self):
         out, _ = self.server.communicate(timeout=60)
@@ -197,6 +201,74 @@ class OneWorker(Served):
                 client.lease("d", 16)
         with self.client(3) as client:
             self.assertEqual(client.lease("d", 16), ("d", 0, 16))
+
+
+class Nonblocking(Served):
+    """A server whose standard input doesn't let it wait, as one that another program set so."""
+
+    def start(self, words):
+        self.reading, self.writing = os.pipe()
+        os.set_blocking(self.reading, False)
+        return super().start(words, stdin=self.reading)
+
+    def tearDown(self):
+        os.write(self.writing, b"passed over\n")
+        self.assertIsNone(self.server.poll())
+        for end in (self.reading, self.writing):
+            os.close(end)
+        super().tearDown()
+
+    def test_it_serves_until_its_input_ends(self):
+        with self.client(1) as client:
+            client.lease("m", 4096)
+            with self.assertRaises(subprocess.TimeoutExpired):
+                self.server.wait(0.3)
+            client.release_all()
+
+
+@unittest.skipUnless(has_serve(), "VMEMD names no program with serve")
+class Unreachable(unittest.TestCase):
+    """A server that no connection can reach, its own neither, ends in time all the same: it runs in
+    a network of its own, whose loopback interface is down."""
+
+    apart = ["unshare", "--map-root-user", "--net"]
+    hold = os.path.abspath(os.path.join(__file__, "../../../packaging/vmemd-hold"))
+
+    @classmethod
+    def setUpClass(cls):
+        try:
+            ran = subprocess.run([*cls.apart, "true"], capture_output=True, timeout=60)
+            is_allowed = ran.returncode == 0
+        except OSError:
+            is_allowed = False
+        if not is_allowed:
+            why = "unshare can't make a network here: stops without loopback are left out"
+            print(f"test_server: {why}", file=sys.stderr)
+            raise unittest.SkipTest(why)
+
+    def stop(self, held, workers, end):
+        """Starts a server, ends it as told, and says what it wrote then and its status."""
+        words = [*self.apart, *held, PROGRAM, "serve", "127.0.0.1:0", os.devnull, str(workers)]
+        with subprocess.Popen(words, stdin=subprocess.PIPE, stdout=subprocess.PIPE,
+                              stderr=subprocess.PIPE, text=True, start_new_session=True) as server:
+            self.assertRegex(server.stdout.readline(), "^listening 127.0.0.1:[0-9]+\n$")
+            end(server)
+            try:
+                out, err = server.communicate(timeout=10)
+            except subprocess.TimeoutExpired:
+                os.killpg(server.pid, signal.SIGKILL)
+                raise
+        return out, err, server.returncode
+
+    closed = ("closed\n", "[INFO  vmemd] vmemd closed\n", 0)
+
+    def test_at_the_end_of_its_input(self):
+        for workers in (1, 4, 64):
+            self.assertEqual(self.stop([], workers, lambda _: None), self.closed)
+
+    def test_at_a_signal_to_what_holds_its_input(self):
+        term = lambda server: server.send_signal(signal.SIGTERM)
+        self.assertEqual(self.stop(["sh", self.hold], 4, term), self.closed)
 
 
 class Cutter:

@@ -3,7 +3,8 @@
 //! A `Worker` (workers) answers a client's line by a reply, and tidies after each connection.
 //! `ClientLines` (replying) makes a responder of one, which reads lines and writes replies, so that
 //! the line server can serve any stream by it. `serve_connection` (connections) serves one, over
-//! any reader and writer; `worker_loop` (loops) those of a listener, one after another.
+//! any reader, writer and `Link` (links), by which its peer is told where the answers end;
+//! `worker_loop` (loops) those of a listener, one after another.
 //! `SystemWorker` (system_workers) is a worker of a running system, and `accept_loop` its loop.
 //!
 //! What a line may be answered is stated in specs/Replying.antt, and what a connection leaves in
@@ -17,12 +18,14 @@
 #![tactic(auto)]
 
 mod connections;
+mod links;
 mod loops;
 mod replying;
 mod system_workers;
 mod workers;
 
 pub use connections::serve_connection;
+pub use links::Link;
 pub use loops::{ACCEPT_PAUSE, SILENCE_LIMIT, worker_loop};
 pub use replying::ClientLines;
 pub use system_workers::{REAP_LIMIT, SystemWorker, accept_loop};

@@ -51,7 +51,8 @@ fn serve_stream<K: Worker>(alloc: Global, stream: &TcpStream, lines: &mut Client
     }
     let mut reader = Watched::new(stream);
     let mut writer = Watched::new(stream);
-    let _ = serve_connection(alloc, &mut reader, &mut writer, lines);
+    let mut link = stream;
+    let _ = serve_connection(alloc, &mut reader, &mut writer, &mut link, lines);
 }
 
 /// Sets how long one read or one write may wait, and that answers leave at once.

@@ -1,11 +1,13 @@
 //! Connections of a worker that welcomes each hello and releases whatever is asked, one after
-//! another: what they leave, and that a fault ends one connection alone.
-ghost use Rattle.std.specs.Prelude.{◌≡◌};
+//! another: what they leave, that a fault ends one connection alone, and that no peer waits for its
+//! end while the worker tidies.
+ghost use Rattle.std.specs.Prelude.{◌≡◌, ⊤, true};
 
-use lease_proto::{Line, Reply, Welcome};
+use lease_proto::{ErrorWord, Line, Reply, Welcome};
 use lease_server::{ServeFault, Watched};
-use lease_tcp::{ClientLines, Worker, serve_connection};
+use lease_tcp::{ClientLines, Link, Worker, serve_connection};
 use std::alloc::Global;
+use std::cell::Cell;
 use std::io;
 use std::io::{ErrorKind, Read, Write};
 use std::process::Abort;
@@ -65,12 +67,34 @@ const LINES: &[u8] =
 const ANSWERS: &[u8] = b"welcome 1 1\nreleased 1 1 1\nreleased 1 1 2\nerror word\nerror badline\n\
 error badline\nerror badline\n";
 
+/// The end of a connection: whether its peer was told.
+#[derive(Drop)]
+struct Told {
+    is_told: bool,
+}
+
+impl Told {
+    fn new() -> Told {
+        Told { is_told: false }
+    }
+}
+
+impl Link for Told {
+    ghost is_ended = { λ t. t.is_told ≡ true };
+
+    fn end(&mut self) {
+        self.is_told = true;
+    }
+}
+
 /// A connection on which these lines come and all that is written arrives.
 fn talks(rt: &impl Abort, alloc: Global, lines: &mut ClientLines<Counted>, input: &[u8]) {
     let mut reader = Watched::new(input);
     let mut writer = Watched::new(Vec::new(alloc));
-    let served = serve_connection(alloc, &mut reader, &mut writer, lines);
+    let mut link = Told::new();
+    let served = serve_connection(alloc, &mut reader, &mut writer, &mut link, lines);
     assert_eq!(rt; served, Ok(()));
+    assert!(rt; link.is_told);
     assert_eq!(rt; writer.into_inner().as_slice(), ANSWERS);
 }
 
@@ -78,8 +102,10 @@ fn talks(rt: &impl Abort, alloc: Global, lines: &mut ClientLines<Counted>, input
 fn is_silent(rt: &impl Abort, alloc: Global, lines: &mut ClientLines<Counted>) {
     let mut reader = Watched::new(Gone);
     let mut writer = Watched::new(Vec::new(alloc));
-    let served = serve_connection(alloc, &mut reader, &mut writer, lines);
+    let mut link = Told::new();
+    let served = serve_connection(alloc, &mut reader, &mut writer, &mut link, lines);
     assert_eq!(rt; served, Err(ServeFault::Read));
+    assert!(rt; link.is_told);
     assert!(rt; writer.into_inner().is_empty());
 }
 
@@ -87,8 +113,10 @@ fn is_silent(rt: &impl Abort, alloc: Global, lines: &mut ClientLines<Counted>) {
 fn is_deaf(rt: &impl Abort, alloc: Global, lines: &mut ClientLines<Counted>, input: &[u8]) {
     let mut reader = Watched::new(input);
     let mut writer = Watched::new(Gone);
-    let served = serve_connection(alloc, &mut reader, &mut writer, lines);
+    let mut link = Told::new();
+    let served = serve_connection(alloc, &mut reader, &mut writer, &mut link, lines);
     assert_eq!(rt; served, Err(ServeFault::Write));
+    assert!(rt; link.is_told);
 }
 
 #[test]
@@ -108,4 +136,52 @@ fn a_fault_ends_its_connection_alone(rt: HostRuntime) -> Result<(), Fail> {
     };
     assert_eq!(rt; lines.into_worker(), wanted);
     Ok(())
+}
+
+/// The end of a connection, which its worker sees too.
+#[derive(Drop)]
+struct Seen<'a>(&'a Cell<bool>);
+
+impl Link for Seen<'_> {
+    ghost is_ended = { λ _. ⊤ };
+
+    fn end(&mut self) {
+        self.0.set(true);
+    }
+}
+
+/// Answers nothing, and notes whether the peer knew of the end when it tidied.
+#[derive(Drop)]
+struct Late<'a> {
+    end: &'a Cell<bool>,
+    was_told: bool,
+}
+
+impl Worker for Late<'_> {
+    ghost may_reply = { λ _ _ _ _. ⊤ };
+
+    ghost may_tidy = { λ _ _. ⊤ };
+
+    fn reply(&mut self, _line: &Line) -> Reply {
+        Reply::Error(ErrorWord::NoArena)
+    }
+
+    fn tidy(&mut self) {
+        self.was_told = self.end.get();
+    }
+}
+
+#[test]
+fn a_peer_is_told_the_end_before_its_worker_tidies(rt: HostRuntime) {
+    let alloc = rt.alloc();
+    let end = Cell::new(false);
+    let mut lines = ClientLines::new(Late {
+        end: &end,
+        was_told: false,
+    });
+    let mut reader = Watched::new(&b""[..]);
+    let mut writer = Watched::new(Vec::new(alloc));
+    let served = serve_connection(alloc, &mut reader, &mut writer, &mut Seen(&end), &mut lines);
+    assert_eq!(rt; served, Ok(()));
+    assert!(rt; lines.into_worker().was_told);
 }
