@@ -245,7 +245,7 @@ operator_keeps o old new text step = elim step [
   | inr left ↦ leaves_keep o old new left.1
 ]
 
-answer_keeps : (c : ℕ) (x : Result ServedLine LineFault) → ((l : Line) → x ≡ Ok (served.Client l) → client_of l ≢ c) → (old new : Picture) (text : List ℕ) → HasHistory old.book
+pub answer_keeps : (c : ℕ) (x : Result ServedLine LineFault) → ((l : Line) → x ≡ Ok (served.Client l) → client_of l ≢ c) → (old new : Picture) (text : List ℕ) → HasHistory old.book
     → AnswersLine old x text new → account_in c new.book ≡ account_in c old.book
 answer_keeps c (Ok (served.Client l)) others old new text history does = client_keeps c l (others l refl) old new history does.0 does.2
 answer_keeps c (Ok (served.Operator o)) others old new text history does = ap (account_in c) (operator_keeps o old new text does)

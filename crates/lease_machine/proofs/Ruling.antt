@@ -22,6 +22,7 @@ use Rattle.lease_book.specs.Entry.{Grant}
 use Rattle.lease_history.specs.Told.{reply_to}
 use Rattle.lease_machine.specs.Picture.{Picture, IsPicture, arena_named}
 use Rattle.lease_machine.specs.Moves.{HasBase}
+use Rattle.lease_proto.specs.Operators.{served_of}
 use Rattle.lease_machine.specs.Serving.{CanServe}
 use Rattle.lease_machine.specs.Replies.{SettlesRefusal}
 use Rattle.lease_machine.specs.Machine.{NewLease, NewRelease, NewRequest, RefusesLease, RefusesRelease, RequestStep, HelloStep, demand_of}
@@ -30,7 +31,7 @@ use Rattle.lease_machine.specs.LeaseLaws.{grant_told}
 use Rattle.lease_machine.specs.RoomLaws.{HasRun}
 use Rattle.lease_machine.specs.Rules.{NothingServes, WhyNoLease, LeaseRule, WhyNoRelease, ReleaseRule, RequestRule, HelloRule, IsLastReply, StepsKeepRules, RunsKeepRules}
 use Rattle.lease_machine.proofs.Homes.{leases_are_apart, units_have_one_home}
-use Rattle.lease_machine.proofs.Repeats.{history_of, request_answer, request_kept}
+use Rattle.lease_machine.proofs.Repeats.{history_of, request_answer, request_kept, operator_keeps, answer_keeps}
 use Rattle.lease_machine.proofs.Fitting.{not_known}
 use Rattle.lease_machine.proofs.Rooms.{run_serves, base_serves}
 use Rattle.lease_machine.proofs.NoRoom.{runs_up}
@@ -69,6 +70,8 @@ lease_rule old new id l is (reply.Granted g) does =
       index = does.index;
       arena = does.arena;
       takes = does.takes;
+      can = does.can;
+      room = does.granted.room;
       segment = does.segment;
       told = same;
       named = (lease_moves old new id l is (reply.Granted g) does).2;
@@ -150,7 +153,8 @@ steps_keep_rules old new line text is step = record {
         | inl known ↦ (a.0, a.1, known.0, known.1)
         | inr does ↦ absurd (again does.0)
       ]);
-  operator = λ o read. leases_move.operator old new o line text read step;
+  operator = λ o read. (let a = answer_to old new line text (Ok (served.Operator o)) read step in (a, operator_keeps o old new text a));
+  others = λ c apart. answer_keeps c (served_of line) apart old new text (history_of old is) step.answer;
   apart = leases_are_apart new step.picture;
   homes = units_have_one_home new step.picture;
   setup = step.setup;

@@ -1,7 +1,7 @@
 -- The rules of leases: who is answered what, when, and what becomes of all leases. Each step of the
 -- lease machine keeps them.
 use Rattle.std.specs.Prelude.{◌≡◌, ℕ, ◌<◌, ◌≤◌, List, [], ◌∷◌, ◌++◌, AllPairs, length, slice_get}
-use Rattle.std.specs.Prelude.{None, Some, Ok, Err}
+use Rattle.std.specs.Prelude.{None, Some, Ok, Err, ◌≢◌}
 use Rattle.std.specs.List.{find}
 use Rattle.deed_core.specs.Covering.{covering_held}
 use Rattle.deed_core.specs.Request.{Fits, IsGood, IsPlain}
@@ -19,6 +19,7 @@ use Rattle.lease_terms.specs.declared.refusals.Refusal.{Refusal}
 use Rattle.lease_terms.specs.declared.refusals.Refusal.TheVariants.{NoFit, BadRequest, NoArena}
 use Rattle.lease_terms.specs.declared.refusals.Refusal.TheVariants.{NotYours, Leases}
 use Rattle.lease_proto.specs.declared.faults.LineFault.{LineFault}
+use Rattle.lease_proto.specs.declared.lines.Line.{Line}
 use Rattle.lease_proto.specs.declared.lines.Line.TheVariants as lines
 use Rattle.lease_proto.specs.declared.lines.HelloLine.{HelloLine}
 use Rattle.lease_proto.specs.declared.lines.LeaseLine.{LeaseLine}
@@ -33,6 +34,7 @@ use Rattle.lease_proto.specs.declared.replies.Reply.TheVariants as reply
 use Rattle.lease_proto.specs.Faults.{error_line}
 use Rattle.lease_proto.specs.Frames.{Frame}
 use Rattle.lease_proto.specs.Operators.{served_of}
+use Rattle.lease_proto.specs.Requests.{client_of}
 use Rattle.lease_book.specs.Account.{is_lease, lease_of}
 use Rattle.lease_book.specs.Receipts.{Kept}
 use Rattle.lease_book.specs.BookState.{account_in, leased_segments}
@@ -43,6 +45,7 @@ use Rattle.lease_server.specs.Serving.{ServesLines}
 use Rattle.lease_machine.specs.Picture.{Picture, IsPicture, Finds, SameSetup, arena_named}
 use Rattle.lease_machine.specs.Picture.{held_outside}
 use Rattle.lease_machine.specs.Serving.{CanServe}
+use Rattle.lease_machine.specs.Operators.{OperatorStep}
 use Rattle.lease_machine.specs.Replies.{IsKnownReply, again_of}
 use Rattle.lease_machine.specs.Machine.{LeaseStep, TakesDemand, demand_of}
 use Rattle.lease_machine.specs.Laws.{Runs}
@@ -51,13 +54,16 @@ use Rattle.lease_machine.specs.LeaseLaws.{leases_in, LeasesStay, LeasesBecome, L
 use Rattle.lease_machine.specs.LeaseLaws.{HelloMoves, grant_told}
 use Rattle.lease_machine.specs.RoomLaws.{HasRun, HasRunUp}
 
--- `granted`: the units fit what the line asks of the arena that it names, and were in reach: free,
--- or in a cache. They are one lease more, of the line's client, incarnation and number.
+-- `granted`: something served the request, and its client had room for a lease. The units fit what
+-- the line asks of the arena that it names, and were in reach: free, or in a cache. They are one
+-- lease more, of the line's client, incarnation and number.
 pub record LeaseGranted (id : RequestId) (l : LeaseLine) (old new : Picture) (g : Granted)
     : Type 0 where
   pub index : ℕ
   pub arena : TreeArena
   pub takes : TakesDemand old l index arena
+  pub can : CanServe old index arena (demand_of l)
+  pub room : length (leases_in old id.client) < MOST_LEASES
   pub segment : Tag
   pub told : g ≡ grant_told old id segment
   pub named : g.arena ≡ l.arena
@@ -162,8 +168,12 @@ pub record KeepsRules (old : Picture) (line text : List ℕ) (new : Picture) : T
   pub repeat : (id : RequestId) (op : Op) → IsRequestLine line id op
       → ¬ IsNew (account_in id.client old.book) id
       → (r : Reply) × (text ≡ reply_bytes r) × IsKnownReply old id r × (new ≡ old)
-  -- an operator changes no lease
-  pub operator : (o : OperatorLine) → served_of line ≡ Ok (served.Operator o) → LeasesStay old new
+  -- an operator's is answered as `OperatorStep` says, and changes nothing of the book
+  pub operator : (o : OperatorLine) → served_of line ≡ Ok (served.Operator o)
+      → OperatorStep o old text new × (new.book ≡ old.book)
+  -- a line changes no other client's incarnation, numbers, kept reply and leases
+  pub others : (c : ℕ) → ((l : Line) → served_of line ≡ Ok (served.Client l) → client_of l ≢ c)
+      → account_in c new.book ≡ account_in c old.book
   -- afterwards no two leases overlap whose arenas have one top, each unit is in one home, the
   -- arenas and their spans are as before, and the rules go on
   pub apart : AllPairs (ApartUpChain new.spaces) (leased_segments new.book)
