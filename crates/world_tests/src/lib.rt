@@ -3,9 +3,10 @@
 //! `stories` has worlds to which each event of a list happens, with what clients hold, what was
 //! replied and what audits tell in the end; `refusals` each named refusal of an event that a test
 //! can reach, and events that can't be tried, at which nothing moves; `failing` a CPU that fails
-//! after each of its events in turn; `walks` a hundred thousand events at random, along which the
-//! sums and what clients hold are looked at. What they share stands in `worlds`; `picks`, `chances`
-//! and `kinds` are for the walk.
+//! after each of its events in turn; `limits` the last CPU, the last client, and as many leases as
+//! one may have; `walks` a hundred thousand events at random, along which the sums and what clients
+//! hold are looked at. What they share stands in `worlds`; `picks`, `chances` and `kinds` are for
+//! the walk.
 #![tactic(auto)]
 
 #[cfg(test)]
@@ -14,6 +15,8 @@ mod chances;
 mod failing;
 #[cfg(test)]
 mod kinds;
+#[cfg(test)]
+mod limits;
 #[cfg(test)]
 mod picks;
 #[cfg(test)]

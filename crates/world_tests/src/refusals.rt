@@ -5,6 +5,7 @@ use crate::worlds::{
 use arena_tree::Setup;
 use deed_core::{PlainDeed, Request};
 use lease_terms::Refusal;
+use std::alloc::AllocGlobal;
 use std::process::Abort;
 use stock_audit::ArenaSums;
 use tag_arena::Policy;
@@ -87,7 +88,7 @@ fn changes(cpu: usize, size: usize) -> WorldEvent {
     }
 }
 
-fn clients_refuse(rt: &impl Abort, world: &mut World<PlainDeed>) {
+fn clients_refuse<R: Abort + AllocGlobal>(rt: &R, world: &mut World<PlainDeed>) {
     let client = 0;
     let first = [
         (says(rt), EventFault::NotOpen),
@@ -106,7 +107,7 @@ fn clients_refuse(rt: &impl Abort, world: &mut World<PlainDeed>) {
 }
 
 /// The same client, once it was welcomed.
-fn welcomed_refuses(rt: &impl Abort, world: &mut World<PlainDeed>) {
+fn welcomed_refuses<R: Abort + AllocGlobal>(rt: &R, world: &mut World<PlainDeed>) {
     let welcomed = [WorldEvent::Looks { cpu: 0, which: 0 }, hears(0, 0)];
     all_done(rt, world, &welcomed);
     refused(rt, world, &[(gives_back(rt), EventFault::NotHeld)]);
@@ -121,7 +122,7 @@ fn welcomed_refuses(rt: &impl Abort, world: &mut World<PlainDeed>) {
     not_enabled(rt, world, &[WorldEvent::Declines { cpu: 1, refusal }]);
 }
 
-fn arenas_refuse(rt: &impl Abort, world: &mut World<PlainDeed>) {
+fn arenas_refuse<R: Abort + AllocGlobal>(rt: &R, world: &mut World<PlainDeed>) {
     let (cpu, arena, cache) = (0, 0, 0);
     let rows = [
         (carves(cpu, arena, 0), EventFault::BadRequest),
@@ -135,7 +136,7 @@ fn arenas_refuse(rt: &impl Abort, world: &mut World<PlainDeed>) {
 }
 
 /// Six chunks of a slab fill a CPU's two magazines.
-fn fill(rt: &impl Abort, world: &mut World<PlainDeed>) {
+fn fill<R: Abort + AllocGlobal>(rt: &R, world: &mut World<PlainDeed>) {
     let (cpu, arena, cache) = (0, 0, 0);
     let events = [
         WorldEvent::Carves {
@@ -156,7 +157,7 @@ fn fill(rt: &impl Abort, world: &mut World<PlainDeed>) {
     }
 }
 
-fn depots_refuse(rt: &impl Abort, world: &mut World<PlainDeed>) {
+fn depots_refuse<R: Abort + AllocGlobal>(rt: &R, world: &mut World<PlainDeed>) {
     let (cpu, arena, cache) = (0, 0, 0);
     let swaps_full = WorldEvent::SwapsFull { cpu, arena, cache };
     let swaps_fresh = WorldEvent::SwapsFresh { cpu, arena, cache };
@@ -261,7 +262,7 @@ fn idle_cpus(rt: &impl Abort, world: &mut World<PlainDeed>) {
 }
 
 /// A CPU has eight units that it carved.
-fn full_hands(rt: &impl Abort, world: &mut World<PlainDeed>) {
+fn full_hands<R: Abort + AllocGlobal>(rt: &R, world: &mut World<PlainDeed>) {
     let (cpu, arena, cache) = (0, 0, 0);
     let request = Request::plain(8);
     let begun = [

@@ -5,6 +5,7 @@ use crate::worlds::{
 use arena_tree::Setup;
 use deed_core::{PlainDeed, Request};
 use lease_proto::Op;
+use std::alloc::AllocGlobal;
 use std::process::Abort;
 use tag_arena::Policy;
 use world_core::{EventFault, Outcome, World, WorldEvent};
@@ -37,7 +38,7 @@ fn world_story(rt: HostRuntime) {
     world.end();
 }
 
-fn first_life(rt: &impl Abort, world: &mut World<PlainDeed>) {
+fn first_life<R: Abort + AllocGlobal>(rt: &R, world: &mut World<PlainDeed>) {
     let op = lease(rt, "p", 4);
     let events = [
         WorldEvent::Restarts {
@@ -65,7 +66,7 @@ fn first_life(rt: &impl Abort, world: &mut World<PlainDeed>) {
     all_done(rt, world, &events);
 }
 
-fn second_life(rt: &impl Abort, world: &mut World<PlainDeed>) {
+fn second_life<R: Abort + AllocGlobal>(rt: &R, world: &mut World<PlainDeed>) {
     let events = [
         WorldEvent::Restarts {
             client: 0,
@@ -85,7 +86,7 @@ fn second_life(rt: &impl Abort, world: &mut World<PlainDeed>) {
     all_done(rt, world, &events);
 }
 
-fn second_client(rt: &impl Abort, world: &mut World<PlainDeed>) {
+fn second_client<R: Abort + AllocGlobal>(rt: &R, world: &mut World<PlainDeed>) {
     let op = lease(rt, "p", 4);
     let events = [
         WorldEvent::Restarts {
@@ -151,7 +152,7 @@ fn hand_race(rt: HostRuntime) {
     world.end();
 }
 
-fn race(rt: &impl Abort, world: &mut World<PlainDeed>, op: Op) {
+fn race<R: Abort + AllocGlobal>(rt: &R, world: &mut World<PlainDeed>, op: Op) {
     let request = Request::plain(4);
     let events = [
         WorldEvent::Restarts {
@@ -209,7 +210,7 @@ fn rounds_story(rt: HostRuntime) {
     world.end();
 }
 
-fn greet(rt: &impl Abort, world: &mut World<PlainDeed>) {
+fn greet<R: Abort + AllocGlobal>(rt: &R, world: &mut World<PlainDeed>) {
     let events = [
         WorldEvent::Restarts {
             client: 0,
@@ -226,7 +227,7 @@ fn greet(rt: &impl Abort, world: &mut World<PlainDeed>) {
 
 /// The lease with this index is of the unit with this number: of the first chunk of a new slab, or
 /// the next chunk of it.
-fn lease_chunk(rt: &impl Abort, world: &mut World<PlainDeed>, index: usize) {
+fn lease_chunk<R: Abort + AllocGlobal>(rt: &R, world: &mut World<PlainDeed>, index: usize) {
     let op = lease(rt, "d", 1);
     let which = index.saturating_add(1);
     let (cpu, arena, cache) = (0, 0, 0);
@@ -253,7 +254,7 @@ fn lease_chunk(rt: &impl Abort, world: &mut World<PlainDeed>, index: usize) {
 
 /// The unit with this number becomes a round, the last in a magazine of its own: the two that the
 /// CPU had are full by then, and the depot has no empty one.
-fn release_chunk(rt: &impl Abort, world: &mut World<PlainDeed>, index: usize) {
+fn release_chunk<R: Abort + AllocGlobal>(rt: &R, world: &mut World<PlainDeed>, index: usize) {
     let op = release(rt, "d", index as u64);
     let which = index.saturating_add(8);
     let (cpu, arena, cache) = (0, 0, 0);
@@ -290,7 +291,7 @@ fn release_chunk(rt: &impl Abort, world: &mut World<PlainDeed>, index: usize) {
 }
 
 /// The CPU's four rounds go back into the slab.
-fn drained(rt: &impl Abort, world: &mut World<PlainDeed>) {
+fn drained<R: Abort + AllocGlobal>(rt: &R, world: &mut World<PlainDeed>) {
     let (cpu, arena, cache) = (0, 0, 0);
     for _ in 0..4 {
         let events = [
@@ -308,7 +309,7 @@ fn drained(rt: &impl Abort, world: &mut World<PlainDeed>) {
 }
 
 /// An interval passes, the depot's three rounds go back into the slab, and the slab into the arena.
-fn reaped(rt: &impl Abort, world: &mut World<PlainDeed>) {
+fn reaped<R: Abort + AllocGlobal>(rt: &R, world: &mut World<PlainDeed>) {
     let (cpu, arena, cache) = (0, 0, 0);
     let none = Outcome::NotEnabled;
     ends(
@@ -339,7 +340,7 @@ fn reaped(rt: &impl Abort, world: &mut World<PlainDeed>) {
     all_done(rt, world, &events);
 }
 
-fn all_leased(rt: &impl Abort, world: &mut World<PlainDeed>) {
+fn all_leased<R: Abort + AllocGlobal>(rt: &R, world: &mut World<PlainDeed>) {
     let op = lease(rt, "d", 64);
     let events = [
         WorldEvent::Says { client: 0, op },

@@ -4,7 +4,7 @@ ghost use Rattle.lease_proto.specs.declared.limits.TheConstants.{MOST_CPUS};
 
 use arena_tree::{NewChild, NewRoot, Setting, Setup};
 use deed_core::{PlainDeed, Request};
-use lease_proto::{LeaseLine, LeaseOptions, Op, ReleaseLine};
+use lease_proto::{LeaseLine, LeaseOptions, Op, ReleaseLine, Reply};
 use lease_terms::{ArenaName, ClientId, Quantity};
 use std::alloc::{AllocGlobal, Global};
 use std::process::Abort;
@@ -148,9 +148,15 @@ pub(crate) fn ends(
 }
 
 /// Each of the events happens.
-pub(crate) fn all_done(rt: &impl Abort, world: &mut World<PlainDeed>, events: &[WorldEvent]) {
-    for event in events {
-        ends(rt, world, *event, Outcome::Done);
+pub(crate) fn all_done<R: Abort + AllocGlobal>(
+    rt: &R,
+    world: &mut World<PlainDeed>,
+    events: &[WorldEvent],
+) {
+    let outcomes = world.run(rt.alloc(), events).expect(rt, "memory");
+    assert!(rt; outcomes.len() == events.len(), "{outcomes:?}");
+    for (event, outcome) in events.iter().zip(&outcomes) {
+        assert!(rt; *outcome == Outcome::Done, "{event:?}: {outcome:?}");
     }
 }
 
@@ -192,14 +198,19 @@ pub(crate) fn holds(
     }
 }
 
+/// The reply is written so.
+pub(crate) fn reads<R: Abort + AllocGlobal>(rt: &R, reply: &Reply, text: &str) {
+    let mut out = Vec::new(rt.alloc());
+    reply.write(&mut out).expect(rt, "memory");
+    out.pop();
+    assert!(rt; out.as_slice() == text.as_bytes(), "{reply:?}");
+}
+
 /// All replies, each as it is written, are these lines.
 pub(crate) fn replied<R: Abort + AllocGlobal>(rt: &R, world: &World<PlainDeed>, wanted: &[&str]) {
     let replies = world.replies();
     assert!(rt; replies.len() == wanted.len(), "{replies:?}");
     for (reply, text) in replies.iter().zip(wanted) {
-        let mut out = Vec::new(rt.alloc());
-        reply.write(&mut out).expect(rt, "memory");
-        out.pop();
-        assert!(rt; out.as_slice() == text.as_bytes(), "{reply:?}");
+        reads(rt, reply, text);
     }
 }
