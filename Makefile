@@ -7,8 +7,8 @@
 # make edits  tries all edits, those of more-edits/ too, of JOBS=1 crates at a time, several
 #             in a check; make edits CRATE=NAME tries one crate's
 # make cases  runs bin/vmemd on tests/cases
-# make starve refuses each growth of memory in turn, and each call of the server to the system, in what
-#             make test left; make test tries the first 40 of each run and every fifth after them
+# make starve refuses each growth of memory in turn, and the server's threads, files, listening and
+#             connections, in what make test left; make test tries each run's first 40 and every fifth then
 # make bench  measures bin/vmemd beside another server (bench/README.md); BENCH="--most 1000000"
 # make bench-serve  measures its server beside Redis, where that is there (bench/README.md)
 # make install PREFIX=/usr/local DESTDIR=  puts bin/vmemd, its pages and a systemd unit in place
