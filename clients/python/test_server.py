@@ -41,12 +41,14 @@ class Served(unittest.TestCase):
         self.config = os.path.join(self.folder.name, "config")
         with open(self.config, "w", encoding="ascii") as opened:
             opened.write(self.config_lines)
-        words = [PROGRAM, "serve", "127.0.0.1:0", self.config, str(self.workers)]
-        self.server = subprocess.Popen(words, stdin=subprocess.PIPE, stdout=subprocess.PIPE,
-                                       stderr=subprocess.PIPE, text=True)
+        self.server = self.start([PROGRAM, "serve", "127.0.0.1:0", self.config, str(self.workers)])
         told, _, address = self.server.stdout.readline().strip().partition(" ")
         self.assertEqual(told, "listening")
         self.port = int(address.rpartition(":")[2])
+
+    def start(self, words, stdin=subprocess.PIPE):
+        return subprocess.Popen(words, stdin=stdin, stdout=subprocess.PIPE, stderr=subprocess.PIPE,
+                                text=True)
 
     def tearDown(self):
         out, _ = self.server.communicate(timeout=60)
@@ -199,6 +201,29 @@ class OneWorker(Served):
                 client.lease("d", 16)
         with self.client(3) as client:
             self.assertEqual(client.lease("d", 16), ("d", 0, 16))
+
+
+class Nonblocking(Served):
+    """A server whose standard input doesn't let it wait, as one that another program set so."""
+
+    def start(self, words):
+        self.reading, self.writing = os.pipe()
+        os.set_blocking(self.reading, False)
+        return super().start(words, stdin=self.reading)
+
+    def tearDown(self):
+        os.write(self.writing, b"passed over\n")
+        self.assertIsNone(self.server.poll())
+        for end in (self.reading, self.writing):
+            os.close(end)
+        super().tearDown()
+
+    def test_it_serves_until_its_input_ends(self):
+        with self.client(1) as client:
+            client.lease("m", 4096)
+            with self.assertRaises(subprocess.TimeoutExpired):
+                self.server.wait(0.3)
+            client.release_all()
 
 
 @unittest.skipUnless(has_serve(), "VMEMD names no program with serve")

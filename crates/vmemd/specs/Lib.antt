@@ -6,4 +6,5 @@ pub mod Commands
 pub mod Laws
 pub mod RuleLaws
 pub mod Configs
+pub mod Inputs
 pub mod Running

@@ -5,6 +5,7 @@ ghost use Rattle.lease_server.specs.Watching.{inner_of, has_failed, reads_of};
 ghost use Rattle.lease_server.specs.declared.intakes.TheConstants.{MOST_READS};
 ghost use Rattle.vmemd.specs.Scripts.{IsSpent};
 ghost use Rattle.vmemd.specs.Configs.{MakesAll, ConfigFails, ConfigMakes, ConfigRefuses};
+ghost use Rattle.lease_threads.specs.Openings.{OneSpanEach};
 
 use crate::faults::{ConfigFault, ScriptFault, SettingFault};
 use crate::setting_up::{SetupBuilder, refusal, take_line};
@@ -23,10 +24,13 @@ struct Config {
 
 impl Model for Config {
     ghost use Rattle.arena_tree.specs.Settings.{SetupState};
+    ghost use Rattle.lease_threads.specs.Openings.{OneSpanEach};
 
     ghost Value = { SetupState };
 
     ghost view = { λ c. c.setup };
+
+    ghost invariant = { λ c. OneSpanEach c.setup.spans };
 }
 
 impl SetupBuilder for Config {
@@ -39,6 +43,8 @@ impl SetupBuilder for Config {
     ghost can = { CanTakeConfigLine };
 
     fn set_up(&mut self, line: &SetupLine) -> Result<(), SettingFault> {
+        // For its clause: the spans are of arenas that are there.
+        let _ = self.setup.spans();
         match line {
             SetupLine::Span(_) => Err(SettingFault::Refused(ConfigFault::SpanInServe)),
             SetupLine::Root(_) | SetupLine::Child(_) => self.setup.set_up(line),
@@ -50,6 +56,7 @@ impl SetupBuilder for Config {
 /// line at all is a setup of no arena.
 pub fn read_config<R: Read>(alloc: Global, reader: &mut Watched<R>) -> Result<Setup, ScriptFault>
     ensures ok { IfOk result (ConfigMakes (R.remaining (inner_of reader.old))) }
+    ensures one { IfOk result (λ setup. OneSpanEach setup.spans) }
     ensures err { IfErr result (ConfigRefuses (R.remaining (inner_of reader.old))
         (R.remaining (inner_of reader.new))) }
     ensures failed { IsErrOf result ScriptFault.Read

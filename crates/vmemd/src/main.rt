@@ -6,8 +6,8 @@
 //!
 //! `vmemd serve` answers clients over TCP (running): the setup comes from a file (configs), a
 //! running system is made of it, and each worker serves one connection after another over a CPU of
-//! its own, until standard input ends and the system is shut (signals tell the workers, closers
-//! ends the accepting of connections).
+//! its own, until standard input ends and the system is shut (listeners has its socket, signals
+//! tell the workers, inputs waits for an input that doesn't block).
 //!
 //! The words of the command line and the help are in commands, why a run ends early in faults, the
 //! exit statuses in endings.
@@ -24,12 +24,17 @@
 //! does for each line.
 #![tactic(auto)]
 
-pub mod closers;
+ghost use Rattle.std.specs.Prelude.{◌≤◌, IfOk};
+ghost use Rattle.lease_threads.specs.Openings.{OneSpanEach};
+ghost use Rattle.vmemd.specs.declared.commands.TheConstants.{MOST_WORKERS};
+
 pub mod commands;
 pub mod configs;
 pub mod endings;
 pub mod faults;
+pub mod inputs;
 pub mod laws;
+pub mod listeners;
 pub mod running;
 pub mod scripts;
 pub mod setting_up;
@@ -42,6 +47,7 @@ use crate::commands::{GivenWords, WordsFault, read_words};
 use crate::configs::read_config;
 use crate::endings::{end_run, end_script, end_words};
 use crate::faults::ScriptFault;
+use crate::inputs::PatientReader;
 use crate::running::{Console, RunFault, run_serve};
 use crate::scripts::run_script;
 use arena_tree::Setup;
@@ -138,13 +144,15 @@ fn serve<
         + Clock
         + Sync
         + AllocGlobal,
->(rt: &R, address: &str, config: &str, workers: u32) -> ExitCode {
+>(rt: &R, address: &str, config: &str, workers: u32) -> ExitCode
+    requires { (1 ≤ workers) × (workers ≤ MOST_WORKERS) }
+{
     let setup = match setup_of(rt, config) {
         Ok(setup) => setup,
         Err(fault) => return end_script(rt, Err(fault)),
     };
     let console = Console {
-        input: Watched::new(rt.reader()),
+        input: Watched::new(PatientReader::new(rt, rt.reader())),
         out: Watched::new(io::writer(rt)),
     };
     let ended = run_serve(rt, address, setup, workers, console).ended;
@@ -154,7 +162,9 @@ fn serve<
     end_run(rt, ended)
 }
 
-fn setup_of<R: Files + AllocGlobal>(rt: &R, config: &str) -> Result<Setup, ScriptFault> {
+fn setup_of<R: Files + AllocGlobal>(rt: &R, config: &str) -> Result<Setup, ScriptFault>
+    ensures { IfOk result (λ setup. OneSpanEach setup.spans) }
+{
     match File::open(rt, config) {
         Ok(file) => read_config(rt.alloc(), &mut Watched::new(file)),
         Err(_) => Err(ScriptFault::Read),

@@ -8,6 +8,7 @@ mod telling;
 use self::tables::{ASKED, MISTAKEN, REFUSED, ROWS};
 use crate::commands::{GivenWords, MOST_WORKERS, WordsFault, read_words};
 use crate::faults::{ConfigFault, ScriptFault};
+use crate::inputs::PatientReader;
 use crate::scripts::run_script;
 use arena_tree::{LONGEST_CHAIN, MOST_ARENAS, MOST_CACHES, MOST_SPANS};
 use lease_book::MOST_LEASES;
@@ -26,12 +27,14 @@ enum Mishap {
     None,
     Fails { at: u64 },
     IsInterrupted { at: u64 },
+    IsEmpty { at: u64 },
 }
 
 fn happens(mishap: Mishap, turn: u64) -> Option<ErrorKind> {
     match mishap {
         Mishap::Fails { at } if at == turn => Some(ErrorKind::BrokenPipe),
         Mishap::IsInterrupted { at } if at == turn => Some(ErrorKind::Interrupted),
+        Mishap::IsEmpty { at } if at == turn => Some(ErrorKind::WouldBlock),
         _ => None,
     }
 }
@@ -310,6 +313,29 @@ fn each_read_failing(rt: HostRuntime) {
         assert_eq!(rt; ran, Ok(()), "after {read}");
         assert_eq!(rt; output.as_slice(), ANSWERS, "after {read}");
     }
+}
+
+#[test]
+fn an_input_that_is_empty_for_a_while(rt: HostRuntime) -> Result<(), Fail> {
+    for (mishap, is_read) in [
+        (Mishap::None, true),
+        (Mishap::IsEmpty { at: 1 }, true),
+        (Mishap::IsEmpty { at: 3 }, true),
+        (Mishap::Fails { at: 3 }, false),
+    ] {
+        let input = Pieces {
+            rest: SCRIPT,
+            size: 30,
+            mishap,
+            reads: 0,
+        };
+        let mut patient = PatientReader::new(&rt, input);
+        let mut read = Vec::new(rt.alloc());
+        let all = patient.read_to_end(&mut read);
+        assert_eq!(rt; all.is_ok(), is_read);
+        assert_eq!(rt; read.as_slice() == SCRIPT, is_read);
+    }
+    Ok(())
 }
 
 #[test]

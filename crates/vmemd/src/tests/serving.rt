@@ -1,4 +1,6 @@
 //! A server and its clients, both in this process, over loopback.
+ghost use Rattle.std.specs.Prelude.{◌≤◌};
+ghost use Rattle.vmemd.specs.declared.commands.TheConstants.{MOST_WORKERS};
 
 use super::{Mishap, Pieces};
 use crate::configs::read_config;
@@ -61,9 +63,8 @@ const TALKS: [Talk; 4] = [
 #[test]
 fn tcp_rows(rt: HostRuntime) {
     for talk in &TALKS {
-        for workers in [1, 3] {
-            serve_talk(&rt, talk, workers);
-        }
+        serve_talk(&rt, talk, 1);
+        serve_talk(&rt, talk, 3);
     }
 }
 
@@ -78,7 +79,9 @@ fn serve_talk<
         + Abort
         + Sync
         + AllocGlobal,
->(rt: &R, talk: &Talk, workers: u32) {
+>(rt: &R, talk: &Talk, workers: u32)
+    requires { (1 ≤ workers) × (workers ≤ MOST_WORKERS) }
+{
     let control = TcpListener::bind(rt, "127.0.0.1:0").expect(rt, "a port");
     let address = control.local_addr().expect(rt, "an address");
     let user = TcpStream::connect(rt, address).expect(rt, "a connection");
@@ -100,7 +103,9 @@ fn run_server<
         + Abort
         + Sync
         + AllocGlobal,
->(rt: &R, config: &'static [u8], workers: u32, console: &TcpStream) {
+>(rt: &R, config: &'static [u8], workers: u32, console: &TcpStream)
+    requires { (1 ≤ workers) × (workers ≤ MOST_WORKERS) }
+{
     let mut reader = Watched::new(Pieces {
         rest: config,
         size: 4096,
@@ -115,6 +120,8 @@ fn run_server<
     let ran = run_serve(rt, "127.0.0.1:0", setup, workers, streams);
     console.shutdown(Shutdown::Both).expect(rt, "an end");
     assert!(rt; ran.ended.is_ok(), "a fault");
+    let closed = ran.closed.expect(rt, "roots");
+    assert!(rt; closed.len() == 1, "not one root");
 }
 
 fn use_server<R: Net<Listener = TcpListener, Stream = TcpStream> + Abort + AllocGlobal>(

@@ -11,8 +11,8 @@ returns-clause-runs g c = λ old a.
     let new = console_streams g.I.Read.remaining g.W.Write.contents record { input = c.args.ran.console.input; out = c.match-ended.out } in
     elim c.match-ended.branch [
       | in-Ok w ↦
-          let closes : Closes mid.written new.written new.writer_failed c.match-ended.ended = rw (w.ended-is, w.out-is) w.tell_closed-ended.ensures.closes in
-          run_closes old mid new tt c.match-ended.ended (subst (λ e. Attends old mid e) w.in-Ok.is a) refl closes
+          let closes : Closes mid.written new.written mid.writer_failed new.writer_failed c.match-ended.ended = rw (w.ended-is, w.out-is) w.tell_closed-ended.ensures.closes in
+          run_closes old mid new tt c.match-ended.ended (subst (λ e. Attends old mid e) w.in-Ok.is a) refl refl closes
       | in-Err w ↦
           let fails = run_fails old mid w.in-Err.fault (subst (λ e. Attends old mid e) w.in-Err.is a) in
           subst (λ o. ServesToItsEnd old (console_streams g.I.Read.remaining g.W.Write.contents record { input = c.args.ran.console.input; out = o }) c.match-ended.ended)
