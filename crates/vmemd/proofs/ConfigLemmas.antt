@@ -1,6 +1,6 @@
 -- Lemmas on the lines of CONFIG, which are all taken or one is refused.
 use Rattle.std.proofs.Common.{◌≡◌, ℕ, ◌+◌, Bool, Option, Some, None, Err, Ok, Result, OnOk, IfErr, List, [], ◌∷◌, ◌++◌, length, take, refl, sym, ◌∙◌, ap, subst, arith, IfSome}
-use Rattle.std.proofs.Common.{OnErr, ◌<◌, ◌≤◌, inl, inr, All, slice_index_or}
+use Rattle.std.proofs.Common.{OnErr, ◌<◌, ◌≤◌, ◌⊎◌, inl, inr, All, slice_index_or}
 use Rattle.std.proofs.Math.Nat.{eq-or-lt_of_le}
 use Rattle.std.proofs.lemmas.List.{append-nil, length-take, length_push, get_or_append_left, get_or_push}
 use Rattle.std.proofs.lemmas.Option.{slice_get_within}
@@ -9,9 +9,10 @@ use Rattle.std.proofs.KnownBytes.{Consumes-kept}
 use Rattle.lease_proto.specs.declared.limits.TheConstants.{LINE_ROOM}
 use Rattle.lease_proto.specs.declared.faults.LineFault.{LineFault}
 use Rattle.lease_proto.specs.Frames.{frames_of_rest, with_line_feed, IsOneLine}
+use Rattle.lease_proto.specs.declared.setup_lines.ChildLine.{ChildLine}
 use Rattle.lease_proto.specs.declared.setup_lines.RootLine.{RootLine}
 use Rattle.lease_proto.specs.declared.setup_lines.SetupLine.{SetupLine}
-use Rattle.lease_proto.specs.declared.setup_lines.SetupLine.TheVariants.{Root}
+use Rattle.lease_proto.specs.declared.setup_lines.SetupLine.TheVariants.{Root, Child}
 use Rattle.lease_proto.specs.SetupLines.{setup_of}
 use Rattle.arena_tree.specs.Settings.{SetupState, IsSetup, IsOwned}
 use Rattle.arena_tree.specs.Setups.{root_range}
@@ -123,10 +124,13 @@ one_more arenas spans o owned one at i j d less within =
           rw (first, second) (one i j d less inside))
     ]
 
--- a root that is taken comes with one span, and else all is as it was
-pub root_kept : (r : Result (Unit {0}) SettingFault) (old new : SetupState) (line : SetupLine) (root : RootLine) → line ≡ Root root → IsSetup old
+-- a root that is taken comes with one span, a child with none, and else all is as it was
+pub line_kept : (r : Result (Unit {0}) SettingFault) (old new : SetupState) (line : SetupLine) → (((root : RootLine) × (line ≡ Root root)) ⊎ ((child : ChildLine) × (line ≡ Child child))) → IsSetup old
     → OneSpanEach old.spans → OnOk r (TakesSetupLine old line new) → OnErr r (new ≡ old) → OneSpanEach new.spans
-root_kept (Ok u) old new line root is setup one taken same =
+line_kept (Ok u) old new line (inl (root, is)) setup one taken same =
     let (adds, spans) : TakesSetupLine old (Root root) new = subst (λ l. TakesSetupLine old l new) is taken in
     subst OneSpanEach (sym spans) (one_more old.arenas old.spans (record { arena = length old.arenas; range = root_range (root_asked root) }) setup.owned one refl)
-root_kept (Err fault) old new line root is setup one taken same = subst (λ (s : SetupState). OneSpanEach s.spans) (sym same) one
+line_kept (Ok u) old new line (inr (child, is)) setup one taken same =
+    let (adds, spans) : TakesSetupLine old (Child child) new = subst (λ l. TakesSetupLine old l new) is taken in
+    subst OneSpanEach (sym spans) one
+line_kept (Err fault) old new line is setup one taken same = subst (λ (s : SetupState). OneSpanEach s.spans) (sym same) one
