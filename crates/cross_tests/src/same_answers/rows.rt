@@ -49,7 +49,8 @@ impl Taken {
         let mut arenas = Vec::with_capacity(rt.alloc(), MOST_ARENAS).expect(rt, "room");
         for (id, &quantum) in row.quanta.iter().enumerate() {
             assert!(rt; arenas.len() < arenas.capacity());
-            arenas.push_reserved(Bodies::new(rt, id as u32, quantum, policy));
+            let id = u32::try_from(id).ok().expect(rt, "few arenas");
+            arenas.push_reserved(Bodies::new(rt, id, quantum, policy));
         }
         Taken {
             is_own: policy == row.policy,

@@ -1,8 +1,7 @@
 //! A server and its clients, both in this process, over loopback.
-ghost use Rattle.std.specs.Prelude.{◌≤◌};
-ghost use Rattle.vmemd.specs.declared.commands.TheConstants.{MOST_WORKERS};
 
 use super::{Mishap, Pieces};
+use crate::commands::MOST_WORKERS;
 use crate::configs::read_config;
 use crate::running::{Console, run_serve};
 use lease_server::Watched;
@@ -63,8 +62,9 @@ const TALKS: [Talk; 4] = [
 #[test]
 fn tcp_rows(rt: HostRuntime) {
     for talk in &TALKS {
-        serve_talk(&rt, talk, 1);
-        serve_talk(&rt, talk, 3);
+        for workers in [1, 3] {
+            serve_talk(&rt, talk, workers);
+        }
     }
 }
 
@@ -79,9 +79,7 @@ fn serve_talk<
         + Abort
         + Sync
         + AllocGlobal,
->(rt: &R, talk: &Talk, workers: u32)
-    requires { (1 ≤ workers) × (workers ≤ MOST_WORKERS) }
-{
+>(rt: &R, talk: &Talk, workers: u32) {
     let control = TcpListener::bind(rt, "127.0.0.1:0").expect(rt, "a port");
     let address = control.local_addr().expect(rt, "an address");
     let user = TcpStream::connect(rt, address).expect(rt, "a connection");
@@ -103,9 +101,8 @@ fn run_server<
         + Abort
         + Sync
         + AllocGlobal,
->(rt: &R, config: &'static [u8], workers: u32, console: &TcpStream)
-    requires { (1 ≤ workers) × (workers ≤ MOST_WORKERS) }
-{
+>(rt: &R, config: &'static [u8], workers: u32, console: &TcpStream) {
+    assert!(rt; 1 <= workers && workers <= u32::from(MOST_WORKERS));
     let mut reader = Watched::new(Pieces {
         rest: config,
         size: 4096,
