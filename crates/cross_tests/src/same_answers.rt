@@ -1,7 +1,6 @@
 //! Both bodies of an arena, `tag_arena`'s and the plain one for tests, answer each call alike.
 mod bodies;
 mod chances;
-mod rows;
 mod walks;
 
 use self::bodies::Bodies;
