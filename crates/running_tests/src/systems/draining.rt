@@ -37,13 +37,17 @@ struct Flags {
 #[test]
 fn drain_step_beside_another(rt: HostRuntime) {
     for row in &halted_rows() {
-        for turn in 0..row.held.len() {
-            let mut setup = Setup::new(rt.alloc());
-            root(&rt, &mut setup, "d", 0, 64, Policy::Instant, 5);
-            child(&rt, &mut setup, "b", "d");
-            let ground = Ground::new(rt.alloc()).expect(&rt, "a table");
-            fail_beside::<Brand, _>(&rt, ground, setup, row, turn);
-        }
+        fail_at_each(&rt, row);
+    }
+}
+
+fn fail_at_each<R: Abort + Wait + Threads + Clock + AllocGlobal + Sync>(rt: &R, row: &Halting) {
+    for turn in 0..row.held.len() {
+        let mut setup = Setup::new(rt.alloc());
+        root(rt, &mut setup, "d", 0, 64, Policy::Instant, 5);
+        child(rt, &mut setup, "b", "d");
+        let ground = Ground::new(rt.alloc()).expect(rt, "a table");
+        fail_beside::<Brand, _>(rt, ground, setup, row, turn);
     }
 }
 
