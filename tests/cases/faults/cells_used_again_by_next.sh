@@ -1,0 +1,1 @@
+awk 'BEGIN { print "root m 0 64 1 next 0\nhello 1 1"; for (n = 1; n < 1400000; n += 2) print "lease 1 1 " n " m 8\nrelease 1 1 " (n + 1) " m " ("next" == "next" ? 8 * ((n - 1) / 2 % 8) : 0) }' | (ulimit -v 12000; exec "$vmemd" script) | awk '{ count[$1]++ } END { print NR, count["welcome"], count["granted"], count["released"] }'
