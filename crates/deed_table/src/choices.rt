@@ -4,7 +4,7 @@ ghost use Rattle.std.specs.Prelude.{ℕ};
 use std::marker::Brand;
 
 /// A number that a call picks, with `Brand`.
-pub trait Chosen {
+pub(crate) trait Chosen {
     ghost number: { ℕ };
 }
 
@@ -13,7 +13,7 @@ impl Chosen for Brand {
 }
 
 /// A range that a call picks, with `Brand`.
-pub trait ChosenRange {
+pub(crate) trait ChosenRange {
     ghost use Rattle.deed_core.specs.Extent.{Extent};
 
     ghost range: { Extent };

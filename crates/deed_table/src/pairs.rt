@@ -151,7 +151,7 @@ pub fn apart<N: Name>(
     Pair::new(first, second).part()
 }
 
-// Learns that two ranges of one root, which the seat covers beside each other, do not overlap.
+/// Learns that two ranges of one root, which the seat covers beside each other, do not overlap.
 fn look_at_both(
     table: &DeedTable,
     seat: &mut Seat<(), View>,

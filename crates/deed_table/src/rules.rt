@@ -5,7 +5,7 @@ use atomic_table::{Join, Play, Split, TableRule};
 use std::marker::PhantomData;
 
 /// Each unit of an opened root is covered once, and each root number stands in one place at most.
-pub struct OnceEach;
+pub(crate) struct OnceEach;
 
 impl TableRule<(), View, ()> for OnceEach {
     ghost use Rattle.std.specs.Prelude.{◌^◌};
@@ -18,7 +18,7 @@ impl TableRule<(), View, ()> for OnceEach {
 }
 
 /// A deed's range is cut at the number.
-pub struct CutAt<C> {
+pub(crate) struct CutAt<C> {
     chosen: PhantomData<C>,
 }
 
@@ -31,7 +31,7 @@ impl<C: Chosen> Split<View> for CutAt<C> {
 }
 
 /// Two ranges that touch become one.
-pub struct Merge;
+pub(crate) struct Merge;
 
 impl Join<View> for Merge {
     ghost use Rattle.deed_table.specs.View.{merged_view, spent_view};
@@ -42,7 +42,7 @@ impl Join<View> for Merge {
 }
 
 /// Two views lie beside each other.
-pub struct Beside;
+pub(crate) struct Beside;
 
 impl Join<View> for Beside {
     ghost use Rattle.deed_table.specs.View.{view_of_both, spent_view};
@@ -53,7 +53,7 @@ impl Join<View> for Beside {
 }
 
 /// The first range stays, and the others go to a new seat.
-pub struct Part;
+pub(crate) struct Part;
 
 impl Split<View> for Part {
     ghost use Rattle.deed_table.specs.View.{first_part, other_part};
@@ -64,7 +64,7 @@ impl Split<View> for Part {
 }
 
 /// The first numbers go to a new seat.
-pub struct Share<C> {
+pub(crate) struct Share<C> {
     chosen: PhantomData<C>,
 }
 
@@ -77,7 +77,7 @@ impl<C: Chosen> Split<View> for Share<C> {
 }
 
 /// Nothing changes, and the rule is learnt.
-pub struct Learn;
+pub(crate) struct Learn;
 
 impl Play<(), View> for Learn {
     ghost use Rattle.deed_table.specs.Rule.{Learns};
@@ -86,7 +86,7 @@ impl Play<(), View> for Learn {
 }
 
 /// The number that is left becomes a root, which is covered whole.
-pub struct Open<C> {
+pub(crate) struct Open<C> {
     placed: PhantomData<C>,
 }
 

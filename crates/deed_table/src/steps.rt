@@ -16,9 +16,9 @@ use atomic_table::{Seat, Table};
 use deed_core::Range;
 use std::alloc::Global;
 
-pub type DeedTable = Table<(), View, (), OnceEach, Global>;
+pub(crate) type DeedTable = Table<(), View, (), OnceEach, Global>;
 
-// Cuts the first range of a seat, and gives the part from `at` on to a new seat.
+/// Cuts the first range of a seat, and gives the part from `at` on to a new seat.
 pub(crate) fn cut<C: Chosen>(
     table: &DeedTable,
     seat: &mut Seat<(), View>,
@@ -36,7 +36,7 @@ pub(crate) fn cut<C: Chosen>(
     table.shared.split_seat::<CutAt<C>>(seat)
 }
 
-// Takes in the view of another seat, whose range goes on where the first ends.
+/// Takes in the view of another seat, whose range goes on where the first ends.
 pub(crate) fn merge(table: &DeedTable, seat: &mut Seat<(), View>, other: Seat<(), View>)
     requires seat { SitsAt seat.old.table_id table.now.shared.table_id }
     requires other { (other.table_id ≡ table.now.shared.table_id) × (other.me.1 ≡ []) }
@@ -47,7 +47,7 @@ pub(crate) fn merge(table: &DeedTable, seat: &mut Seat<(), View>, other: Seat<()
     table.shared.join_seat::<Merge>(seat, other);
 }
 
-// Takes in the view of another seat, beside its own.
+/// Takes in the view of another seat, beside its own.
 pub(crate) fn put_beside(table: &DeedTable, seat: &mut Seat<(), View>, other: Seat<(), View>)
     requires seat { SitsAt seat.old.table_id table.now.shared.table_id }
     requires other { (other.table_id ≡ table.now.shared.table_id) × (other.me.1 ≡ []) }
@@ -58,7 +58,7 @@ pub(crate) fn put_beside(table: &DeedTable, seat: &mut Seat<(), View>, other: Se
     table.shared.join_seat::<Beside>(seat, other);
 }
 
-// Learns that the view covers no unit twice.
+/// Learns that the view covers no unit twice.
 pub(crate) fn look(table: &DeedTable, seat: &mut Seat<(), View>)
     requires { SitsAt seat.old.table_id table.now.shared.table_id }
     ensures table { seat.new.table_id ≡ seat.old.table_id }
@@ -68,7 +68,7 @@ pub(crate) fn look(table: &DeedTable, seat: &mut Seat<(), View>)
     table.shared.load::<Learn>(seat, 0);
 }
 
-// Keeps the first range, and gives the others to a new seat.
+/// Keeps the first range, and gives the others to a new seat.
 pub(crate) fn part(table: &DeedTable, seat: &mut Seat<(), View>) -> Seat<(), View>
     requires { SitsAt seat.old.table_id table.now.shared.table_id }
     ensures table { (seat.new.table_id ≡ seat.old.table_id)
@@ -79,7 +79,7 @@ pub(crate) fn part(table: &DeedTable, seat: &mut Seat<(), View>) -> Seat<(), Vie
     table.shared.split_seat::<Part>(seat)
 }
 
-// Gives the first n numbers to a new seat.
+/// Gives the first n numbers to a new seat.
 pub(crate) fn share<C: Chosen>(
     table: &DeedTable,
     seat: &mut Seat<(), View>,
@@ -97,7 +97,7 @@ pub(crate) fn share<C: Chosen>(
     table.shared.split_seat::<Share<C>>(seat)
 }
 
-// The one number that is left becomes a root.
+/// The one number that is left becomes a root.
 pub(crate) fn open<C: ChosenRange>(table: &DeedTable, seat: &mut Seat<(), View>, range: &Range)
     requires range { range.now ≡ C.range }
     requires seat { SitsAt seat.old.table_id table.now.shared.table_id }

@@ -2,7 +2,7 @@
 use std::collections::LinkedList;
 
 /// The units from `base` on, `len` of them, of one root. No value of it is made.
-pub struct Piece {
+pub(crate) struct Piece {
     pub root: u32,
     pub base: u64,
     pub len: u64,
@@ -10,7 +10,7 @@ pub struct Piece {
 
 /// The ranges that a seat covers, the roots that it opened, and the root numbers that are left to
 /// it, which are the `left` numbers from `first` on. No value of it is made.
-pub struct View {
+pub(crate) struct View {
     pub ranges: LinkedList<Piece>,
     pub roots: LinkedList<Piece>,
     pub first: u64,

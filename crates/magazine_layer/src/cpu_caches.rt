@@ -162,7 +162,7 @@ impl<D: Deed> CpuCache<D> {
         Ok(())
     }
 
-    // Loads a magazine. Loaded is the previous one then, and the previous one comes out.
+    /// Loads a magazine. Loaded is the previous one then, and the previous one comes out.
     pub(crate) fn rotate(&mut self, magazine: Magazine<D>) -> Magazine<D>
         requires size { magazine.size ≡ self.old.size }
         requires whole { (length self.old.loaded ≡ 0) ⊎ (length self.old.loaded ≡ self.old.size) }

@@ -253,7 +253,7 @@ impl<D: Deed> Depot<D> {
         Some(segment)
     }
 
-    // Discards the empty magazines outside the working set.
+    /// Discards the empty magazines outside the working set.
     fn trim(&mut self)
         ensures { self.new ≡ after_trim self.old }
     {
@@ -261,7 +261,7 @@ impl<D: Deed> Depot<D> {
         self.empty_reapable = 0;
     }
 
-    // Has a magazine drained, if one may be reaped.
+    /// Has a magazine drained, if one may be reaped.
     fn begin(&mut self) -> bool
         ensures can { IsTrue result ↔ CanReap self.old }
         ensures begins { OnTrue result (Begins self.old self.new) }

@@ -39,7 +39,7 @@ impl<D: Deed> FullMagazine<D> {
         magazine
     }
 
-    // The units that its rounds cover.
+    /// The units that its rounds cover.
     fn units(&self) -> u128
         ensures { result ≡ units_tagged self.now }
     {
@@ -47,7 +47,7 @@ impl<D: Deed> FullMagazine<D> {
     }
 }
 
-// The units of some full magazines, or the greatest number where they are more.
+/// The units of some full magazines, or the greatest number where they are more.
 pub(crate) fn units_of_all<D: Deed>(magazines: &VecDeque<FullMagazine<D>>) -> u128
     ensures { result ≡ min (units_tagged (all_rounds magazines.now.items)) (2 ^ 128 - 1) }
 {

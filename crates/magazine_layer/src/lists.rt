@@ -9,7 +9,7 @@ use std::alloc::AllocError;
 use std::collections::VecDeque;
 use std::mem;
 
-// Ends the first `count` magazines of a list, none of which has a round.
+/// Ends the first `count` magazines of a list, none of which has a round.
 pub(crate) fn discard_oldest<D: Deed>(empty: &mut VecDeque<Magazine<D>>, count: usize)
     requires none { All (λ m. m.rounds ≡ []) empty.old.items }
     requires count { count ≤ deque_len empty.old }
@@ -22,7 +22,7 @@ pub(crate) fn discard_oldest<D: Deed>(empty: &mut VecDeque<Magazine<D>>, count: 
     }
 }
 
-// Takes the first of a list, without a move of the others.
+/// Takes the first of a list, without a move of the others.
 pub(crate) fn take_first<T>(items: &mut VecDeque<T>) -> T
     requires { 0 < deque_len items.old }
     ensures items { items.old.items ≡ result ∷ items.new.items }
@@ -32,7 +32,7 @@ pub(crate) fn take_first<T>(items: &mut VecDeque<T>) -> T
     items.pop_front().unwrap()
 }
 
-// Has a full magazine drained.
+/// Has a full magazine drained.
 pub(crate) fn drain<D: Deed>(draining: &mut Vec<Segment<D>>, magazine: FullMagazine<D>)
     requires { draining.old.items ≡ [] }
     ensures { draining.new.items ≡ magazine }
@@ -42,7 +42,7 @@ pub(crate) fn drain<D: Deed>(draining: &mut Vec<Segment<D>>, magazine: FullMagaz
     drained.destroy_empty();
 }
 
-// Makes room for one more full magazine, wherever it goes later.
+/// Makes room for one more full magazine, wherever it goes later.
 pub(crate) fn reserve_one<D: Deed>(
     full: &mut VecDeque<FullMagazine<D>>,
     empty: &mut VecDeque<Magazine<D>>,

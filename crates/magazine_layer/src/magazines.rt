@@ -112,7 +112,7 @@ impl<D: Deed> Magazine<D> {
         self.rounds.pop()
     }
 
-    // Puts a round in.
+    /// Puts a round in.
     pub(crate) fn push(&mut self, segment: Segment<D>)
         requires { length self.old.rounds < self.old.size }
         ensures { self.new ≡
@@ -121,7 +121,7 @@ impl<D: Deed> Magazine<D> {
         self.rounds.push_reserved(segment);
     }
 
-    // Puts in all rounds of another magazine, in their order.
+    /// Puts in all rounds of another magazine, in their order.
     pub(crate) fn append(&mut self, other: &mut Magazine<D>)
         requires { length self.old.rounds + length other.old.rounds ≤ self.old.size }
         ensures here { self.new ≡
@@ -134,7 +134,7 @@ impl<D: Deed> Magazine<D> {
         }
     }
 
-    // The rounds, for the depot that drains them.
+    /// The rounds, for the depot that drains them.
     pub(crate) fn into_rounds(self) -> Vec<Segment<D>>
         ensures { result.items ≡ self.rounds }
     {
@@ -155,7 +155,7 @@ impl<D: Deed> Magazine<D> {
     }
 }
 
-// Ends a magazine that has no round.
+/// Ends a magazine that has no round.
 pub(crate) fn discard_empty<D: Deed>(magazine: Magazine<D>)
     requires { magazine.rounds ≡ [] }
 {
@@ -165,7 +165,7 @@ pub(crate) fn discard_empty<D: Deed>(magazine: Magazine<D>)
     }
 }
 
-// The units of some rounds.
+/// The units of some rounds.
 pub(crate) fn units_of_rounds<D: Deed>(rounds: &[Segment<D>]) -> u128
     ensures value { result ≡ units_tagged rounds.now }
     ensures bound { result < 2 ^ 126 }

@@ -43,13 +43,13 @@ pub struct RoundRun<D: Deed> {
     pub exchanges: usize,
 }
 
-// What one operation gave.
+/// What one operation gave.
 struct Step<D: Deed> {
     answer: RoundAnswer<D>,
     exchanges: usize,
 }
 
-// Takes a round, of the CPU's cache or of a full magazine of the depot's.
+/// Takes a round, of the CPU's cache or of a full magazine of the depot's.
 fn take_round<D: Deed>(alloc: Global, cpu: &mut CpuCache<D>, depot: &mut Depot<D>) -> Step<D>
     requires { cpu.old.size ≤ depot.old.size }
     ensures takes { TakesRound (cpu_depot cpu.old depot.old) (cpu_depot cpu.new depot.new)
@@ -90,8 +90,8 @@ fn take_round<D: Deed>(alloc: Global, cpu: &mut CpuCache<D>, depot: &mut Depot<D
     }
 }
 
-// Makes room in a CPU's cache whose magazines are both full, and tells the exchanges that it took,
-// unless out of memory.
+/// Makes room in a CPU's cache whose magazines are both full, and tells the exchanges that it took,
+/// unless out of memory.
 fn make_room<D: Deed>(alloc: Global, cpu: &mut CpuCache<D>, depot: &mut Depot<D>) -> Option<usize>
     requires full { BothFull cpu.old }
     requires sizes { cpu.old.size ≤ depot.old.size }
@@ -118,7 +118,7 @@ fn make_room<D: Deed>(alloc: Global, cpu: &mut CpuCache<D>, depot: &mut Depot<D>
     }
 }
 
-// Makes room by a new magazine, unless out of memory.
+/// Makes room by a new magazine, unless out of memory.
 fn put_new<D: Deed>(alloc: Global, cpu: &mut CpuCache<D>, depot: &mut Depot<D>) -> Option<usize>
     requires full { BothFull cpu.old }
     requires sizes { cpu.old.size ≡ depot.old.size }
@@ -147,7 +147,7 @@ fn put_new<D: Deed>(alloc: Global, cpu: &mut CpuCache<D>, depot: &mut Depot<D>) 
     }
 }
 
-// Gives a round, to the CPU's cache or once room is made there.
+/// Gives a round, to the CPU's cache or once room is made there.
 fn give_round<D: Deed>(
     alloc: Global,
     cpu: &mut CpuCache<D>,
@@ -184,7 +184,7 @@ fn give_round<D: Deed>(
     }
 }
 
-// Runs one operation.
+/// Runs one operation.
 fn run_one<D: Deed>(
     alloc: Global,
     cpu: &mut CpuCache<D>,

@@ -15,7 +15,7 @@ use tag_arena::Policy;
 
 /// An index in the list of free ranges, the range there, and an address in it.
 #[derive(Clone, Copy)]
-pub struct Found {
+pub(crate) struct Found {
     pub at: usize,
     pub range: HeldRange,
     pub base: u64,
@@ -67,7 +67,7 @@ fn better<D: Deed>(
 }
 
 /// The best range that serves the request, and its least address that does.
-pub fn best<D: Deed>(free: &[Stored<D>], quantum: u64, request: &Request) -> Option<Found>
+pub(crate) fn best<D: Deed>(free: &[Stored<D>], quantum: u64, request: &Request) -> Option<Found>
     requires quantum { IsPowerOfTwo quantum }
     requires good { IsGood quantum request.now }
     ensures choice { IsBestChoice quantum request.now free.now (base_of result) }
@@ -112,7 +112,7 @@ fn earlier<D: Deed>(
 }
 
 /// The least address from `start` on that serves the request.
-pub fn earliest<D: Deed>(
+pub(crate) fn earliest<D: Deed>(
     free: &[Stored<D>],
     quantum: u64,
     request: &Request,
@@ -146,7 +146,7 @@ fn next<D: Deed>(free: &[Stored<D>], rover: u64, quantum: u64, request: &Request
 }
 
 /// What the policy chooses.
-pub fn chosen<D: Deed>(
+pub(crate) fn chosen<D: Deed>(
     free: &[Stored<D>],
     policy: Policy,
     rover: u64,

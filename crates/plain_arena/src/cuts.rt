@@ -97,7 +97,7 @@ fn cut_out<D: Deed>(whole: Stored<D>, base: u64, end: u64) -> Result<Cut<D>, Sto
 }
 
 /// Puts a rest, if there is one, last.
-pub fn push_rest<D: Deed>(free: &mut Vec<Stored<D>>, rest: Option<Stored<D>>)
+pub(crate) fn push_rest<D: Deed>(free: &mut Vec<Stored<D>>, rest: Option<Stored<D>>)
     requires { vec_len free.old < vec_capacity free.old }
     ensures items { free.new.items ≡ free.old.items ++ option_to_list rest }
     ensures len { vec_len free.new ≤ vec_len free.old + 1 }
@@ -111,7 +111,7 @@ pub fn push_rest<D: Deed>(free: &mut Vec<Stored<D>>, rest: Option<Stored<D>>)
 
 /// Takes the range at an index out of the list, cuts `len` units from `base` on out of it, and puts
 /// its rests last, the low one first.
-pub fn carve<D: Deed>(
+pub(crate) fn carve<D: Deed>(
     free: &mut Vec<Stored<D>>,
     at: usize,
     range: HeldRange,
@@ -147,7 +147,7 @@ pub fn carve<D: Deed>(
 }
 
 /// Cuts the first `len` units off a segment's deed.
-pub fn cut_first<D: Deed>(
+pub(crate) fn cut_first<D: Deed>(
     segment: Segment<D>,
     len: u64,
 ) -> Result<(Stored<D>, Option<Stored<D>>), Segment<D>>

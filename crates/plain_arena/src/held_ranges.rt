@@ -7,7 +7,7 @@ use std::marker::Model;
 
 /// A range of a root. A contract sees it as a deed of the same is seen.
 #[derive(Clone, Copy, PartialEq, Eq, Debug)]
-pub struct HeldRange {
+pub(crate) struct HeldRange {
     root: u32,
     range: Range,
 }
@@ -23,32 +23,32 @@ impl Model for HeldRange {
 }
 
 impl HeldRange {
-    pub fn new(root: u32, range: Range) -> HeldRange
+    pub(crate) fn new(root: u32, range: Range) -> HeldRange
         ensures { result ≡ record { root = root; range = range } }
     {
         HeldRange { root, range }
     }
 
-    pub fn root(&self) -> u32
+    pub(crate) fn root(&self) -> u32
         ensures { result ≡ self.now.root }
     {
         self.root
     }
 
-    pub fn range(&self) -> Range
+    pub(crate) fn range(&self) -> Range
         ensures { result ≡ self.now.range }
     {
         self.range
     }
 
-    pub fn base(&self) -> u64
+    pub(crate) fn base(&self) -> u64
         ensures value { result ≡ self.now.range.base }
         ensures range { IsRange self.now.range }
     {
         self.range.base()
     }
 
-    pub fn len(&self) -> u64
+    pub(crate) fn len(&self) -> u64
         ensures value { result ≡ self.now.range.len }
         ensures range { IsRange self.now.range }
     {
@@ -56,7 +56,7 @@ impl HeldRange {
     }
 
     /// The first unit past it.
-    pub fn end(&self) -> u64
+    pub(crate) fn end(&self) -> u64
         ensures value { result ≡ end_of self.now.range }
         ensures range { IsRange self.now.range }
     {
@@ -65,7 +65,7 @@ impl HeldRange {
 }
 
 /// What the deed stands for.
-pub fn held_range_of<D: Deed>(stored: &Stored<D>) -> HeldRange
+pub(crate) fn held_range_of<D: Deed>(stored: &Stored<D>) -> HeldRange
     ensures value { result ≡ stored.now }
     ensures range { IsRange stored.now.range }
 {
@@ -73,7 +73,7 @@ pub fn held_range_of<D: Deed>(stored: &Stored<D>) -> HeldRange
 }
 
 /// What the deed at an index stands for.
-pub fn held_range_at<D: Deed>(free: &[Stored<D>], at: usize) -> HeldRange
+pub(crate) fn held_range_at<D: Deed>(free: &[Stored<D>], at: usize) -> HeldRange
     requires { at < length free.now }
     ensures here { HoldsAt (λ r. r ≡ result) free.now at }
     ensures range { IsRange result.range }

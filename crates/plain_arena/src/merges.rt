@@ -93,7 +93,11 @@ fn join_right<D: Deed>(deed: Stored<D>, right: Option<Stored<D>>) -> Stored<D>
 }
 
 /// The deed and its free neighbors inside the span, which are taken out.
-pub fn merge<D: Deed>(free: &mut Vec<Stored<D>>, span: HeldRange, deed: Stored<D>) -> Stored<D>
+pub(crate) fn merge<D: Deed>(
+    free: &mut Vec<Stored<D>>,
+    span: HeldRange,
+    deed: Stored<D>,
+) -> Stored<D>
     requires inside { IsPartOf span deed }
     requires some { 0 < deed.range.len }
     requires beside { All (IsBeside span) free.old.items }

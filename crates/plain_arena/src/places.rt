@@ -81,7 +81,7 @@ fn grid(request: &Request, quantum: u64) -> (u64, u64)
 
 /// The least base from `from` on at which the range serves the request, found in a number of steps
 /// that no member of the request changes.
-pub fn least_in(request: &Request, quantum: u64, range: HeldRange, from: u64) -> Option<u64>
+pub(crate) fn least_in(request: &Request, quantum: u64, range: HeldRange, from: u64) -> Option<u64>
     requires quantum { IsPowerOfTwo quantum }
     requires good { IsGood quantum request.now }
     requires from { from ≤ 2 ^ 62 }

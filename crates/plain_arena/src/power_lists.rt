@@ -13,7 +13,7 @@ use deed_core::{Deed, Request, Stored};
 
 /// An index in the list of free ranges, the range there, and the number of its power-of-two list.
 #[derive(Clone, Copy)]
-pub struct Listed {
+pub(crate) struct Listed {
     pub at: usize,
     pub range: HeldRange,
     pub list: u32,
@@ -66,7 +66,7 @@ fn newer<D: Deed>(
 }
 
 /// The newest range on the least list whose every member has room for `len` units.
-pub fn newest<D: Deed>(free: &[Stored<D>], quantum: u64, len: u64) -> Option<Listed>
+pub(crate) fn newest<D: Deed>(free: &[Stored<D>], quantum: u64, len: u64) -> Option<Listed>
     requires quantum { 0 < quantum }
     ensures { NewestSoFar quantum len free.now (length free.now) result }
 {
@@ -78,7 +78,7 @@ pub fn newest<D: Deed>(free: &[Stored<D>], quantum: u64, len: u64) -> Option<Lis
 }
 
 /// The newest range on the least list whose every member serves, else the best choice.
-pub fn instant<D: Deed>(free: &[Stored<D>], quantum: u64, request: &Request) -> Option<Found>
+pub(crate) fn instant<D: Deed>(free: &[Stored<D>], quantum: u64, request: &Request) -> Option<Found>
     requires quantum { IsPowerOfTwo quantum }
     requires good { IsGood quantum request.now }
     requires below { All (λ r. IsRange r.range) free.now }

@@ -13,7 +13,7 @@ use std::marker::Model;
 /// An imported span, with the arena that it came from. A contract sees the segment that goes back
 /// there.
 #[derive(Drop)]
-pub struct Import {
+pub(crate) struct Import {
     source: u32,
     span: HeldRange,
 }
@@ -28,19 +28,19 @@ impl Model for Import {
 }
 
 impl Import {
-    pub fn new(source: u32, span: HeldRange) -> Import
+    pub(crate) fn new(source: u32, span: HeldRange) -> Import
         ensures { result ≡ record { arena = source; route = Direct; holding = span } }
     {
         Import { source, span }
     }
 
-    pub fn source(&self) -> u32
+    pub(crate) fn source(&self) -> u32
         ensures { result ≡ self.now.arena }
     {
         self.source
     }
 
-    pub fn span(&self) -> HeldRange
+    pub(crate) fn span(&self) -> HeldRange
         ensures { result ≡ self.now.holding }
     {
         self.span
@@ -48,7 +48,7 @@ impl Import {
 }
 
 /// Whether an owned span overlaps the range.
-pub fn overlaps_owned(owned: &[HeldRange], range: &Range) -> bool
+pub(crate) fn overlaps_owned(owned: &[HeldRange], range: &Range) -> bool
     ensures { MatchBool result (Any (λ s. Overlap s.range range.now) owned.now)
         (All (λ s. ¬ Overlap s.range range.now) owned.now) }
 {
@@ -61,7 +61,7 @@ pub fn overlaps_owned(owned: &[HeldRange], range: &Range) -> bool
 }
 
 /// Whether an imported span overlaps the range.
-pub fn overlaps_imported(imported: &[Import], range: &Range) -> bool
+pub(crate) fn overlaps_imported(imported: &[Import], range: &Range) -> bool
     ensures { MatchBool result (Any (λ t. Overlap t.holding.range range.now) imported.now)
         (All (λ t. ¬ Overlap t.holding.range range.now) imported.now) }
 {
@@ -102,7 +102,7 @@ fn imported_at(imported: &[Import], base: u64) -> Option<HeldRange>
 }
 
 /// The span that `base` lies in.
-pub fn span_at(owned: &[HeldRange], imported: &[Import], base: u64) -> Option<HeldRange>
+pub(crate) fn span_at(owned: &[HeldRange], imported: &[Import], base: u64) -> Option<HeldRange>
     ensures { let spans = owned.now ++ map (λ t. t.holding) imported.now in
         MatchOption result (All (λ s. ¬ Covers s.range base) spans)
         (λ s. Contains spans s × Covers s.range base) }
@@ -114,7 +114,7 @@ pub fn span_at(owned: &[HeldRange], imported: &[Import], base: u64) -> Option<He
 }
 
 /// Where the imported span with this root and range stands.
-pub fn index_of_import(imported: &[Import], span: &HeldRange) -> Option<usize>
+pub(crate) fn index_of_import(imported: &[Import], span: &HeldRange) -> Option<usize>
     ensures { MatchOption result (All (λ t. t.holding ≢ span.now) imported.now)
         (λ at. (at < length imported.now)
         × HoldsAt (λ t. t.holding ≡ span.now) imported.now at) }
@@ -128,7 +128,7 @@ pub fn index_of_import(imported: &[Import], span: &HeldRange) -> Option<usize>
 }
 
 /// How many units the owned spans have.
-pub fn owned_units(owned: &[HeldRange]) -> u128
+pub(crate) fn owned_units(owned: &[HeldRange]) -> u128
     ensures sum { result ≡ units_held owned.now }
     ensures bound { result ≤ length owned.now * 2 ^ 62 }
 {
@@ -140,7 +140,7 @@ pub fn owned_units(owned: &[HeldRange]) -> u128
 }
 
 /// How many units the imported spans have.
-pub fn imported_units(imported: &[Import]) -> u128
+pub(crate) fn imported_units(imported: &[Import]) -> u128
     ensures sum { result ≡ units_held (map (λ t. t.holding) imported.now) }
     ensures bound { result ≤ length imported.now * 2 ^ 62 }
 {
@@ -152,7 +152,7 @@ pub fn imported_units(imported: &[Import]) -> u128
 }
 
 /// How many units the free ranges have.
-pub fn free_units<D: Deed>(free: &[Stored<D>]) -> u128
+pub(crate) fn free_units<D: Deed>(free: &[Stored<D>]) -> u128
     ensures { result ≡ units_held free.now }
 {
     let mut units: u128 = 0;

@@ -9,7 +9,7 @@ use std::marker::Model;
 
 /// Each allocated range at its base, and how many they are.
 #[derive(Drop)]
-pub struct Tags {
+pub(crate) struct Tags {
     ranges: HashMap<u64, HeldRange>,
     count: usize,
 }
@@ -32,7 +32,7 @@ impl Model for Tags {
 }
 
 impl Tags {
-    pub fn new(alloc: Global) -> Tags
+    pub(crate) fn new(alloc: Global) -> Tags
         ensures { result ≡ finmap.empty }
     {
         Tags {
@@ -41,20 +41,20 @@ impl Tags {
         }
     }
 
-    pub fn len(&self) -> usize
+    pub(crate) fn len(&self) -> usize
         ensures { result ≡ finmap.len self.now }
     {
         self.count
     }
 
-    pub fn get(&self, base: u64) -> Option<HeldRange>
+    pub(crate) fn get(&self, base: u64) -> Option<HeldRange>
         ensures { result ≡ finmap.get self.now base }
     {
         self.ranges.get(&base).copied()
     }
 
     /// Puts in a range at whose base none stands.
-    pub fn insert(&mut self, range: HeldRange) -> Result<(), AllocError>
+    pub(crate) fn insert(&mut self, range: HeldRange) -> Result<(), AllocError>
         requires absent { finmap.get self.old range.range.base ≡ None }
         requires room { finmap.len self.old + 1 < 2 ^ 64 }
         ensures ok { OnOk result (self.new ≡ finmap.insert self.old range.range.base range) }
@@ -66,7 +66,7 @@ impl Tags {
     }
 
     /// Takes out a range that stands.
-    pub fn remove(&mut self, range: HeldRange)
+    pub(crate) fn remove(&mut self, range: HeldRange)
         requires { finmap.get self.old range.range.base ≡ Some range }
         ensures { self.new ≡ finmap.remove self.old range.range.base }
     {

@@ -7,7 +7,7 @@ use deed_core::{Deed, Stored};
 
 /// An owned span that is a free range, and where it stands in both lists.
 #[derive(Clone, Copy)]
-pub struct Whole {
+pub(crate) struct Whole {
     pub at: usize,
     pub free_at: usize,
     pub span: HeldRange,
@@ -59,7 +59,7 @@ fn lower<D: Deed>(
 }
 
 /// The lowest owned span that is a free range.
-pub fn lowest_whole<D: Deed>(owned: &[HeldRange], free: &[Stored<D>]) -> Option<Whole>
+pub(crate) fn lowest_whole<D: Deed>(owned: &[HeldRange], free: &[Stored<D>]) -> Option<Whole>
     ensures { LowestSoFar owned.now free.now (length owned.now) result }
 {
     let mut lowest = None;

@@ -242,7 +242,7 @@ impl<D: Deed> SlabCache<D> {
         Ok(Segment::new(self.arena, Route::Cached(self.k), first.into_deed()))
     }
 
-    // Whether a segment is of the arena, and came by this cache.
+    /// Whether a segment is of the arena, and came by this cache.
     fn is_routed_here(&self, segment: &Segment<D>) -> bool
         ensures { IsTrue result
             ↔ ((segment.now.arena ≡ self.now.arena)
@@ -251,7 +251,7 @@ impl<D: Deed> SlabCache<D> {
         segment.arena() == self.arena && segment.route() == Route::Cached(self.k)
     }
 
-    // The units of a chunk.
+    /// The units of a chunk.
     fn chunk(&self) -> u64
         ensures value { result ≡ chunk_of self.now }
         ensures sound { IsSoundCache self.now }
@@ -261,7 +261,7 @@ impl<D: Deed> SlabCache<D> {
         u64::from(self.k) * self.quantum
     }
 
-    // The colour after that of the next slab.
+    /// The colour after that of the next slab.
     fn next_colour(&self) -> u64
         ensures { result ≡ next_colour_of self.now }
     {

@@ -105,7 +105,7 @@ impl<D: Deed> SlabList<D> {
         lowest(&self.slabs, self.idle.complete())
     }
 
-    // The lowest slab with a chunk at home and another out.
+    /// The lowest slab with a chunk at home and another out.
     fn lowest_partial(&self) -> Option<usize>
         ensures { MatchOption result (All (λ s. ¬ IsPartial s) self.now.items)
             (λ i. (s : SlabState) × IsLowest IsPartial i s self.now.items) }
@@ -113,7 +113,7 @@ impl<D: Deed> SlabList<D> {
         lowest(&self.slabs, self.idle.partial())
     }
 
-    // The slab that gives the next chunk.
+    /// The slab that gives the next chunk.
     fn next_slab(&self) -> Option<usize>
         ensures { MatchOption result (All (λ s. ¬ IsPartial s) self.now.items
             × All (λ s. ¬ IsComplete s) self.now.items)

@@ -19,7 +19,7 @@ const PATIENCE: u8 = 8;
 /// Rows, with the key of the first entry of each and its top. All that changes one of these goes
 /// through here. A contract sees the rows, and how many may stand here.
 #[derive(Drop)]
-pub struct HeadedRows<T: RowEntry> {
+pub(crate) struct HeadedRows<T: RowEntry> {
     firsts: Vec<u128>,
     tops: Vec<u64>,
     rows: Vec<Row<T>>,
@@ -46,7 +46,7 @@ impl<T: RowEntry> Model for HeadedRows<T> {
 }
 
 impl<T: RowEntry> HeadedRows<T> {
-    pub fn new(alloc: Global) -> HeadedRows<T>
+    pub(crate) fn new(alloc: Global) -> HeadedRows<T>
         ensures { result.items ≡ [] }
     {
         HeadedRows {
@@ -59,7 +59,7 @@ impl<T: RowEntry> HeadedRows<T> {
     }
 
     /// Makes room for `more` rows. Out of memory, there may be room for some of them.
-    pub fn reserve(&mut self, more: usize) -> Result<(), AllocError>
+    pub(crate) fn reserve(&mut self, more: usize) -> Result<(), AllocError>
         ensures items { self.new.items ≡ self.old.items }
         ensures ok { OnOk result (length self.new.items + more ≤ self.new.capacity) }
         ensures capacity { self.old.capacity ≤ self.new.capacity }
@@ -70,20 +70,20 @@ impl<T: RowEntry> HeadedRows<T> {
     }
 
     /// How many rows there are.
-    pub fn len(&self) -> usize
+    pub(crate) fn len(&self) -> usize
         ensures { result ≡ length self.now.items }
     {
         self.rows.len()
     }
 
-    pub fn is_empty(&self) -> bool
+    pub(crate) fn is_empty(&self) -> bool
         ensures { IsTrue result ↔ (length self.now.items ≡ 0) }
     {
         self.rows.is_empty()
     }
 
     /// The key of a row's first entry.
-    pub fn first(&self, seat: usize) -> u128
+    pub(crate) fn first(&self, seat: usize) -> u128
         requires within { seat < length self.now.items }
         requires some { 0 < length (slice_index_or self.now.items seat []) }
         ensures { (d : T) → result
@@ -93,7 +93,7 @@ impl<T: RowEntry> HeadedRows<T> {
     }
 
     /// A row.
-    pub fn row(&self, seat: usize) -> &Row<T>
+    pub(crate) fn row(&self, seat: usize) -> &Row<T>
         requires { seat < length self.now.items }
         ensures { result.now ≡ slice_index_or self.now.items seat [] }
     {
@@ -101,7 +101,7 @@ impl<T: RowEntry> HeadedRows<T> {
     }
 
     /// Puts an entry in a row.
-    pub fn insert(&mut self, seat: usize, at: usize, entry: T)
+    pub(crate) fn insert(&mut self, seat: usize, at: usize, entry: T)
         requires within { seat < length self.old.items }
         requires at { at ≤ length (slice_index_or self.old.items seat []) }
         requires room { length (slice_index_or self.old.items seat []) < 64 }
@@ -117,7 +117,7 @@ impl<T: RowEntry> HeadedRows<T> {
     }
 
     /// Takes an entry out of a row, which may be empty then.
-    pub fn remove(&mut self, seat: usize, at: usize)
+    pub(crate) fn remove(&mut self, seat: usize, at: usize)
         requires within { seat < length self.old.items }
         requires at { at < length (slice_index_or self.old.items seat []) }
         ensures items { self.new.items ≡ set self.old.items seat
@@ -132,7 +132,7 @@ impl<T: RowEntry> HeadedRows<T> {
     }
 
     /// Puts an entry in the place of another.
-    pub fn set(&mut self, seat: usize, at: usize, entry: T)
+    pub(crate) fn set(&mut self, seat: usize, at: usize, entry: T)
         requires within { seat < length self.old.items }
         requires at { at < length (slice_index_or self.old.items seat []) }
         ensures items { self.new.items ≡ set self.old.items seat
@@ -148,7 +148,7 @@ impl<T: RowEntry> HeadedRows<T> {
     }
 
     /// Puts an empty row behind the others.
-    pub fn push(&mut self, row: Row<T>)
+    pub(crate) fn push(&mut self, row: Row<T>)
         requires room { length self.old.items < self.old.capacity }
         requires empty { row ≡ [] }
         ensures items { self.new.items ≡ self.old.items ++ [] ∷ [] }
@@ -160,7 +160,7 @@ impl<T: RowEntry> HeadedRows<T> {
     }
 
     /// Moves the upper half of a full row to an empty one, which comes to stand behind it.
-    pub fn split(&mut self, seat: usize, empty: Row<T>)
+    pub(crate) fn split(&mut self, seat: usize, empty: Row<T>)
         requires within { seat < length self.old.items }
         requires full { length (slice_index_or self.old.items seat []) ≡ 64 }
         requires empty { empty ≡ [] }
@@ -182,7 +182,7 @@ impl<T: RowEntry> HeadedRows<T> {
     }
 
     /// Moves the entries of the next row to this one, and takes that row out.
-    pub fn join(&mut self, seat: usize) -> Row<T>
+    pub(crate) fn join(&mut self, seat: usize) -> Row<T>
         requires within { seat + 1 < length self.old.items }
         requires room { length (slice_index_or self.old.items seat [])
             + length (slice_index_or self.old.items (suc seat) []) ≤ 64 }
@@ -203,7 +203,7 @@ impl<T: RowEntry> HeadedRows<T> {
     }
 
     /// Takes out a row.
-    pub fn take(&mut self, seat: usize) -> Row<T>
+    pub(crate) fn take(&mut self, seat: usize) -> Row<T>
         requires { seat < length self.old.items }
         ensures items { self.new.items ≡ remove self.old.items seat }
         ensures row { result ≡ slice_index_or self.old.items seat [] }
@@ -216,7 +216,7 @@ impl<T: RowEntry> HeadedRows<T> {
 
     /// Whether it is known that each entry of a row weighs less than `least`. False is always a
     /// right answer: it is for speed alone.
-    pub fn is_light(&self, seat: usize, measure: T::Measure, least: u64) -> bool
+    pub(crate) fn is_light(&self, seat: usize, measure: T::Measure, least: u64) -> bool
         requires { seat < length self.now.items }
         ensures { IsTrue result → find (weighs (T.weight measure) least)
             (slice_index_or self.now.items seat []) ≡ None }
@@ -226,7 +226,7 @@ impl<T: RowEntry> HeadedRows<T> {
 
     /// The first entry behind a row that weighs as much as `least` or more. Tops keep their measure
     /// until so many searches by others came that it seems not to be asked for any more.
-    pub fn search(&mut self, measure: T::Measure, seat: usize, least: u64) -> Option<T>
+    pub(crate) fn search(&mut self, measure: T::Measure, seat: usize, least: u64) -> Option<T>
         requires { seat < length self.old.items }
         ensures value { result ≡ find (weighs (T.weight measure) least)
             (entries_in (drop (seat + 1) self.old.items)) }

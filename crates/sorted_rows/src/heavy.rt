@@ -9,7 +9,7 @@ use crate::seats::{Spot, seat_near};
 
 /// The first, from the first at or above the key on, that weighs as much as `least` or more.
 #[tactic(auto, using(crate::proofs::HeavyLemmas::found_heavy))]
-pub fn least_weighing<T: RowEntry>(
+pub(crate) fn least_weighing<T: RowEntry>(
     rows: &mut HeadedRows<T>,
     last: Spot,
     measure: T::Measure,

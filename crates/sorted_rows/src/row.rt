@@ -11,14 +11,14 @@ use std::alloc::{AllocError, Global};
 use std::marker::Model;
 
 /// The greatest number of entries in a row.
-pub const ROW: usize = 64;
+pub(crate) const ROW: usize = 64;
 
 /// The number of entries in a block, by whose last entry a search passes it.
 const BLOCK: usize = 8;
 
 /// A row: its entries, and a place for each that it may have. A contract sees the entries.
 #[derive(Drop)]
-pub struct Row<T: RowEntry> {
+pub(crate) struct Row<T: RowEntry> {
     items: Vec<T>,
 }
 
@@ -33,7 +33,7 @@ impl<T: RowEntry> Model for Row<T> {
 }
 
 impl<T: RowEntry> Row<T> {
-    pub fn new(alloc: Global) -> Result<Row<T>, AllocError>
+    pub(crate) fn new(alloc: Global) -> Result<Row<T>, AllocError>
         ensures { IfOk result (λ row. row ≡ []) }
     {
         let items = Vec::with_capacity(alloc, ROW)?;
@@ -41,7 +41,7 @@ impl<T: RowEntry> Row<T> {
     }
 
     /// How many entries it has.
-    pub fn len(&self) -> usize
+    pub(crate) fn len(&self) -> usize
         ensures len { result ≡ length self.now }
         ensures bound { result ≤ 64 }
     {
@@ -49,7 +49,7 @@ impl<T: RowEntry> Row<T> {
     }
 
     /// The key of the first entry; 0 where there is none.
-    pub fn first(&self) -> u128
+    pub(crate) fn first(&self) -> u128
         ensures { FirstIs T.rank result self.now }
     {
         if self.items.is_empty() {
@@ -59,7 +59,7 @@ impl<T: RowEntry> Row<T> {
     }
 
     /// The entry at a place.
-    pub fn get(&self, at: usize) -> T
+    pub(crate) fn get(&self, at: usize) -> T
         requires { at < length self.now }
         ensures { (d : T) → result ≡ slice_index_or self.now at d }
     {
@@ -67,7 +67,7 @@ impl<T: RowEntry> Row<T> {
     }
 
     /// The greatest weight of its entries, which is `most` or less; 0 where there is none.
-    pub fn greatest(&self, measure: T::Measure, most: u64) -> u64
+    pub(crate) fn greatest(&self, measure: T::Measure, most: u64) -> u64
         requires { greatest_weight (T.weight measure) self.now ≤ most }
         ensures { result ≡ greatest_weight (T.weight measure) self.now }
     {
@@ -75,14 +75,14 @@ impl<T: RowEntry> Row<T> {
     }
 
     /// Its first entry, from the place `from` on, that weighs as much as `least` or more.
-    pub fn heavy(&self, measure: T::Measure, from: usize, least: u64) -> Option<T>
+    pub(crate) fn heavy(&self, measure: T::Measure, from: usize, least: u64) -> Option<T>
         ensures { result ≡ find (weighs (T.weight measure) least) (drop from self.now) }
     {
         heavy_in(&self.items, measure, from, least)
     }
 
     /// Its first entry that weighs as much as `least` or more, or else its greatest weight.
-    pub fn search(&self, measure: T::Measure, least: u64) -> Result<T, u64>
+    pub(crate) fn search(&self, measure: T::Measure, least: u64) -> Result<T, u64>
         ensures found { IfOk result (λ x. find (weighs (T.weight measure) least) self.now
             ≡ Some x) }
         ensures none { OnErr result (find (weighs (T.weight measure) least) self.now ≡ None) }
@@ -133,7 +133,7 @@ impl<T: RowEntry> Row<T> {
 
     /// Whether the key isn't below what stands before the place, nor above what stands behind it.
     /// False is always a right answer: it is for speed alone.
-    pub fn is_between(&self, place: usize, key: u128) -> bool
+    pub(crate) fn is_between(&self, place: usize, key: u128) -> bool
         requires { place < length self.now }
         ensures above { IsTrue result → (d : T) → 0 < place
             → T.rank (slice_index_or self.now (place - 1) d) < key }
@@ -147,7 +147,7 @@ impl<T: RowEntry> Row<T> {
 
     /// How many entries stand below the key. They are searched through where `near` isn't given, or
     /// they aren't as many, nor one more or less.
-    pub fn below_near(&self, key: u128, near: Option<usize>) -> usize
+    pub(crate) fn below_near(&self, key: u128, near: Option<usize>) -> usize
         requires { Rises T.rank self.now }
         ensures { IsRankAt T.rank key self.now result }
     {
@@ -169,7 +169,7 @@ impl<T: RowEntry> Row<T> {
 
     /// How many entries stand at the key or below it.
     #[tactic(auto, using(crate::proofs::LastLemmas::places_up_to))]
-    pub fn up_to(&self, key: u128, near: Option<usize>) -> usize
+    pub(crate) fn up_to(&self, key: u128, near: Option<usize>) -> usize
         requires { Rises T.rank self.now }
         ensures { IsRankAt T.rank (key + 1) self.now result }
     {
@@ -181,7 +181,7 @@ impl<T: RowEntry> Row<T> {
         }
     }
 
-    pub fn insert(&mut self, at: usize, entry: T)
+    pub(crate) fn insert(&mut self, at: usize, entry: T)
         requires at { at ≤ length self.old }
         requires room { length self.old < 64 }
         ensures { self.new ≡ insert self.old at entry }
@@ -189,7 +189,7 @@ impl<T: RowEntry> Row<T> {
         put_in(&mut self.items, at, entry);
     }
 
-    pub fn remove(&mut self, at: usize) -> T
+    pub(crate) fn remove(&mut self, at: usize) -> T
         requires { at < length self.old }
         ensures items { self.new ≡ remove self.old at }
         ensures value { (d : T) → result ≡ slice_index_or self.old at d }
@@ -198,7 +198,7 @@ impl<T: RowEntry> Row<T> {
     }
 
     /// Puts an entry in the place of another.
-    pub fn set(&mut self, at: usize, entry: T)
+    pub(crate) fn set(&mut self, at: usize, entry: T)
         requires { at < length self.old }
         ensures { self.new ≡ insert (remove self.old at) at entry }
     {
@@ -206,7 +206,7 @@ impl<T: RowEntry> Row<T> {
     }
 
     /// Moves the upper half of a full row to an empty one.
-    pub fn split(&mut self, high: &mut Row<T>)
+    pub(crate) fn split(&mut self, high: &mut Row<T>)
         requires full { length self.old ≡ 64 }
         requires empty { high.old ≡ [] }
         ensures low { self.new ≡ take 32 self.old }
@@ -220,7 +220,7 @@ impl<T: RowEntry> Row<T> {
     }
 
     /// Moves all entries of the next row here.
-    pub fn join(&mut self, next: &mut Row<T>)
+    pub(crate) fn join(&mut self, next: &mut Row<T>)
         requires room { length self.old + length next.old ≤ 64 }
         ensures items { self.new ≡ self.old ++ next.old }
         ensures next { next.new ≡ [] }
@@ -234,7 +234,7 @@ impl<T: RowEntry> Row<T> {
 
 /// Puts an item in, where there is room. LLVM makes a `memmove` of a turn by one, where
 /// `Vec::insert` moves entry by entry.
-pub fn put_in<X>(items: &mut Vec<X>, at: usize, item: X)
+pub(crate) fn put_in<X>(items: &mut Vec<X>, at: usize, item: X)
     requires at { at ≤ vec_len items.old }
     requires room { vec_len items.old < vec_capacity items.old }
     ensures items { items.new.items ≡ insert items.old.items at item }
@@ -302,7 +302,7 @@ fn count_below<T: RowEntry>(items: &[T], key: u128) -> usize
 }
 
 /// The greater of two weights.
-pub fn greater(one: u64, other: u64) -> u64
+pub(crate) fn greater(one: u64, other: u64) -> u64
     ensures { result ≡ max one other }
 {
     if one < other { other } else { one }

@@ -14,14 +14,14 @@ const FEW_ROWS: usize = 16;
 
 /// A row of a list, and a place in it: where the list was last at, if that is still there.
 #[derive(Clone, Copy, Debug)]
-pub struct Spot {
+pub(crate) struct Spot {
     pub seat: usize,
     pub place: usize,
 }
 
 impl Spot {
     /// The place, if it is in this row: where another is searched, it tells nothing.
-    pub fn near(self, seat: usize) -> Option<usize>
+    pub(crate) fn near(self, seat: usize) -> Option<usize>
         ensures { IfSome result (λ place. (self.seat ≡ seat) × (self.place ≡ place)) }
     {
         if self.seat == seat {
@@ -92,7 +92,7 @@ fn count_up_to<T: RowEntry>(rows: &HeadedRows<T>, low: usize, high: usize, key: 
 }
 
 /// Whether the key belongs in this row, which may be none of the list's.
-pub fn belongs<T: RowEntry>(rows: &HeadedRows<T>, seat: usize, key: u128) -> bool
+pub(crate) fn belongs<T: RowEntry>(rows: &HeadedRows<T>, seat: usize, key: u128) -> bool
     requires laid { IsLaid T.rank rows.now.items }
     ensures within { IsTrue result → seat < length rows.now.items }
     ensures seat { IsTrue result → IsSeat T.rank key rows.now.items seat }
@@ -110,7 +110,7 @@ pub fn belongs<T: RowEntry>(rows: &HeadedRows<T>, seat: usize, key: u128) -> boo
 
 /// The row where the key belongs. It is searched for only where it isn't the one that the list was
 /// last at.
-pub fn seat_near<T: RowEntry>(rows: &HeadedRows<T>, last: Spot, key: u128) -> usize
+pub(crate) fn seat_near<T: RowEntry>(rows: &HeadedRows<T>, last: Spot, key: u128) -> usize
     requires laid { IsLaid T.rank rows.now.items }
     requires some { 0 < length rows.now.items }
     ensures within { result < length rows.now.items }
@@ -125,7 +125,7 @@ pub fn seat_near<T: RowEntry>(rows: &HeadedRows<T>, last: Spot, key: u128) -> us
 }
 
 /// Where the key belongs.
-pub fn spot_near<T: RowEntry>(rows: &HeadedRows<T>, last: Spot, key: u128) -> Spot
+pub(crate) fn spot_near<T: RowEntry>(rows: &HeadedRows<T>, last: Spot, key: u128) -> Spot
     requires laid { IsLaid T.rank rows.now.items }
     requires some { 0 < length rows.now.items }
     ensures within { result.seat < length rows.now.items }
@@ -140,7 +140,12 @@ pub fn spot_near<T: RowEntry>(rows: &HeadedRows<T>, last: Spot, key: u128) -> Sp
 }
 
 /// Puts an entry in its row, which may be full then.
-pub fn insert_in<T: RowEntry>(rows: &mut HeadedRows<T>, seat: usize, near: Option<usize>, entry: T)
+pub(crate) fn insert_in<T: RowEntry>(
+    rows: &mut HeadedRows<T>,
+    seat: usize,
+    near: Option<usize>,
+    entry: T,
+)
     requires laid { IsLaid T.rank rows.old.items }
     requires within { seat < length rows.old.items }
     requires seat { IsSeat T.rank (T.rank entry) rows.old.items seat }
@@ -157,7 +162,7 @@ pub fn insert_in<T: RowEntry>(rows: &mut HeadedRows<T>, seat: usize, near: Optio
 }
 
 /// Cuts a full row in two halves, the upper one in a spare row.
-pub fn split<T: RowEntry>(rows: &mut HeadedRows<T>, at: usize, spare: &mut Vec<Row<T>>)
+pub(crate) fn split<T: RowEntry>(rows: &mut HeadedRows<T>, at: usize, spare: &mut Vec<Row<T>>)
     requires laid { IsLaid T.rank rows.old.items }
     requires within { at < length rows.old.items }
     requires full { length (slice_index_or rows.old.items at []) ≡ 64 }
@@ -181,7 +186,12 @@ pub fn split<T: RowEntry>(rows: &mut HeadedRows<T>, at: usize, spare: &mut Vec<R
 }
 
 /// Puts an entry at its place. It may take one spare row.
-pub fn put<T: RowEntry>(rows: &mut HeadedRows<T>, spare: &mut Vec<Row<T>>, last: Spot, entry: T)
+pub(crate) fn put<T: RowEntry>(
+    rows: &mut HeadedRows<T>,
+    spare: &mut Vec<Row<T>>,
+    last: Spot,
+    entry: T,
+)
     requires laid { IsLaid T.rank rows.old.items }
     requires short { AreShort rows.old.items }
     requires room { length rows.old.items < rows.old.capacity }
@@ -253,7 +263,7 @@ fn merge<T: RowEntry>(rows: &mut HeadedRows<T>, at: usize, spare: &mut Vec<Row<T
 
 /// Puts the row that has lost an entry together with a neighbor, where the two are small or the
 /// row is empty.
-pub fn settle<T: RowEntry>(rows: &mut HeadedRows<T>, at: usize, spare: &mut Vec<Row<T>>)
+pub(crate) fn settle<T: RowEntry>(rows: &mut HeadedRows<T>, at: usize, spare: &mut Vec<Row<T>>)
     requires loose { IsLoose T.rank at rows.old.items }
     requires short { AreShort rows.old.items }
     requires within { at < length rows.old.items }
@@ -289,7 +299,7 @@ fn goes_with(here: usize, beside: usize) -> bool
 }
 
 /// The first entry at or above the key.
-pub fn least_from<T: RowEntry>(rows: &HeadedRows<T>, last: Spot, key: u128) -> Option<T>
+pub(crate) fn least_from<T: RowEntry>(rows: &HeadedRows<T>, last: Spot, key: u128) -> Option<T>
     requires laid { IsLaid T.rank rows.now.items }
     ensures { result ≡ first_from T.rank key (entries_in rows.now.items) }
 {
@@ -310,7 +320,7 @@ pub fn least_from<T: RowEntry>(rows: &HeadedRows<T>, last: Spot, key: u128) -> O
 }
 
 /// The last entry at or below the key.
-pub fn greatest_to<T: RowEntry>(rows: &HeadedRows<T>, last: Spot, key: u128) -> Option<T>
+pub(crate) fn greatest_to<T: RowEntry>(rows: &HeadedRows<T>, last: Spot, key: u128) -> Option<T>
     requires laid { IsLaid T.rank rows.now.items }
     ensures { result ≡ last_to T.rank key (entries_in rows.now.items) }
 {

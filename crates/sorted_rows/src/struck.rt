@@ -14,7 +14,7 @@ use crate::row::Row;
 use crate::seats::{Spot, belongs, greatest_to, least_from, put, settle};
 
 /// What stands at a spot.
-pub fn entry_at<T: RowEntry>(rows: &HeadedRows<T>, spot: Spot) -> T
+pub(crate) fn entry_at<T: RowEntry>(rows: &HeadedRows<T>, spot: Spot) -> T
     requires { IsSpot rows.now.items spot }
     ensures { (d : T) → result
         ≡ slice_index_or (entries_in rows.now.items)
@@ -39,7 +39,11 @@ fn remove_at<T: RowEntry>(rows: &mut HeadedRows<T>, spot: Spot)
 }
 
 /// Takes the struck entry out of its row, if there is one.
-pub fn clear<T: RowEntry>(rows: &mut HeadedRows<T>, spare: &mut Vec<Row<T>>, struck: Option<Spot>)
+pub(crate) fn clear<T: RowEntry>(
+    rows: &mut HeadedRows<T>,
+    spare: &mut Vec<Row<T>>,
+    struck: Option<Spot>,
+)
     requires laid { IsLaid T.rank rows.old.items }
     requires short { AreShort rows.old.items }
     requires spot { IfSome struck (IsSpot rows.old.items) }
@@ -96,7 +100,7 @@ fn put_at<T: RowEntry>(rows: &mut HeadedRows<T>, struck: Spot, entry: T) -> bool
 
 /// Puts an entry in: in the place of the struck one, if it belongs there, or else at its own, when
 /// the struck one is out of its row. It may take one spare row.
-pub fn put_over<T: RowEntry>(
+pub(crate) fn put_over<T: RowEntry>(
     rows: &mut HeadedRows<T>,
     spare: &mut Vec<Row<T>>,
     struck: Option<Spot>,
@@ -168,7 +172,7 @@ fn before<T: RowEntry>(rows: &HeadedRows<T>, spot: Spot) -> Option<T>
 }
 
 /// The first entry at or above the key that isn't struck.
-pub fn least_left<T: RowEntry>(
+pub(crate) fn least_left<T: RowEntry>(
     rows: &HeadedRows<T>,
     struck: Option<Spot>,
     last: Spot,
@@ -190,7 +194,7 @@ pub fn least_left<T: RowEntry>(
 }
 
 /// The last entry at or below the key that isn't struck.
-pub fn greatest_left<T: RowEntry>(
+pub(crate) fn greatest_left<T: RowEntry>(
     rows: &HeadedRows<T>,
     struck: Option<Spot>,
     last: Spot,

@@ -10,11 +10,11 @@ use crate::row::{Row, greater};
 /// The top of a row of which nothing is told. No weight is above it: so a search looks into such a
 /// row, and the greater of it and another is this again. A row with an entry of this weight counts
 /// as untold.
-pub const UNTOLD: u64 = u64::MAX;
+pub(crate) const UNTOLD: u64 = u64::MAX;
 
 /// The top of a row that has lost entries, of the one before. That is no less than the greatest
 /// weight that is left.
-pub fn lowered<T: RowEntry>(top: u64, row: &Row<T>, measure: T::Measure) -> u64
+pub(crate) fn lowered<T: RowEntry>(top: u64, row: &Row<T>, measure: T::Measure) -> u64
     requires most { top ≢ UNTOLD → greatest_weight (T.weight measure) row.now ≤ top }
     ensures told { top ≢ UNTOLD → result ≡ greatest_weight (T.weight measure) row.now }
     ensures untold { top ≡ UNTOLD → result ≡ UNTOLD }
@@ -26,7 +26,7 @@ pub fn lowered<T: RowEntry>(top: u64, row: &Row<T>, measure: T::Measure) -> u64
 }
 
 /// The top of a row that an entry was put in.
-pub fn after_insert<T: RowEntry>(top: u64, entry: T, measure: T::Measure) -> u64
+pub(crate) fn after_insert<T: RowEntry>(top: u64, entry: T, measure: T::Measure) -> u64
     ensures told { top ≢ UNTOLD → result ≡ max (T.weight measure entry) top }
     ensures untold { top ≡ UNTOLD → result ≡ UNTOLD }
 {
@@ -34,7 +34,12 @@ pub fn after_insert<T: RowEntry>(top: u64, entry: T, measure: T::Measure) -> u64
 }
 
 /// The top of a row that this entry was taken out of.
-pub fn after_remove<T: RowEntry>(top: u64, row: &Row<T>, entry: T, measure: T::Measure) -> u64
+pub(crate) fn after_remove<T: RowEntry>(
+    top: u64,
+    row: &Row<T>,
+    entry: T,
+    measure: T::Measure,
+) -> u64
     requires most { top ≢ UNTOLD → greatest_weight (T.weight measure) row.now ≤ top }
     ensures told { (xs : List T) (at : ℕ) → top ≢ UNTOLD
         → top ≡ greatest_weight (T.weight measure) xs
@@ -52,7 +57,13 @@ pub fn after_remove<T: RowEntry>(top: u64, row: &Row<T>, entry: T, measure: T::M
 }
 
 /// The top of a row where an entry has taken the place of another.
-pub fn after_set<T: RowEntry>(top: u64, row: &Row<T>, old: T, entry: T, measure: T::Measure) -> u64
+pub(crate) fn after_set<T: RowEntry>(
+    top: u64,
+    row: &Row<T>,
+    old: T,
+    entry: T,
+    measure: T::Measure,
+) -> u64
     requires most { top ≢ UNTOLD → greatest_weight (T.weight measure) row.now
         ≤ max top (T.weight measure entry) }
     ensures told { (xs : List T) (at : ℕ) → top ≢ UNTOLD
@@ -73,7 +84,7 @@ pub fn after_set<T: RowEntry>(top: u64, row: &Row<T>, old: T, entry: T, measure:
 }
 
 /// The top of a row that the next one's entries were moved to.
-pub fn joined(low: u64, high: u64) -> u64
+pub(crate) fn joined(low: u64, high: u64) -> u64
     ensures told { low ≢ UNTOLD → high ≢ UNTOLD → result ≡ max low high }
     ensures untold_low { low ≡ UNTOLD → result ≡ UNTOLD }
     ensures untold_high { high ≡ UNTOLD → result ≡ UNTOLD }
@@ -82,7 +93,7 @@ pub fn joined(low: u64, high: u64) -> u64
 }
 
 /// Tells nothing of any row.
-pub fn untell(tops: &mut [u64])
+pub(crate) fn untell(tops: &mut [u64])
     ensures { tops.new ≡ replicate (length tops.old) UNTOLD }
 {
     tops.fill(UNTOLD);
@@ -90,7 +101,7 @@ pub fn untell(tops: &mut [u64])
 
 /// The first row, from `from` on, of which it isn't told that each entry weighs less than `least`;
 /// how many rows there are, where there is none such.
-pub fn next_heavy(tops: &[u64], from: usize, least: u64) -> usize
+pub(crate) fn next_heavy(tops: &[u64], from: usize, least: u64) -> usize
     requires { from ≤ length tops.now }
     ensures from { from ≤ result }
     ensures within { result ≤ length tops.now }

@@ -200,7 +200,7 @@ impl<D: Deed> Arena<D> {
         Ok(())
     }
 
-    // Whether a span of this arena overlaps the range.
+    /// Whether a span of this arena overlaps the range.
     fn has_overlap(&self, range: &Range) -> bool
         ensures overlaps { OnTrue result (OverlapsSpan self.now range.now) }
         ensures clear { OnFalse result (IsClear self.now range.now) }
@@ -214,7 +214,7 @@ impl<D: Deed> Arena<D> {
         false
     }
 
-    // Whether the range is in whole quanta of this arena.
+    /// Whether the range is in whole quanta of this arena.
     fn is_aligned(&self, range: &Range) -> bool
         ensures { IsTrue result ↔ OnQuantum self.now.quantum range.now }
     {

@@ -8,7 +8,7 @@ use crate::tags::Tags;
 use deed_core::Deed;
 
 /// Where a piece is carved from what was found, which has this cell.
-pub fn origin_in(found: Fit, len: u64, cell: Option<usize>) -> Origin
+pub(crate) fn origin_in(found: Fit, len: u64, cell: Option<usize>) -> Origin
     requires { found.base + len < 2 ^ 64 }
 {
     Origin {
@@ -22,7 +22,7 @@ pub fn origin_in(found: Fit, len: u64, cell: Option<usize>) -> Origin
 
 /// Tells the free range in a slot its cell, and the cell the slot, where there are both. It is for
 /// speed alone.
-pub fn tell<D: Deed>(
+pub(crate) fn tell<D: Deed>(
     free: &mut FreeIndex<D>,
     tags: &mut Tags,
     cell: Option<usize>,

@@ -20,7 +20,7 @@ use std::marker::Model;
 
 /// What is known of what stands beside a range.
 #[derive(Clone, Copy, PartialEq, Eq, Debug)]
-pub enum Side {
+pub(crate) enum Side {
     /// Nothing.
     Unknown,
     /// It may be the free range in this slot.
@@ -44,14 +44,14 @@ impl Side {
 
 /// What is known of what stands before a range and behind it.
 #[derive(Clone, Copy, Debug)]
-pub struct Beside {
+pub(crate) struct Beside {
     pub left: Side,
     pub right: Side,
 }
 
 /// On which sides of a range there is a free one that belongs to it.
 #[derive(Clone, Copy, PartialEq, Eq, Debug)]
-pub struct Sides {
+pub(crate) struct Sides {
     pub left: bool,
     pub right: bool,
 }
@@ -59,14 +59,14 @@ pub struct Sides {
 /// Where a range is allocated: the cell of the free range that it is carved from, if it has one,
 /// and which rests of it stay free.
 #[derive(Clone, Copy, Debug)]
-pub struct Origin {
+pub(crate) struct Origin {
     pub cell: Option<usize>,
     pub rests: Sides,
 }
 
 /// What stands in a cell.
 #[derive(Clone, Copy, Debug)]
-pub enum Standing {
+pub(crate) enum Standing {
     /// A free range, in this slot perhaps, or nothing.
     Free(usize),
     /// An allocated range.
@@ -77,7 +77,7 @@ pub enum Standing {
 /// takes 32 bytes, and would take 48 with a `Standing` in it: where many ranges are out, a call
 /// waits for the memory of cells.
 #[derive(Debug, Drop)]
-pub struct Cell {
+pub(crate) struct Cell {
     base: u64,
     /// How many units are allocated here from `base` on, or 0.
     len: u64,
@@ -103,7 +103,7 @@ impl Model for Cell {
 
 /// Cells. Free ranges may have some too, or not.
 #[derive(Drop)]
-pub struct Cells {
+pub(crate) struct Cells {
     linked: bool,
     cells: Vec<Cell>,
     /// The first cell that may be used again; each of these has the next one as `after`.
@@ -121,7 +121,7 @@ impl Model for Cells {
 
 impl Cells {
     /// No cell. Free ranges will have some, or not.
-    pub fn new(alloc: Global, linked: bool) -> Cells
+    pub(crate) fn new(alloc: Global, linked: bool) -> Cells
         ensures { result ≡ [] }
     {
         Cells {
@@ -132,19 +132,19 @@ impl Cells {
     }
 
     /// Whether free ranges have cells.
-    pub fn is_linked(&self) -> bool {
+    pub(crate) fn is_linked(&self) -> bool {
         self.linked
     }
 
     /// How many cells there are, those that may be used again among them.
-    pub fn len(&self) -> usize
+    pub(crate) fn len(&self) -> usize
         ensures { result ≡ length self.now }
     {
         self.cells.len()
     }
 
     /// The range that is allocated in a cell, if one is.
-    pub fn peek(&self, at: usize) -> Option<HeldRange>
+    pub(crate) fn peek(&self, at: usize) -> Option<HeldRange>
         ensures { result ≡ allocated_at self.now at }
     {
         match self.cells.get(at)?.standing() {
@@ -154,7 +154,7 @@ impl Cells {
     }
 
     /// Whether the range that is allocated in a cell begins at a base.
-    pub fn begins_at(&self, at: usize, base: u64) -> bool
+    pub(crate) fn begins_at(&self, at: usize, base: u64) -> bool
         ensures { IsTrue result ↔ IsAt base at self.now }
     {
         match self.cells.get(at) {
@@ -171,14 +171,14 @@ impl Cells {
     }
 
     /// Makes room for two new cells: so `take` isn't refused twice. Out of memory, all stays.
-    pub fn reserve(&mut self) -> Result<(), AllocError>
+    pub(crate) fn reserve(&mut self) -> Result<(), AllocError>
         ensures same { SameCells self.old self.new }
     {
         self.cells.reserve(2)
     }
 
     /// A cell with nothing allocated in it, which was used before or is new.
-    pub fn take(&mut self) -> Result<usize, AllocError>
+    pub(crate) fn take(&mut self) -> Result<usize, AllocError>
         ensures vacant { IfOk result (λ k. IsVacant k self.new) }
         ensures same { SameCells self.old self.new }
         ensures len { length self.old ≤ length self.new }
@@ -197,7 +197,7 @@ impl Cells {
 
     /// A cell for the free range of a new span, where free ranges have cells. `Err` is out of
     /// memory.
-    pub fn open(&mut self) -> Result<Option<usize>, AllocError>
+    pub(crate) fn open(&mut self) -> Result<Option<usize>, AllocError>
         ensures same { SameCells self.old self.new }
     {
         if !self.linked {
@@ -246,7 +246,7 @@ impl Cells {
 
     /// Takes a cell with nothing allocated in it out from between its neighbors: it may be used
     /// again.
-    pub fn unlink(&mut self, at: usize)
+    pub(crate) fn unlink(&mut self, at: usize)
         ensures same { SameCells self.old self.new }
     {
         if !self.is_vacant(at) {
@@ -260,7 +260,7 @@ impl Cells {
     }
 
     /// Tells the slot of the free range in a cell.
-    pub fn set_free(&mut self, at: usize, slot: usize)
+    pub(crate) fn set_free(&mut self, at: usize, slot: usize)
         ensures same { SameCells self.old self.new }
     {
         if self.is_vacant(at) {
@@ -305,7 +305,7 @@ impl Cells {
     }
 
     /// What stands beside the range in a cell, which is from `base` to `end`.
-    pub fn beside(&self, at: usize, base: u64, end: u64) -> Beside
+    pub(crate) fn beside(&self, at: usize, base: u64, end: u64) -> Beside
         ensures left { result.left ≡ Side.Allocated → (k : ℕ) × (h : Holding)
             × (allocated_at self.now k ≡ Some h) × (end_of h.range ≡ base) }
         ensures right { result.right ≡ Side.Allocated → (k : ℕ) × (h : Holding)
@@ -320,7 +320,7 @@ impl Cells {
 
     /// A cell for a piece of the free range in a cell, with nothing allocated in it: the same one,
     /// unless a rest before the piece keeps it.
-    pub fn place_of(&mut self, origin: Origin) -> Result<usize, AllocError>
+    pub(crate) fn place_of(&mut self, origin: Origin) -> Result<usize, AllocError>
         ensures vacant { IfOk result (λ k. IsVacant k self.new) }
         ensures same { SameCells self.old self.new }
     {
@@ -337,7 +337,7 @@ impl Cells {
 
     /// A cell for the rest behind a piece, where free ranges have cells, if there is such a rest,
     /// and memory.
-    pub fn place_behind(&mut self, piece: usize, origin: Origin) -> Option<usize>
+    pub(crate) fn place_behind(&mut self, piece: usize, origin: Origin) -> Option<usize>
         ensures same { SameCells self.old self.new }
         ensures len { length self.old ≤ length self.new }
     {
@@ -352,7 +352,7 @@ impl Cells {
     }
 
     /// A range is allocated in a cell.
-    pub fn allocate(&mut self, at: usize, range: HeldRange)
+    pub(crate) fn allocate(&mut self, at: usize, range: HeldRange)
         requires within { at < length self.old }
         ensures { CellBecomes self.old self.new at (Some range) }
     {
@@ -360,7 +360,7 @@ impl Cells {
     }
 
     /// What is allocated in a cell is so no more.
-    pub fn release(&mut self, at: usize)
+    pub(crate) fn release(&mut self, at: usize)
         ensures { CellBecomes self.old self.new at None }
     {
         if at < self.cells.len() {
@@ -369,7 +369,7 @@ impl Cells {
     }
 
     /// Joins the range in a cell with those that are free beside it, and answers their cell.
-    pub fn join(&mut self, at: usize, sides: Sides) -> usize
+    pub(crate) fn join(&mut self, at: usize, sides: Sides) -> usize
         ensures same { SameCells self.old self.new }
     {
         let (before, after) = self.links(at);
@@ -388,7 +388,7 @@ impl Cells {
     }
 
     /// The next cell of a cell's chain.
-    pub fn next(&self, at: usize) -> ShortIndex {
+    pub(crate) fn next(&self, at: usize) -> ShortIndex {
         match self.cells.get(at) {
             Some(cell) => cell.next,
             None => ShortIndex::none(),
@@ -396,7 +396,7 @@ impl Cells {
     }
 
     /// Another cell is the next of a cell's chain.
-    pub fn set_next(&mut self, at: usize, next: ShortIndex)
+    pub(crate) fn set_next(&mut self, at: usize, next: ShortIndex)
         ensures same { SameCells self.old self.new }
     {
         if at < self.cells.len() {

@@ -8,7 +8,7 @@ use crate::short_indexes::ShortIndex;
 use std::alloc::{AllocError, Global};
 
 /// The cell where a range is allocated at a base, if it is on the chain that begins with a cell.
-pub fn on_chain(cells: &Cells, first: ShortIndex, base: u64) -> Option<usize>
+pub(crate) fn on_chain(cells: &Cells, first: ShortIndex, base: u64) -> Option<usize>
     ensures { IfSome result (λ k. IsAt base k cells.now) }
 {
     let mut link = first;
@@ -37,7 +37,7 @@ fn by_each(cells: &Cells, base: u64) -> Option<usize>
 
 /// The cell where a range is allocated at a base: the one that is likely, or the one on its chain,
 /// or else by a look at each.
-pub fn cell_at(cells: &Cells, chains: &Chains, likely: usize, base: u64) -> Option<usize>
+pub(crate) fn cell_at(cells: &Cells, chains: &Chains, likely: usize, base: u64) -> Option<usize>
     ensures { MatchOption result ((k : ℕ) → ¬ IsAt base k cells.now)
         (λ k. IsAt base k cells.now) }
 {
@@ -51,7 +51,7 @@ pub fn cell_at(cells: &Cells, chains: &Chains, likely: usize, base: u64) -> Opti
 }
 
 /// Puts a cell on its chain.
-pub fn put_on(cells: &mut Cells, chains: &mut Chains, at: usize, base: u64)
+pub(crate) fn put_on(cells: &mut Cells, chains: &mut Chains, at: usize, base: u64)
     ensures same { SameCells cells.old cells.new }
 {
     cells.set_next(at, chains.head(base));
@@ -59,7 +59,7 @@ pub fn put_on(cells: &mut Cells, chains: &mut Chains, at: usize, base: u64)
 }
 
 /// Takes a cell off its chain.
-pub fn take_off(cells: &mut Cells, chains: &mut Chains, at: usize, base: u64)
+pub(crate) fn take_off(cells: &mut Cells, chains: &mut Chains, at: usize, base: u64)
     ensures same { SameCells cells.old cells.new }
 {
     let mut link = chains.head(base);
@@ -82,7 +82,7 @@ pub fn take_off(cells: &mut Cells, chains: &mut Chains, at: usize, base: u64)
 /// Makes room for one more range, with a rest behind it: two cells, and one more on the chains.
 /// Where there are half as many cells on them as chains, these are doubled, and each cell comes to
 /// its own anew. Out of memory, no range is lost, and none found more slowly.
-pub fn widen(
+pub(crate) fn widen(
     alloc: Global,
     cells: &mut Cells,
     chains: &mut Chains,

@@ -23,20 +23,20 @@ const FIRST_CHAINS: usize = (BLOCK / UNITS_EACH) as usize;
 
 /// The first cell of each chain.
 #[derive(Drop)]
-pub struct Chains {
+pub(crate) struct Chains {
     heads: Vec<ShortIndex>,
 }
 
 impl Chains {
     /// No chain.
-    pub fn new(alloc: Global) -> Chains {
+    pub(crate) fn new(alloc: Global) -> Chains {
         Chains {
             heads: Vec::new(alloc),
         }
     }
 
     /// How many chains there are.
-    pub fn len(&self) -> usize {
+    pub(crate) fn len(&self) -> usize {
         self.heads.len()
     }
 
@@ -56,7 +56,7 @@ impl Chains {
     }
 
     /// The first cell of the chain of a base.
-    pub fn head(&self, base: u64) -> ShortIndex {
+    pub(crate) fn head(&self, base: u64) -> ShortIndex {
         match self.heads.get(self.chain_of(base)) {
             Some(head) => *head,
             None => ShortIndex::none(),
@@ -64,7 +64,7 @@ impl Chains {
     }
 
     /// Another cell is the first of the chain of a base.
-    pub fn set_head(&mut self, base: u64, cell: ShortIndex) {
+    pub(crate) fn set_head(&mut self, base: u64, cell: ShortIndex) {
         let chain = self.chain_of(base);
         if chain < self.heads.len() {
             self.heads[chain] = cell;
@@ -72,7 +72,7 @@ impl Chains {
     }
 
     /// Twice as many chains, with no cell on any. Out of memory, all stays as it is.
-    pub fn double(&mut self, alloc: Global) -> Result<(), AllocError> {
+    pub(crate) fn double(&mut self, alloc: Global) -> Result<(), AllocError> {
         let Some(count) = self.heads.len().checked_mul(2) else {
             return Err(AllocError);
         };

@@ -9,7 +9,7 @@ ghost use Rattle.tag_arena.specs.Cuts.{IsCut};
 use deed_core::{Deed, Segment, Stored};
 
 /// A piece of a deed, and what is left of the deed on either side.
-pub struct Cut<D: Deed> {
+pub(crate) struct Cut<D: Deed> {
     pub low: Option<Stored<D>>,
     pub piece: Stored<D>,
     pub high: Option<Stored<D>>,
@@ -74,7 +74,7 @@ fn rejoin<D: Deed>(low: Option<Stored<D>>, rest: Stored<D>) -> Stored<D>
 }
 
 /// The units from `base` to `end`, or the deed as it was.
-pub fn cut_out<D: Deed>(whole: Stored<D>, base: u64, end: u64) -> Result<Cut<D>, Stored<D>>
+pub(crate) fn cut_out<D: Deed>(whole: Stored<D>, base: u64, end: u64) -> Result<Cut<D>, Stored<D>>
     requires from { whole.range.base ≤ base }
     requires some { base < end }
     requires to { end ≤ end_of whole.range }
@@ -92,7 +92,7 @@ pub fn cut_out<D: Deed>(whole: Stored<D>, base: u64, end: u64) -> Result<Cut<D>,
 }
 
 /// Cuts the first `len` units off a segment's deed.
-pub fn cut_first<D: Deed>(
+pub(crate) fn cut_first<D: Deed>(
     segment: Segment<D>,
     len: u64,
 ) -> Result<(Stored<D>, Option<Stored<D>>), Segment<D>>

@@ -108,7 +108,7 @@ fn earliest_fit<D: Deed>(
 
 /// The least address at or past the rover that serves the request, else the least that does. No
 /// address below the request's `min` is looked at.
-pub fn next_fit<D: Deed>(
+pub(crate) fn next_fit<D: Deed>(
     slots: &Slots<D>,
     rising: &mut OrderedIndex,
     rover: u64,

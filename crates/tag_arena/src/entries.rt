@@ -7,14 +7,14 @@ use sorted_rows::RowEntry;
 
 /// A free range in one order: the two numbers of its key, and its slot.
 #[derive(Clone, Copy, Debug)]
-pub struct IndexEntry {
+pub(crate) struct IndexEntry {
     pub major: u64,
     pub minor: u64,
     pub slot: usize,
 }
 
 /// The key of two numbers: by the first, then by the second.
-pub fn key_of(major: u64, minor: u64) -> u128
+pub(crate) fn key_of(major: u64, minor: u64) -> u128
     ensures { result ≡ major * 2 ^ 64 + minor }
 {
     (major as u128) * (1 << 64) + minor as u128

@@ -11,7 +11,7 @@ use deed_core::Deed;
 
 /// Sees to it that an index is kept: where it isn't yet, each free range is put in. There is room,
 /// so it takes no memory.
-pub fn fill<D: Deed>(slots: &Slots<D>, index: &mut OrderedIndex)
+pub(crate) fn fill<D: Deed>(slots: &Slots<D>, index: &mut OrderedIndex)
     requires timed { IsTimed slots.now.tags }
     requires tags { (clock : ℕ) × AreTags clock slots.now.tags }
     requires apart { AllPairs Apart (ranges_by_age slots.now.tags) }

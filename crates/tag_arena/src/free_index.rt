@@ -35,7 +35,7 @@ use std::marker::Model;
 
 /// The deeds of the free ranges of an arena. A contract sees the ranges from the oldest to the
 /// newest, how many there may be, and how many more may become free without memory.
-pub struct FreeIndex<D: Deed> {
+pub(crate) struct FreeIndex<D: Deed> {
     policy: Policy,
     slots: Slots<D>,
     rising: OrderedIndex,
@@ -64,7 +64,7 @@ impl<D: Deed> Model for FreeIndex<D> {
 }
 
 /// A piece that was carved, and the slots of the rests beside it.
-pub struct Carved<D: Deed> {
+pub(crate) struct Carved<D: Deed> {
     pub low: Option<usize>,
     pub piece: Stored<D>,
     pub high: Option<usize>,
@@ -72,7 +72,7 @@ pub struct Carved<D: Deed> {
 
 impl<D: Deed> FreeIndex<D> {
     /// No free range, and no room for any.
-    pub fn new(alloc: Global, policy: Policy) -> FreeIndex<D>
+    pub(crate) fn new(alloc: Global, policy: Policy) -> FreeIndex<D>
         ensures policy { result.policy ≡ policy }
         ensures ranges { result.ranges ≡ [] }
         ensures room { result.room ≡ 0 }
@@ -93,7 +93,12 @@ impl<D: Deed> FreeIndex<D> {
     /// takes memory, room is made for an eighth more ranges, if there is memory for them, so that
     /// rows lie together. Of all calls this one alone takes memory, and a carve what its deed's
     /// splits take.
-    pub fn reserve(&mut self, alloc: Global, room: usize, ticks: usize) -> Result<(), AllocError>
+    pub(crate) fn reserve(
+        &mut self,
+        alloc: Global,
+        room: usize,
+        ticks: usize,
+    ) -> Result<(), AllocError>
         ensures room { OnOk result (room ≤ self.new.room) }
         ensures ticks { OnOk result (ticks ≤ self.new.ticks) }
         ensures most { self.new.room ≤ max (room + room / 8) self.old.room }
@@ -132,14 +137,14 @@ impl<D: Deed> FreeIndex<D> {
     /// Goes to where the range with this base and length lies, or with length 0 to the first that
     /// begins there or behind it. It is for speed alone: the calls that follow there need no search
     /// in the order of bases.
-    pub fn go_to(&mut self, base: u64, len: u64)
+    pub(crate) fn go_to(&mut self, base: u64, len: u64)
         ensures unchanged { self.new ≡ self.old }
     {
         self.rising.go_to(base, len);
     }
 
     /// A range becomes free: it is the newest. The answer is its slot. It takes no memory.
-    pub fn insert(&mut self, deed: Stored<D>) -> usize
+    pub(crate) fn insert(&mut self, deed: Stored<D>) -> usize
         requires clear { All (Apart deed) self.old.ranges }
         requires room { length self.old.ranges < self.old.room }
         requires ticks { 0 < self.old.ticks }
@@ -160,7 +165,7 @@ impl<D: Deed> FreeIndex<D> {
     }
 
     /// A free range is free no more. Its slot may be the one that is likely.
-    pub fn take(&mut self, range: HeldRange, likely: usize) -> Stored<D>
+    pub(crate) fn take(&mut self, range: HeldRange, likely: usize) -> Stored<D>
         requires present { Contains self.old.ranges range }
         ensures value { result ≡ range }
         ensures ranges { Without self.old.ranges range self.new.ranges }
@@ -184,7 +189,7 @@ impl<D: Deed> FreeIndex<D> {
 
     /// How many free ranges there are. It takes constant time, so its clauses are the way to know
     /// what is always so of them.
-    pub fn len(&self) -> usize
+    pub(crate) fn len(&self) -> usize
         ensures len { result ≡ length self.now.ranges }
         ensures ranges { All (λ r. IsRange r.range) self.now.ranges }
     {
@@ -192,14 +197,14 @@ impl<D: Deed> FreeIndex<D> {
     }
 
     /// How many units the free ranges have.
-    pub fn units(&self) -> u128
+    pub(crate) fn units(&self) -> u128
         ensures { result ≡ units_held self.now.ranges }
     {
         self.slots.units()
     }
 
     /// Whether it is a free range, and in which slot.
-    pub fn find(&self, range: HeldRange) -> Option<usize>
+    pub(crate) fn find(&self, range: HeldRange) -> Option<usize>
         ensures { let free = self.now.ranges in
             MatchOption result (¬ Contains free range) (λ slot. Contains free range) }
     {
@@ -215,7 +220,7 @@ impl<D: Deed> FreeIndex<D> {
 
     /// Where the policy may ask for the order of sizes, it is kept from now on. It is for speed
     /// alone, and takes no memory.
-    pub fn keep_sizes(&mut self)
+    pub(crate) fn keep_sizes(&mut self)
         requires apart { AllPairs Apart self.old.ranges }
         ensures unchanged { self.new ≡ self.old }
     {
@@ -226,7 +231,7 @@ impl<D: Deed> FreeIndex<D> {
 
     /// The free range that ends at `end`, if there is one. What stands there may be known; else
     /// under `next` it is the one with the unit below `end`, since none has the unit `end`.
-    pub fn ending_at(&self, end: u64, side: Side) -> Option<SlotRange>
+    pub(crate) fn ending_at(&self, end: u64, side: Side) -> Option<SlotRange>
         requires some { 0 < end }
         requires apart { AllPairs Apart self.now.ranges }
         requires known { side ≡ Side.Allocated → All (λ r. end_of r.range ≢ end) self.now.ranges }
@@ -249,7 +254,7 @@ impl<D: Deed> FreeIndex<D> {
     }
 
     /// The free range that begins at `base`, if there is one. What stands there may be known.
-    pub fn beginning_at(&self, base: u64, side: Side) -> Option<SlotRange>
+    pub(crate) fn beginning_at(&self, base: u64, side: Side) -> Option<SlotRange>
         requires known { side ≡ Side.Allocated → All (λ r. r.range.base ≢ base) self.now.ranges }
         ensures { BeginsAt base self.now.ranges (option_map (λ f. f.range) result) }
     {
@@ -271,7 +276,12 @@ impl<D: Deed> FreeIndex<D> {
     /// The best range that serves the request, and its least address that does. The order of sizes
     /// is kept from the first such call on: that one looks at each free range. Under `next` there
     /// is no room for it.
-    pub fn best(&mut self, quantum: u64, request: &Request, probes: &mut Probes) -> Option<Fit>
+    pub(crate) fn best(
+        &mut self,
+        quantum: u64,
+        request: &Request,
+        probes: &mut Probes,
+    ) -> Option<Fit>
         requires asked { keeps_sizes self.old.policy ≡ true }
         requires quantum { IsPowerOfTwo quantum }
         requires good { IsGood quantum request.now }
@@ -288,7 +298,12 @@ impl<D: Deed> FreeIndex<D> {
     /// list whose every member has room, and else, or where there is no such list, the best; but
     /// where the lists show that none is long enough, the order of sizes isn't asked. It is for
     /// `instant`, which alone has the lists.
-    pub fn instant(&mut self, quantum: u64, request: &Request, probes: &mut Probes) -> Option<Fit>
+    pub(crate) fn instant(
+        &mut self,
+        quantum: u64,
+        request: &Request,
+        probes: &mut Probes,
+    ) -> Option<Fit>
         requires asked { self.old.policy ≡ Instant }
         requires quantum { IsPowerOfTwo quantum }
         requires good { IsGood quantum request.now }
@@ -324,7 +339,7 @@ impl<D: Deed> FreeIndex<D> {
 
     /// The least address at or past the rover that serves the request, else the least that does. It
     /// is what `next` chooses, which always has the order of bases.
-    pub fn next(
+    pub(crate) fn next(
         &mut self,
         rover: u64,
         quantum: u64,
@@ -346,7 +361,7 @@ impl<D: Deed> FreeIndex<D> {
     }
 
     /// What the policy chooses.
-    pub fn chosen(
+    pub(crate) fn chosen(
         &mut self,
         rover: u64,
         quantum: u64,
@@ -409,7 +424,7 @@ impl<D: Deed> FreeIndex<D> {
     }
 
     /// A rest, if there is one, becomes free. The answer is its slot.
-    pub fn insert_rest(&mut self, rest: Option<Stored<D>>) -> Option<usize>
+    pub(crate) fn insert_rest(&mut self, rest: Option<Stored<D>>) -> Option<usize>
         requires clear { IfSome rest (λ h. All (Apart h) self.old.ranges) }
         requires room { length self.old.ranges < self.old.room }
         requires ticks { 0 < self.old.ticks }
@@ -426,7 +441,7 @@ impl<D: Deed> FreeIndex<D> {
 
     /// Carves the first `len` units of what was found out of its range, whose rests become free,
     /// the low one first. Where a split is refused, all is as it was.
-    pub fn carve(&mut self, found: Fit, len: u64) -> Result<Carved<D>, AllocError>
+    pub(crate) fn carve(&mut self, found: Fit, len: u64) -> Result<Carved<D>, AllocError>
         requires among { Contains self.old.ranges found.range }
         requires some { 0 < len }
         requires from { found.range.range.base ≤ found.base }
@@ -455,19 +470,19 @@ impl<D: Deed> FreeIndex<D> {
     }
 
     /// The cell of the range in a slot, if it has one. It is for speed alone.
-    pub fn cell(&self, slot: usize) -> Option<usize> {
+    pub(crate) fn cell(&self, slot: usize) -> Option<usize> {
         self.slots.cell(slot)
     }
 
     /// Tells the cell of the range in a slot. It is for speed alone.
-    pub fn set_cell(&mut self, slot: usize, cell: Option<usize>)
+    pub(crate) fn set_cell(&mut self, slot: usize, cell: Option<usize>)
         ensures unchanged { self.new ≡ self.old }
     {
         self.slots.set_cell(slot, cell);
     }
 
     /// Ends the index where no range is free.
-    pub fn destroy(self)
+    pub(crate) fn destroy(self)
         requires { self.ranges ≡ [] }
     {
         let FreeIndex {

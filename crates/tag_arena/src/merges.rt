@@ -7,7 +7,7 @@ ghost use Rattle.deed_core.specs.Holding.{GoesOn};
 use deed_core::{Deed, Stored};
 
 /// The deed and the one before it, if there is one.
-pub fn join_left<D: Deed>(left: Option<Stored<D>>, deed: Stored<D>) -> Stored<D>
+pub(crate) fn join_left<D: Deed>(left: Option<Stored<D>>, deed: Stored<D>) -> Stored<D>
     requires { IfSome left (λ left. GoesOn left deed) }
     ensures root { result.root ≡ deed.root }
     ensures base { result.range.base
@@ -21,7 +21,7 @@ pub fn join_left<D: Deed>(left: Option<Stored<D>>, deed: Stored<D>) -> Stored<D>
 }
 
 /// The deed and the one behind it, if there is one.
-pub fn join_right<D: Deed>(deed: Stored<D>, right: Option<Stored<D>>) -> Stored<D>
+pub(crate) fn join_right<D: Deed>(deed: Stored<D>, right: Option<Stored<D>>) -> Stored<D>
     requires { IfSome right (λ right. GoesOn deed right) }
     ensures root { result.root ≡ deed.root }
     ensures base { result.range.base ≡ deed.range.base }

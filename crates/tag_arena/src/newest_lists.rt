@@ -14,14 +14,14 @@ const LISTS: usize = 64;
 
 /// The slots beside a slot on its list.
 #[derive(Clone, Copy, Debug)]
-pub struct Link {
+pub(crate) struct Link {
     pub newer: ShortIndex,
     pub older: ShortIndex,
 }
 
 /// The lists, with nothing on them where they aren't kept.
 #[derive(Drop)]
-pub struct NewestLists {
+pub(crate) struct NewestLists {
     kept: bool,
     /// The slot of the newest of each list.
     newest: [Option<usize>; LISTS],
@@ -43,7 +43,7 @@ impl Model for NewestLists {
 
 impl NewestLists {
     /// Lists with nothing on them.
-    pub fn new(alloc: Global, kept: bool) -> NewestLists
+    pub(crate) fn new(alloc: Global, kept: bool) -> NewestLists
         ensures is_kept { result.kept ≡ kept }
         ensures linked { IsLinked result [] }
     {
@@ -58,7 +58,7 @@ impl NewestLists {
 
     /// Makes room for links of the slots below `room`, where the lists are kept. Where there are
     /// more than `MOST_INDEXES`, that is refused.
-    pub fn reserve(&mut self, room: usize) -> Result<(), AllocError>
+    pub(crate) fn reserve(&mut self, room: usize) -> Result<(), AllocError>
         ensures ok { OnOk result (self.old.kept ≡ true → room ≤ lists_room self.new) }
         ensures linked { (tags : List (Option FreeTag)) → IsLinked self.old tags
             → IsLinked self.new tags }
@@ -79,7 +79,7 @@ impl NewestLists {
     }
 
     /// The range in a slot becomes the newest of its list, where the lists are kept.
-    pub fn enter(&mut self, slot: usize, tag: SlotTag)
+    pub(crate) fn enter(&mut self, slot: usize, tag: SlotTag)
         requires power { tag.power < 64 }
         requires room { self.old.kept ≡ true → slot < lists_room self.old }
         requires linked { self.old.kept ≡ true
@@ -107,7 +107,7 @@ impl NewestLists {
     }
 
     /// The range in a slot leaves its list, where the lists are kept.
-    pub fn strike(&mut self, slot: usize, tag: SlotTag)
+    pub(crate) fn strike(&mut self, slot: usize, tag: SlotTag)
         requires power { tag.power < 64 }
         requires linked { self.old.kept ≡ true → (tags : List (Option FreeTag))
             × IsLinked self.old tags × (tag_at tags slot ≡ Some tag) }
@@ -131,7 +131,7 @@ impl NewestLists {
     }
 
     /// The slot of the newest range of the first list, from a list on, that has one.
-    pub fn newest_from(&self, list: u32) -> Option<usize>
+    pub(crate) fn newest_from(&self, list: u32) -> Option<usize>
         ensures { (tags : List (Option FreeTag)) → IsLinked self.now tags → ArePowers tags
             → IsNewestFrom list tags result }
     {

@@ -14,7 +14,7 @@ use std::marker::Model;
 
 /// An order of free ranges.
 #[derive(Clone, Copy, PartialEq, Eq, Debug)]
-pub enum Order {
+pub(crate) enum Order {
     /// By base.
     Rising,
     /// By length, then by base.
@@ -22,7 +22,7 @@ pub enum Order {
 }
 
 /// The entry of a free range.
-pub fn entry_of(order: Order, slot: usize, tag: SlotTag) -> IndexEntry
+pub(crate) fn entry_of(order: Order, slot: usize, tag: SlotTag) -> IndexEntry
     ensures { result ≡ entry_of order slot tag }
 {
     let range = tag.range();
@@ -42,7 +42,7 @@ pub fn entry_of(order: Order, slot: usize, tag: SlotTag) -> IndexEntry
 
 /// An index in one order. Where it isn't kept, it has nothing in it.
 #[derive(Drop)]
-pub struct OrderedIndex {
+pub(crate) struct OrderedIndex {
     order: Order,
     kept: bool,
     rows: Rows<IndexEntry>,
@@ -62,7 +62,7 @@ impl Model for OrderedIndex {
 }
 
 impl OrderedIndex {
-    pub fn new(alloc: Global, order: Order, kept: bool) -> OrderedIndex
+    pub(crate) fn new(alloc: Global, order: Order, kept: bool) -> OrderedIndex
         ensures order { result.order ≡ order }
         ensures is_kept { result.kept ≡ kept }
         ensures items { result.items ≡ [] }
@@ -76,21 +76,26 @@ impl OrderedIndex {
     }
 
     /// Whether it is kept.
-    pub fn is_kept(&self) -> bool
+    pub(crate) fn is_kept(&self) -> bool
         ensures { result ≡ self.now.kept }
     {
         self.kept
     }
 
     /// From now on it is kept. Its entries are for the caller to put in.
-    pub fn begin(&mut self)
+    pub(crate) fn begin(&mut self)
         ensures { self.new ≡ record self.old { kept = true } }
     {
         self.kept = true;
     }
 
     /// Makes room for `room` entries in all where that is asked for, whether it is kept or not.
-    pub fn reserve(&mut self, alloc: Global, room: usize, asked: bool) -> Result<(), AllocError>
+    pub(crate) fn reserve(
+        &mut self,
+        alloc: Global,
+        room: usize,
+        asked: bool,
+    ) -> Result<(), AllocError>
         ensures ok { OnOk result (asked ≡ true → self.new.room ≡ max room self.old.room) }
         ensures rest { self.new ≡ record self.old { room = self.new.room } }
         ensures grows { self.old.room ≤ self.new.room }
@@ -103,14 +108,14 @@ impl OrderedIndex {
 
     /// Goes to where the key of two numbers belongs. It is for speed alone: the calls that follow
     /// near the key need no search, or none for its row.
-    pub fn go_to(&mut self, major: u64, minor: u64)
+    pub(crate) fn go_to(&mut self, major: u64, minor: u64)
         ensures unchanged { self.new ≡ self.old }
     {
         self.rows.go_to(key_of(major, minor));
     }
 
     /// Puts in the entry of a free range, where it is kept.
-    pub fn enter(&mut self, slot: usize, tag: SlotTag)
+    pub(crate) fn enter(&mut self, slot: usize, tag: SlotTag)
         requires room { HasRoomForOne self.old.kept self.old.items self.old.room }
         requires absent { let entry = entry_of self.old.order slot tag in
             IsAbsent self.old.kept self.old.items (rank_of entry) }
@@ -126,7 +131,7 @@ impl OrderedIndex {
     }
 
     /// Takes out the entry of a free range, where it is kept.
-    pub fn strike(&mut self, slot: usize, tag: SlotTag)
+    pub(crate) fn strike(&mut self, slot: usize, tag: SlotTag)
         requires present { let entry = entry_of self.old.order slot tag in
             IsPresent self.old.kept self.old.items (rank_of entry) }
         ensures items { let entry = entry_of self.old.order slot tag in
@@ -142,7 +147,7 @@ impl OrderedIndex {
     }
 
     /// The first entry at or above the key of two numbers.
-    pub fn first_from(&self, major: u64, minor: u64) -> Option<IndexEntry>
+    pub(crate) fn first_from(&self, major: u64, minor: u64) -> Option<IndexEntry>
         ensures first { let key = major * 2 ^ 64 + minor in
             result ≡ first_from rank_of key self.now.items }
         ensures rises { Rises rank_of self.now.items }
@@ -152,7 +157,7 @@ impl OrderedIndex {
     }
 
     /// The last entry at or below the key of two numbers.
-    pub fn last_to(&self, major: u64, minor: u64) -> Option<IndexEntry>
+    pub(crate) fn last_to(&self, major: u64, minor: u64) -> Option<IndexEntry>
         ensures last { let key = major * 2 ^ 64 + minor in
             result ≡ last_to rank_of key self.now.items }
         ensures rises { Rises rank_of self.now.items }
@@ -163,7 +168,7 @@ impl OrderedIndex {
 
     /// The first entry, from the first at or above the key of two numbers on, that weighs as much
     /// as `least` or more. What it found is kept for the next time, and the entries are the same.
-    pub fn first_weighing(
+    pub(crate) fn first_weighing(
         &mut self,
         measure: Measure,
         major: u64,

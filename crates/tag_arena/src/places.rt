@@ -9,7 +9,7 @@ ghost use Rattle.tag_arena.specs.Place.{IsLeast, IsPlace, Nest, OnGrid, ServesIn
 use deed_core::{Range, Request};
 
 /// What a number leaves when divided by a block of a power of two.
-pub fn rest_in(unit: u64, block: u64) -> u64
+pub(crate) fn rest_in(unit: u64, block: u64) -> u64
     requires { IsPowerOfTwo block }
     ensures { result ≡ unit % block }
 {
@@ -17,7 +17,7 @@ pub fn rest_in(unit: u64, block: u64) -> u64
 }
 
 /// The least number from `low` on that leaves `phase` when divided by `align`.
-pub fn least_aligned(low: u64, align: u64, phase: u64) -> u64
+pub(crate) fn least_aligned(low: u64, align: u64, phase: u64) -> u64
     requires power { IsPowerOfTwo align }
     requires phase { phase < align }
     requires fits { low + align ≤ 2 ^ 64 }
@@ -74,7 +74,7 @@ fn least_place(low: u64, high: u64, len: u64, align: u64, phase: u64, nocross: u
 }
 
 /// The block, and the place in it at which a base may stand.
-pub fn grid(request: &Request, quantum: u64) -> (u64, u64)
+pub(crate) fn grid(request: &Request, quantum: u64) -> (u64, u64)
     requires quantum { IsPowerOfTwo quantum }
     requires good { IsGood quantum request.now }
     ensures on_grid { (base : ℕ) → (base % result.0 ≡ result.1) ↔ OnGrid quantum request.now base }
@@ -92,7 +92,7 @@ pub fn grid(request: &Request, quantum: u64) -> (u64, u64)
 
 /// The least base from `from` on at which the range serves the request, found in a number of steps
 /// that no member of the request changes.
-pub fn least_in(request: &Request, quantum: u64, range: Range, from: u64) -> Option<u64>
+pub(crate) fn least_in(request: &Request, quantum: u64, range: Range, from: u64) -> Option<u64>
     requires quantum { IsPowerOfTwo quantum }
     requires good { IsGood quantum request.now }
     requires from { from ≤ 2 ^ 62 }

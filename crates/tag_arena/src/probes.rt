@@ -10,27 +10,27 @@ use deed_core::{Range, Request};
 
 /// A count of looks. Each look of a search is counted here as it is made.
 #[derive(Clone, Copy, Drop, Debug)]
-pub struct Probes {
+pub(crate) struct Probes {
     pub count: u64,
 }
 
 impl Probes {
     /// No look so far.
-    pub fn new() -> Probes
+    pub(crate) fn new() -> Probes
         ensures { result.count ≡ 0 }
     {
         Probes { count: 0 }
     }
 
     /// Looks at a free range.
-    pub fn look(&mut self)
+    pub(crate) fn look(&mut self)
         ensures { self.old.count ≡ 0 → self.new.count ≡ 1 }
     {
         self.count = self.count.saturating_add(1);
     }
 
     /// Looks at a free range for the least base from `from` on at which it serves the request.
-    pub fn least_in(
+    pub(crate) fn least_in(
         &mut self,
         request: &Request,
         quantum: u64,

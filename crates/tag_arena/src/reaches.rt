@@ -12,7 +12,7 @@ use std::marker::Model;
 /// Where units may stand: from a base at the phase in its block of `align` on, and, where `nocross`
 /// isn't 0, inside a block of so many.
 #[derive(Clone, Copy, PartialEq, Eq, Debug)]
-pub struct Grid {
+pub(crate) struct Grid {
     align: u64,
     phase: u64,
     nocross: u64,
@@ -35,7 +35,7 @@ impl Model for Grid {
 
 impl Grid {
     /// The request's own, with the quantum for an `align` of 0.
-    pub fn of(request: &Request, quantum: u64) -> Grid
+    pub(crate) fn of(request: &Request, quantum: u64) -> Grid
         requires quantum { IsPowerOfTwo quantum }
         requires good { IsGood quantum request.now }
         ensures on_grid { (base : ℕ) →
@@ -53,7 +53,7 @@ impl Grid {
 
     /// No more units than this can stand so from `base` to `end`. Where they stand in a later block
     /// than the first base, what is before its first base isn't taken off.
-    pub fn reach(&self, base: u64, end: u64) -> u64
+    pub(crate) fn reach(&self, base: u64, end: u64) -> u64
         requires base { base ≤ 2 ^ 62 }
         requires end { end ≤ 2 ^ 62 }
         ensures { result ≡ reach_of self.now base end }
@@ -81,7 +81,7 @@ impl Grid {
 
 /// By what the entries of an index are weighed.
 #[derive(Clone, Copy, PartialEq, Eq, Debug)]
-pub enum Measure {
+pub(crate) enum Measure {
     /// By the second number of the key: the length, in the rising order. Each row's head keeps it
     /// from the first on, so that no search of `next` has to weigh all ranges.
     Minor,

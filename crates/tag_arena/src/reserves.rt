@@ -8,7 +8,7 @@ use deed_core::Deed;
 use std::alloc::{AllocError, Global};
 
 /// Makes room for `more` free ranges, and for each allocated range to become free again.
-pub fn reserve_free<D: Deed>(
+pub(crate) fn reserve_free<D: Deed>(
     alloc: Global,
     free: &mut FreeIndex<D>,
     tags: &Tags,

@@ -14,13 +14,13 @@ use crate::merges::{join_left, join_right};
 use deed_core::{Deed, Stored};
 
 /// A deed with those that were free beside it, and on which sides there was one.
-pub struct Merged<D: Deed> {
+pub(crate) struct Merged<D: Deed> {
     pub deed: Stored<D>,
     pub sides: Sides,
 }
 
 /// What a piece that came back has become.
-pub enum Became<D: Deed> {
+pub(crate) enum Became<D: Deed> {
     /// The whole of a span that was lent.
     Whole(Stored<D>),
     /// A free range, in this slot.
@@ -28,7 +28,7 @@ pub enum Became<D: Deed> {
 }
 
 /// What a piece that came back has become, and on which sides it was merged.
-pub struct GivenBack<D: Deed> {
+pub(crate) struct GivenBack<D: Deed> {
     pub became: Became<D>,
     pub sides: Sides,
 }
@@ -65,7 +65,7 @@ impl<D: Deed> FreeIndex<D> {
     }
 
     /// The deed and its free neighbours inside the span, which are taken out. It takes no memory.
-    pub fn merge(&mut self, span: HeldRange, deed: Stored<D>, beside: Beside) -> Merged<D>
+    pub(crate) fn merge(&mut self, span: HeldRange, deed: Stored<D>, beside: Beside) -> Merged<D>
         requires inside { IsPartOf span deed }
         requires some { 0 < deed.range.len }
         requires beside { All (IsBeside span) self.old.ranges }
@@ -90,7 +90,7 @@ impl<D: Deed> FreeIndex<D> {
 
     /// A piece of a span comes back. With its free neighbours it is the newest range; where that is
     /// the whole of a span that was lent, it is handed back. It takes no memory.
-    pub fn give_back(
+    pub(crate) fn give_back(
         &mut self,
         span: HeldRange,
         lent: bool,

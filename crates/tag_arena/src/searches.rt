@@ -22,14 +22,14 @@ use deed_core::{Deed, Request};
 
 /// A free range, and an address in it.
 #[derive(Clone, Copy, Debug)]
-pub struct Fit {
+pub(crate) struct Fit {
     pub range: HeldRange,
     pub base: u64,
     pub slot: usize,
 }
 
 /// The best range that serves the request, and its least address that does.
-pub fn best_fit<D: Deed>(
+pub(crate) fn best_fit<D: Deed>(
     slots: &Slots<D>,
     sizes: &mut OrderedIndex,
     quantum: u64,
@@ -132,7 +132,11 @@ fn best_by_reach<D: Deed>(
 }
 
 /// The free range with this unit in it. Where there is none, it looks at no slot.
-pub fn range_with<D: Deed>(slots: &Slots<D>, rising: &OrderedIndex, unit: u64) -> Option<SlotRange>
+pub(crate) fn range_with<D: Deed>(
+    slots: &Slots<D>,
+    rising: &OrderedIndex,
+    unit: u64,
+) -> Option<SlotRange>
     requires tags { (clock : ℕ) × AreTags clock slots.now.tags }
     requires mirrors { Mirrors Rising rising.now.items slots.now.tags }
     requires apart { AllPairs Apart (ranges_by_age slots.now.tags) }
@@ -150,7 +154,11 @@ pub fn range_with<D: Deed>(slots: &Slots<D>, rising: &OrderedIndex, unit: u64) -
 }
 
 /// The free range that begins at a base.
-pub fn range_from<D: Deed>(slots: &Slots<D>, rising: &OrderedIndex, base: u64) -> Option<SlotRange>
+pub(crate) fn range_from<D: Deed>(
+    slots: &Slots<D>,
+    rising: &OrderedIndex,
+    base: u64,
+) -> Option<SlotRange>
     requires tags { (clock : ℕ) × AreTags clock slots.now.tags }
     requires mirrors { Mirrors Rising rising.now.items slots.now.tags }
     ensures { BeginsAt base (ranges_by_age slots.now.tags) (option_map (λ f. f.range) result) }
@@ -180,13 +188,13 @@ fn least_list(units: u64) -> u32
 
 /// A free range and its slot.
 #[derive(Clone, Copy, Debug)]
-pub struct SlotRange {
+pub(crate) struct SlotRange {
     pub range: HeldRange,
     pub slot: usize,
 }
 
 /// The newest range on the least power-of-two list whose every member has room for `units`.
-pub fn newest<D: Deed>(
+pub(crate) fn newest<D: Deed>(
     slots: &Slots<D>,
     lists: &NewestLists,
     quantum: u64,

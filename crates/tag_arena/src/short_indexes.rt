@@ -7,11 +7,11 @@ use std::marker::Model;
 const NO_INDEX: u32 = u32::MAX;
 
 /// How many can be told apart: 4,294,967,295.
-pub const MOST_INDEXES: usize = NO_INDEX as usize;
+pub(crate) const MOST_INDEXES: usize = NO_INDEX as usize;
 
 /// The number of a slot or of a cell, below `MOST_INDEXES`, or none.
 #[derive(Clone, Copy, Debug)]
-pub struct ShortIndex {
+pub(crate) struct ShortIndex {
     number: u32,
 }
 
@@ -31,14 +31,14 @@ impl Model for ShortIndex {
 
 impl ShortIndex {
     /// None.
-    pub fn none() -> ShortIndex
+    pub(crate) fn none() -> ShortIndex
         ensures { result ≡ None }
     {
         ShortIndex { number: NO_INDEX }
     }
 
     /// A number, if there is one. One that is too great counts as none.
-    pub fn to(index: Option<usize>) -> ShortIndex
+    pub(crate) fn to(index: Option<usize>) -> ShortIndex
         ensures { IfSome index (λ i. i < MOST_INDEXES) → result ≡ index }
     {
         match index {
@@ -48,7 +48,7 @@ impl ShortIndex {
     }
 
     /// The number, if there is one.
-    pub fn get(self) -> Option<usize>
+    pub(crate) fn get(self) -> Option<usize>
         ensures { result ≡ self }
     {
         if self.number == NO_INDEX {

@@ -14,7 +14,7 @@ use deed_core::Deed;
 
 /// The slot of a free range, if it is one: the one that is likely, or else by the order of sizes,
 /// or, where that isn't kept, by a look at each slot.
-pub fn slot_by_size<D: Deed>(
+pub(crate) fn slot_by_size<D: Deed>(
     slots: &Slots<D>,
     sizes: &OrderedIndex,
     range: HeldRange,
@@ -38,7 +38,7 @@ pub fn slot_by_size<D: Deed>(
 }
 
 /// The slot of a free range, if it is one: the one that is likely, or else by the order of bases.
-pub fn slot_by_base<D: Deed>(
+pub(crate) fn slot_by_base<D: Deed>(
     slots: &Slots<D>,
     rising: &OrderedIndex,
     range: HeldRange,
@@ -59,7 +59,7 @@ pub fn slot_by_base<D: Deed>(
 }
 
 /// The slot of a free range, if it is one, by what the policy has.
-pub fn slot_of<D: Deed>(
+pub(crate) fn slot_of<D: Deed>(
     policy: Policy,
     slots: &Slots<D>,
     rising: &OrderedIndex,

@@ -16,7 +16,7 @@ use std::marker::Model;
 
 /// A deed with the time at which its range became free, and the number of the range's
 /// power-of-two list. Its cell, if it has one, is for speed alone.
-pub struct TimedDeed<D: Deed> {
+pub(crate) struct TimedDeed<D: Deed> {
     deed: Stored<D>,
     since: u64,
     power: u32,
@@ -32,7 +32,7 @@ impl<D: Deed> Model for TimedDeed<D> {
 }
 
 impl<D: Deed> TimedDeed<D> {
-    pub fn new(deed: Stored<D>, since: u64, power: u32) -> TimedDeed<D>
+    pub(crate) fn new(deed: Stored<D>, since: u64, power: u32) -> TimedDeed<D>
         ensures { result ≡ record { range = deed; since = since; power = power } }
     {
         TimedDeed {
@@ -44,7 +44,7 @@ impl<D: Deed> TimedDeed<D> {
     }
 
     /// The deed itself.
-    pub fn into_deed(self) -> Stored<D>
+    pub(crate) fn into_deed(self) -> Stored<D>
         ensures { result ≡ self.range }
     {
         let TimedDeed {
@@ -56,7 +56,7 @@ impl<D: Deed> TimedDeed<D> {
         deed
     }
 
-    pub fn tag(&self) -> SlotTag
+    pub(crate) fn tag(&self) -> SlotTag
         ensures { result ≡ self.now }
     {
         SlotTag {
@@ -69,7 +69,7 @@ impl<D: Deed> TimedDeed<D> {
 
 /// What is known of a free range, as plain data.
 #[derive(Clone, Copy, Debug)]
-pub struct SlotTag {
+pub(crate) struct SlotTag {
     range: HeldRange,
     since: u64,
     power: u32,
@@ -86,7 +86,7 @@ impl Model for SlotTag {
 }
 
 impl SlotTag {
-    pub fn range(&self) -> HeldRange
+    pub(crate) fn range(&self) -> HeldRange
         ensures value { result ≡ self.now.range }
         ensures range { IsRange self.now.range.range }
     {
@@ -94,13 +94,13 @@ impl SlotTag {
         self.range
     }
 
-    pub fn since(&self) -> u64
+    pub(crate) fn since(&self) -> u64
         ensures { result ≡ self.now.since }
     {
         self.since
     }
 
-    pub fn power(&self) -> u32
+    pub(crate) fn power(&self) -> u32
         ensures { result ≡ self.now.power }
     {
         self.power
@@ -108,7 +108,7 @@ impl SlotTag {
 }
 
 /// Deeds in numbered slots, with room for a number of them.
-pub struct Slots<D: Deed> {
+pub(crate) struct Slots<D: Deed> {
     slots: Vec<Option<TimedDeed<D>>>,
     vacant: Vec<usize>,
     room: usize,
@@ -125,7 +125,7 @@ impl<D: Deed> Model for Slots<D> {
 }
 
 impl<D: Deed> Slots<D> {
-    pub fn new(alloc: Global) -> Slots<D>
+    pub(crate) fn new(alloc: Global) -> Slots<D>
         ensures tags { result.tags ≡ [] }
         ensures room { result.room ≡ 0 }
     {
@@ -137,7 +137,7 @@ impl<D: Deed> Slots<D> {
     }
 
     /// Makes room for `room` deeds in all.
-    pub fn reserve(&mut self, room: usize) -> Result<(), AllocError>
+    pub(crate) fn reserve(&mut self, room: usize) -> Result<(), AllocError>
         ensures ok { OnOk result (self.new.room ≡ max room self.old.room) }
         ensures unchanged { OnErr result (self.new.room ≡ self.old.room) }
         ensures tags { self.new.tags ≡ self.old.tags }
@@ -152,7 +152,7 @@ impl<D: Deed> Slots<D> {
     }
 
     /// Puts a deed in a slot, whose number it tells. It takes no memory.
-    pub fn put(&mut self, deed: TimedDeed<D>) -> usize
+    pub(crate) fn put(&mut self, deed: TimedDeed<D>) -> usize
         requires { taken_count self.old.tags < self.old.room }
         ensures vacant { tag_at self.old.tags result ≡ None }
         ensures becomes { SlotBecomes self.old.tags self.new.tags result (Some deed) }
@@ -176,7 +176,7 @@ impl<D: Deed> Slots<D> {
     }
 
     /// Takes the deed out of its slot.
-    pub fn take(&mut self, slot: usize) -> TimedDeed<D>
+    pub(crate) fn take(&mut self, slot: usize) -> TimedDeed<D>
         requires { (t : FreeTag) × (tag_at self.old.tags slot ≡ Some t) }
         ensures value { Some result ≡ tag_at self.old.tags slot }
         ensures becomes { SlotBecomes self.old.tags self.new.tags slot None }
@@ -192,7 +192,7 @@ impl<D: Deed> Slots<D> {
 
     /// Cuts the units from `base` to `end` out of the deed in a slot, which is vacant then. Where a
     /// split is refused, all is as it was.
-    pub fn cut(
+    pub(crate) fn cut(
         &mut self,
         at: usize,
         tag: SlotTag,
@@ -230,7 +230,7 @@ impl<D: Deed> Slots<D> {
     }
 
     /// What lies in a slot.
-    pub fn tag(&self, slot: usize) -> SlotTag
+    pub(crate) fn tag(&self, slot: usize) -> SlotTag
         requires { (t : FreeTag) × (tag_at self.now.tags slot ≡ Some t) }
         ensures { Some result ≡ tag_at self.now.tags slot }
     {
@@ -242,7 +242,7 @@ impl<D: Deed> Slots<D> {
 
     /// The range in a slot, whose base and length the caller knows. They aren't read from the slot:
     /// what needs them alone goes on before the slot's memory is at hand.
-    pub fn range_at(&self, slot: usize, base: u64, len: u64) -> HeldRange
+    pub(crate) fn range_at(&self, slot: usize, base: u64, len: u64) -> HeldRange
         requires here { (t : FreeTag) × (tag_at self.now.tags slot ≡ Some t)
             × (t.range.range ≡ record { base = base; len = len }) }
         requires range { IsRange (record { base = base; len = len }) }
@@ -258,14 +258,14 @@ impl<D: Deed> Slots<D> {
     }
 
     /// How many slots there are, vacant ones among them.
-    pub fn len(&self) -> usize
+    pub(crate) fn len(&self) -> usize
         ensures { result ≡ length self.now.tags }
     {
         self.slots.len()
     }
 
     /// What lies in a slot, if anything does.
-    pub fn peek(&self, slot: usize) -> Option<SlotTag>
+    pub(crate) fn peek(&self, slot: usize) -> Option<SlotTag>
         requires { slot < length self.now.tags }
         ensures { result ≡ tag_at self.now.tags slot }
     {
@@ -276,7 +276,7 @@ impl<D: Deed> Slots<D> {
     }
 
     /// The range in a slot, if one lies there and ends at `end`.
-    pub fn ending_in(&self, slot: usize, end: u64) -> Option<HeldRange>
+    pub(crate) fn ending_in(&self, slot: usize, end: u64) -> Option<HeldRange>
         ensures { IfSome result (λ r. StandsAt tag_end end self.now.tags (Some r)) }
     {
         if slot >= self.slots.len() {
@@ -290,7 +290,7 @@ impl<D: Deed> Slots<D> {
     }
 
     /// The range that ends at `end`, by a look at each.
-    pub fn ending_at(&self, end: u64) -> Option<HeldRange>
+    pub(crate) fn ending_at(&self, end: u64) -> Option<HeldRange>
         ensures { StandsAt tag_end end self.now.tags result }
     {
         for slot in 0..self.slots.len() {
@@ -305,7 +305,7 @@ impl<D: Deed> Slots<D> {
     }
 
     /// The range in a slot, if one lies there and begins at `base`.
-    pub fn beginning_in(&self, slot: usize, base: u64) -> Option<HeldRange>
+    pub(crate) fn beginning_in(&self, slot: usize, base: u64) -> Option<HeldRange>
         ensures { IfSome result (λ r. StandsAt begin_of base self.now.tags (Some r)) }
     {
         if slot >= self.slots.len() {
@@ -319,7 +319,7 @@ impl<D: Deed> Slots<D> {
     }
 
     /// The range that begins at `base`, by a look at each.
-    pub fn beginning_at(&self, base: u64) -> Option<HeldRange>
+    pub(crate) fn beginning_at(&self, base: u64) -> Option<HeldRange>
         ensures { StandsAt begin_of base self.now.tags result }
     {
         for slot in 0..self.slots.len() {
@@ -334,7 +334,7 @@ impl<D: Deed> Slots<D> {
     }
 
     /// The slot of a range, if it lies in one, by a look at each.
-    pub fn holding(&self, range: HeldRange) -> Option<usize>
+    pub(crate) fn holding(&self, range: HeldRange) -> Option<usize>
         ensures { LiesIn range self.now.tags result }
     {
         for slot in 0..self.slots.len() {
@@ -346,7 +346,7 @@ impl<D: Deed> Slots<D> {
     }
 
     /// Whether a range lies in a slot.
-    pub fn is_in(&self, slot: usize, range: HeldRange) -> bool
+    pub(crate) fn is_in(&self, slot: usize, range: HeldRange) -> bool
         ensures { IsTrue result ↔ LiesIn range self.now.tags (Some slot) }
     {
         if slot >= self.slots.len() {
@@ -359,7 +359,7 @@ impl<D: Deed> Slots<D> {
     }
 
     /// The cell of the range in a slot, if there is one. It is for speed alone.
-    pub fn cell(&self, slot: usize) -> Option<usize> {
+    pub(crate) fn cell(&self, slot: usize) -> Option<usize> {
         if slot >= self.slots.len() {
             return None;
         }
@@ -370,7 +370,7 @@ impl<D: Deed> Slots<D> {
     }
 
     /// Tells the cell of the range in a slot. It is for speed alone.
-    pub fn set_cell(&mut self, slot: usize, cell: Option<usize>)
+    pub(crate) fn set_cell(&mut self, slot: usize, cell: Option<usize>)
         ensures unchanged { self.new ≡ self.old }
     {
         if slot >= self.slots.len() {
@@ -382,14 +382,14 @@ impl<D: Deed> Slots<D> {
     }
 
     /// How many deeds lie in the slots.
-    pub fn taken(&self) -> usize
+    pub(crate) fn taken(&self) -> usize
         ensures { result ≡ taken_count self.now.tags }
     {
         self.slots.len() - self.vacant.len()
     }
 
     /// How many units the deeds in the slots have.
-    pub fn units(&self) -> u128
+    pub(crate) fn units(&self) -> u128
         ensures { result ≡ sum_by slot_units self.now.tags }
     {
         let mut units: u128 = 0;
@@ -402,7 +402,7 @@ impl<D: Deed> Slots<D> {
     }
 
     /// Ends the slots where no deed lies in any.
-    pub fn destroy(self)
+    pub(crate) fn destroy(self)
         requires { taken_count self.tags ≡ 0 }
     {
         let Slots {

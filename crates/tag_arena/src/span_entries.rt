@@ -6,7 +6,7 @@ use sorted_rows::RowEntry;
 
 /// A span, the arena that it came from, and how many came before it.
 #[derive(Clone, Copy, Debug)]
-pub struct SpanEntry {
+pub(crate) struct SpanEntry {
     pub span: HeldRange,
     pub source: u32,
     pub since: u64,

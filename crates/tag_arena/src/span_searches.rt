@@ -8,7 +8,7 @@ use crate::spans::Spans;
 use deed_core::Range;
 
 /// Whether a span overlaps the range.
-pub fn overlaps(spans: &Spans, range: &Range) -> bool
+pub(crate) fn overlaps(spans: &Spans, range: &Range) -> bool
     requires { AreDisjoint (holdings_of spans.now.items) }
     ensures { let held = holdings_of spans.now.items in
         MatchBool result (Any (λ s. Overlap s.range range.now) held)
@@ -40,7 +40,7 @@ fn covering(spans: &Spans, unit: u64) -> Option<HeldRange>
 }
 
 /// The span that `unit` lies in, of the owned ones and the imported ones.
-pub fn span_at(owned: &Spans, imported: &Spans, unit: u64) -> Option<HeldRange>
+pub(crate) fn span_at(owned: &Spans, imported: &Spans, unit: u64) -> Option<HeldRange>
     requires owned { AreDisjoint (holdings_of owned.now.items) }
     requires imported { AreDisjoint (holdings_of imported.now.items) }
     ensures { let spans = holdings_of owned.now.items ++ holdings_of imported.now.items in
@@ -54,7 +54,7 @@ pub fn span_at(owned: &Spans, imported: &Spans, unit: u64) -> Option<HeldRange>
 }
 
 /// Whether it is one of the spans.
-pub fn is_span(spans: &Spans, range: HeldRange) -> bool
+pub(crate) fn is_span(spans: &Spans, range: HeldRange) -> bool
     requires { AreDisjoint (holdings_of spans.now.items) }
     ensures { let held = holdings_of spans.now.items in
         MatchBool result (Contains held range) (¬ Contains held range) }

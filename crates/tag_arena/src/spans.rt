@@ -14,7 +14,7 @@ use std::marker::Model;
 /// A span, with the arena that it came from, which of an owned one is this arena itself. A contract
 /// sees the segment that goes back there.
 #[derive(Drop)]
-pub struct Import {
+pub(crate) struct Import {
     source: u32,
     span: HeldRange,
 }
@@ -29,19 +29,19 @@ impl Model for Import {
 }
 
 impl Import {
-    pub fn new(source: u32, span: HeldRange) -> Import
+    pub(crate) fn new(source: u32, span: HeldRange) -> Import
         ensures { result ≡ record { arena = source; route = Direct; holding = span } }
     {
         Import { source, span }
     }
 
-    pub fn source(&self) -> u32
+    pub(crate) fn source(&self) -> u32
         ensures { result ≡ self.now.arena }
     {
         self.source
     }
 
-    pub fn span(&self) -> HeldRange
+    pub(crate) fn span(&self) -> HeldRange
         ensures { result ≡ self.now.holding }
     {
         self.span
@@ -51,7 +51,7 @@ impl Import {
 /// Spans, found by their ends. A contract sees each as the segment that goes back where it came
 /// from, in order of coming, and how many more may come without memory.
 #[derive(Drop)]
-pub struct Spans {
+pub(crate) struct Spans {
     rows: Rows<SpanEntry>,
     clock: u64,
     units: u128,
@@ -73,7 +73,7 @@ impl Model for Spans {
 
 impl Spans {
     /// No span.
-    pub fn new(alloc: Global) -> Spans
+    pub(crate) fn new(alloc: Global) -> Spans
         ensures { result.items ≡ [] }
     {
         Spans {
@@ -84,7 +84,7 @@ impl Spans {
     }
 
     /// How many units they have.
-    pub fn units(&self) -> u128
+    pub(crate) fn units(&self) -> u128
         ensures sum { result ≡ units_held (holdings_of self.now.items) }
         ensures bound { result < 2 ^ 127 }
     {
@@ -94,7 +94,7 @@ impl Spans {
     }
 
     /// Makes room for one more.
-    pub fn reserve(&mut self, alloc: Global) -> Result<(), AllocError>
+    pub(crate) fn reserve(&mut self, alloc: Global) -> Result<(), AllocError>
         ensures more { OnOk result (0 < self.new.more) }
         ensures items { self.new.items ≡ self.old.items }
     {
@@ -108,7 +108,7 @@ impl Spans {
     }
 
     /// One more comes. It takes no memory.
-    pub fn put(&mut self, import: Import)
+    pub(crate) fn put(&mut self, import: Import)
         requires more { 0 < self.old.more }
         requires absent { let end = end_of import.holding.range in
             All (λ t. end_of t.holding.range ≢ end) self.old.items }
@@ -127,7 +127,7 @@ impl Spans {
     }
 
     /// Takes a span out. It takes no memory.
-    pub fn take(&mut self, span: HeldRange) -> Import
+    pub(crate) fn take(&mut self, span: HeldRange) -> Import
         requires disjoint { AreDisjoint (holdings_of self.old.items) }
         requires present { Contains (holdings_of self.old.items) span }
         ensures items { WithoutSpan self.old.items result self.new.items }
@@ -141,7 +141,7 @@ impl Spans {
     }
 
     /// Of the spans that end past `unit`, the one that ends first.
-    pub fn first_past(&self, unit: u64) -> Option<Import>
+    pub(crate) fn first_past(&self, unit: u64) -> Option<Import>
         ensures { IsFirstPast unit self.now.items result }
     {
         // For its clause: the entries stand in the order of their ends.

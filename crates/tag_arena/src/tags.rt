@@ -16,21 +16,21 @@ use std::marker::Model;
 
 /// An allocated range that was found, and its cell.
 #[derive(Clone, Copy, Debug)]
-pub struct Found {
+pub(crate) struct Found {
     pub range: HeldRange,
     pub cell: usize,
 }
 
 /// The cell of a range that was put in, and that of the rest behind it, if that has one.
 #[derive(Clone, Copy, Debug)]
-pub struct Placed {
+pub(crate) struct Placed {
     pub cell: usize,
     pub behind: Option<usize>,
 }
 
 /// Each allocated range in a cell of its own, and how many they are.
 #[derive(Drop)]
-pub struct Tags {
+pub(crate) struct Tags {
     alloc: Global,
     cells: Cells,
     chains: Chains,
@@ -58,7 +58,7 @@ impl Model for Tags {
 
 impl Tags {
     /// No range. Free ranges will have cells, or not.
-    pub fn new(alloc: Global, linked: bool) -> Tags
+    pub(crate) fn new(alloc: Global, linked: bool) -> Tags
         ensures { result ≡ finmap.empty }
     {
         Tags {
@@ -70,20 +70,20 @@ impl Tags {
         }
     }
 
-    pub fn len(&self) -> usize
+    pub(crate) fn len(&self) -> usize
         ensures { result ≡ finmap.len self.now }
     {
         self.count
     }
 
     /// The first cell of the chain of a base, for `go_to`.
-    pub fn head(&self, base: u64) -> ShortIndex {
+    pub(crate) fn head(&self, base: u64) -> ShortIndex {
         self.chains.head(base)
     }
 
     /// Goes to a base, along the chain that begins with this cell. It is for speed alone: a `get`
     /// at the same base that follows needs no search.
-    pub fn go_to(&mut self, first: ShortIndex, base: u64)
+    pub(crate) fn go_to(&mut self, first: ShortIndex, base: u64)
         ensures unchanged { self.new ≡ self.old }
     {
         if self.cells.begins_at(self.near, base) {
@@ -95,7 +95,7 @@ impl Tags {
     }
 
     /// The range at a base, if one stands there.
-    pub fn get(&self, base: u64) -> Option<Found>
+    pub(crate) fn get(&self, base: u64) -> Option<Found>
         ensures { option_map (λ f. f.range) result ≡ finmap.get self.now base }
     {
         let cell = cell_at(&self.cells, &self.chains, self.near, base)?;
@@ -104,7 +104,7 @@ impl Tags {
     }
 
     /// What stands beside a range, which may be in this cell.
-    pub fn beside(&self, cell: usize, base: u64, end: u64) -> Beside
+    pub(crate) fn beside(&self, cell: usize, base: u64, end: u64) -> Beside
         ensures left { result.left ≡ Side.Allocated → (b : ℕ) × (h : Holding)
             × (finmap.get self.now b ≡ Some h) × (end_of h.range ≡ base) }
         ensures right { result.right ≡ Side.Allocated → (h : Holding)
@@ -115,14 +115,14 @@ impl Tags {
 
     /// A cell for the free range of a new span, where free ranges have cells. `Err` is out of
     /// memory.
-    pub fn open(&mut self) -> Result<Option<usize>, AllocError>
+    pub(crate) fn open(&mut self) -> Result<Option<usize>, AllocError>
         ensures unchanged { self.new ≡ self.old }
     {
         self.cells.open()
     }
 
     /// Tells the slot of the free range in a cell. It is for speed alone.
-    pub fn set_free(&mut self, cell: Option<usize>, slot: usize)
+    pub(crate) fn set_free(&mut self, cell: Option<usize>, slot: usize)
         ensures unchanged { self.new ≡ self.old }
     {
         if let Some(at) = cell {
@@ -131,7 +131,7 @@ impl Tags {
     }
 
     /// Joins what is free in a cell with what is free beside it, and answers its cell.
-    pub fn join(&mut self, cell: Option<usize>, sides: Sides) -> Option<usize>
+    pub(crate) fn join(&mut self, cell: Option<usize>, sides: Sides) -> Option<usize>
         ensures unchanged { self.new ≡ self.old }
     {
         let at = cell?;
@@ -139,7 +139,7 @@ impl Tags {
     }
 
     /// What was free in a cell is gone.
-    pub fn vacate(&mut self, cell: Option<usize>)
+    pub(crate) fn vacate(&mut self, cell: Option<usize>)
         ensures unchanged { self.new ≡ self.old }
     {
         if let Some(at) = cell {
@@ -148,7 +148,7 @@ impl Tags {
     }
 
     /// Puts in a range at whose base none stands.
-    pub fn insert(&mut self, range: HeldRange, origin: Origin) -> Result<Placed, AllocError>
+    pub(crate) fn insert(&mut self, range: HeldRange, origin: Origin) -> Result<Placed, AllocError>
         requires absent { finmap.get self.old range.range.base ≡ None }
         requires room { finmap.len self.old + 1 < 2 ^ 64 }
         ensures ok { OnOk result (self.new ≡ finmap.insert self.old range.range.base range) }
@@ -165,7 +165,7 @@ impl Tags {
 
     /// Takes out a range that stands, whose cell may be the one that is likely. The answer is its
     /// cell, where free ranges have cells.
-    pub fn remove(&mut self, range: HeldRange, likely: usize) -> Option<usize>
+    pub(crate) fn remove(&mut self, range: HeldRange, likely: usize) -> Option<usize>
         requires { finmap.get self.old range.range.base ≡ Some range }
         ensures { self.new ≡ finmap.remove self.old range.range.base }
     {

@@ -11,7 +11,7 @@ use deed_core::Deed;
 
 /// The lowest span that is a free range, and its slot. The spans are looked at from the lowest up
 /// to it.
-pub fn lowest_whole<D: Deed>(spans: &Spans, free: &FreeIndex<D>) -> Option<SlotRange>
+pub(crate) fn lowest_whole<D: Deed>(spans: &Spans, free: &FreeIndex<D>) -> Option<SlotRange>
     requires disjoint { AreDisjoint (holdings_of spans.now.items) }
     requires apart { AllPairs Apart free.now.ranges }
     ensures { let whole = option_map (λ f. f.range) result in
