@@ -182,6 +182,20 @@ class Incarnations(unittest.TestCase):
                 self.assertEqual(vmemd.read_incarnation(file), number)
                 client.disconnect()
 
+    def test_a_new_file_begins_by_the_clock(self):
+        with tempfile.TemporaryDirectory() as folder, FakeServer({"m": 64}) as server:
+            file = os.path.join(folder, "incarnation")
+            other = client_of(server)
+            other.lease("m", 64)
+            other.disconnect()
+            for _ in range(2):
+                client = client_of(server, incarnation=None, incarnations=file)
+                last = vmemd.read_incarnation(file)
+                self.assertEqual(client.lease("m", 64), ("m", 0, 64))
+                self.assertGreater(client.incarnation, 10**18)
+                self.assertIn(last, (0, client.incarnation - 1))
+                client.disconnect()
+
     def test_without_a_file_the_clock_goes_on(self):
         with FakeServer({"m": 64}) as server:
             for _ in range(3):

@@ -10,10 +10,11 @@
 A client is one number, 1 to 65,536, which no other process uses at the same time. Each start of it
 is an incarnation, with a greater number than the one before; the server ends the leases of older
 incarnations when it takes its hello. With `incarnations` the last one stands in that file; without,
-the first is the clock in nanoseconds. The requests of an incarnation count 1, 2, 3, ..; one is
-outstanding at a time. Where a connection is cut, or no answer comes in time, the client connects
-again and sends the same line again, until `patience` is over: the server answers a line that it
-settled before by the same reply, so nothing is leased or released twice.
+or where there is no such file yet, the first is the clock in nanoseconds. The requests of an
+incarnation count 1, 2, 3, ..; one is outstanding at a time. Where a connection is cut, or no answer
+comes in time, the client connects again and sends the same line again, until `patience` is over:
+the server answers a line that it settled before by the same reply, so nothing is leased or released
+twice.
 
 Several threads may use a Client; their requests go one after another. A connection that stays open
 holds a worker of the server: `keep=False` closes it after each request.
@@ -317,12 +318,16 @@ class Client:
     def _next_incarnation(self):
         """The least that is above each that is known; kept in the file before it is used."""
         known = max(self.incarnation, self._current)
-        if self._file is None:
-            first = time.time_ns() if self._least is None else self._least
-            return check_number(max(known + 1, first, 1))
-        known = max(known + 1, read_incarnation(self._file) + 1, self._least or 1)
-        write_incarnation(self._file, check_number(known))
-        return known
+        if self._file is not None:
+            known = max(known, read_incarnation(self._file))
+        first = self._least
+        if first is None:
+            # (with no file, or a new one, nobody knows which were used before)
+            first = time.time_ns() if self._file is None or known == 0 else 1
+        number = check_number(max(known + 1, first))
+        if self._file is not None:
+            write_incarnation(self._file, number)
+        return number
 
 
 class Link:
