@@ -2,12 +2,14 @@
 use Rattle.std.proofs.Common.{ℕ, ◌+◌, ◌≤◌, List, [], ◌∷◌, Option, Some, None, Result, Ok, Err, length, arith, subst}
 use Rattle.deed_core.specs.Tag.{Tag}
 use Rattle.arena_tree.specs.declared.levels.Level.{Level}
-use Rattle.arena_tree.specs.declared.part_faults.CarveFault.{CarveFault}
-use Rattle.arena_tree.specs.declared.part_faults.CarveFault.TheVariants as carving
-use Rattle.arena_tree.specs.declared.part_faults.FreeFault.{FreeFault}
-use Rattle.arena_tree.specs.declared.part_faults.FreeFault.TheVariants as freeing
-use Rattle.arena_tree.specs.declared.part_faults.AddCarveFault.{AddCarveFault}
-use Rattle.arena_tree.specs.declared.part_faults.AddCarveFault.TheVariants as adding
+use Rattle.arena_tree.specs.declared.part_faults.PartFault.{PartFault}
+use Rattle.arena_tree.specs.declared.part_faults.GivenFault.{GivenFault}
+use Rattle.tag_arena.specs.declared.faults.ArenaFault.{ArenaFault}
+use Rattle.tag_arena.specs.declared.faults.SpanFault.{SpanFault}
+use Rattle.arena_tree.specs.declared.part_faults.PartFault.TheVariants as asking
+use Rattle.arena_tree.specs.declared.part_faults.GivenFault.TheVariants as giving
+use Rattle.tag_arena.specs.declared.faults.ArenaFault.TheVariants as carving
+use Rattle.tag_arena.specs.declared.faults.SpanFault.TheVariants as adding
 use Rattle.arena_tree.specs.declared.part_faults.ClimbFault.{ClimbFault}
 use Rattle.arena_tree.specs.declared.part_faults.ClimbFault.TheVariants as climbing
 use Rattle.arena_tree.specs.declared.part_faults.ReturnFault.TheVariants as returning
@@ -22,11 +24,11 @@ pub within_return : (most : ReturnEnd → ℕ) (chain : List Level) (t : Tag) (n
 within_return most [] t n le = let h = le (Err (returning.Stuck t)) in omega arith
 within_return most (l ∷ up) t n le = freed (λ w. within_return most up w (n + 1) (λ r. let h = le r in omega arith))
   where
-    freed : ((w : Tag) → Within most (return_plan up w) (n + 1)) → (x : Result (Option Tag) (FreeFault Tag)) → Within most (on_free (return_plan up) x) (n + 1)
+    freed : ((w : Tag) → Within most (return_plan up w) (n + 1)) → (x : Result (Option Tag) (GivenFault Tag Tag)) → Within most (on_free (return_plan up) x) (n + 1)
     freed again (Ok None) = let h = le (Ok tt) in omega arith
     freed again (Ok (Some w)) = again w
-    freed again (Err (freeing.BadFree x)) = let h = le (Err (returning.Stuck x)) in omega arith
-    freed again (Err (freeing.Stopped x)) = let h = le (Err (returning.Stopped x)) in omega arith
+    freed again (Err (giving.Refused x)) = let h = le (Err (returning.Stuck x)) in omega arith
+    freed again (Err (giving.Stopped x)) = let h = le (Err (returning.Stopped x)) in omega arith
 
 -- after so many locks and those of the hand back of t
 pub within_refused : (most : ClimbEnd → ℕ) (chain : List Level) (t : Tag) (n : ℕ) → ((r : ReturnEnd) → n + length chain ≤ most (memory_refusal r)) → Within most (then (return_plan chain t) (λ r. Done (memory_refusal r))) n
@@ -36,22 +38,19 @@ within_refused most chain t n le =
 
 -- how a descent can end: not with NoFit
 abbrev IsRefused : ClimbFault Tag → Type 0
-IsRefused climbing.NoFit = ⊥
-IsRefused climbing.BadRequest = Unit {0}
-IsRefused climbing.NoMemory = Unit {0}
-IsRefused (climbing.Stuck t) = Unit {0}
-IsRefused (climbing.Stopped o) = Unit {0}
+IsRefused (climbing.Refused carving.NoFit) = ⊥
+IsRefused _ = Unit {0}
 
 -- a descent: one, and out of memory one for each arena above
-pub within_added : (most : ClimbEnd → ℕ) (up : List Level) (x : Result Tag (AddCarveFault Tag)) (n : ℕ) → ((t : Tag) → n ≤ most (Ok t)) → ((f : ClimbFault Tag) → IsRefused f → n + length up ≤ most (Err f)) → Within most (on_add up x) n
+pub within_added : (most : ClimbEnd → ℕ) (up : List Level) (x : Result Tag (GivenFault (SpanFault Tag) Tag)) (n : ℕ) → ((t : Tag) → n ≤ most (Ok t)) → ((f : ClimbFault Tag) → IsRefused f → n + length up ≤ most (Err f)) → Within most (on_add up x) n
 within_added most up (Ok t) n ok err = ok t
-within_added most up (Err (adding.Overlaps t)) n ok err = let h = err (climbing.Stuck t) tt in omega arith
-within_added most up (Err (adding.NotAligned t)) n ok err = let h = err (climbing.Stuck t) tt in omega arith
-within_added most up (Err (adding.Stopped t)) n ok err = let h = err (climbing.Stopped (Some t)) tt in omega arith
-within_added most up (Err (adding.NoMemory t)) n ok err = within_refused most up t n back
+within_added most up (Err (giving.Refused (adding.Overlaps t))) n ok err = let h = err (climbing.Stuck t) tt in omega arith
+within_added most up (Err (giving.Refused (adding.NotAligned t))) n ok err = let h = err (climbing.Stuck t) tt in omega arith
+within_added most up (Err (giving.Stopped t)) n ok err = let h = err (climbing.Stopped (Some t)) tt in omega arith
+within_added most up (Err (giving.Refused (adding.NoMemory t))) n ok err = within_refused most up t n back
   where
     back : (r : ReturnEnd) → n + length up ≤ most (memory_refusal r)
-    back (Ok u) = err climbing.NoMemory tt
+    back (Ok u) = err (climbing.Refused carving.NoMemory) tt
     back (Err (returning.Stuck x)) = err (climbing.Stuck x) tt
     back (Err (returning.Stopped x)) = err (climbing.Stopped (Some x)) tt
 
@@ -61,39 +60,39 @@ within_imported : (most : ClimbEnd → ℕ) (up : List Level) (child size : ℕ)
 within_imported most up child size (Ok span) n m some low le = λ x. within_added most up x (m + 1) (λ t. let h = le (Ok t) in omega arith) fault
   where
     fault : (f : ClimbFault Tag) → IsRefused f → m + 1 + length up ≤ most (Err f)
-    fault climbing.NoFit h = absurd h
-    fault climbing.BadRequest _ = let h = le (Err climbing.BadRequest) in omega arith
-    fault climbing.NoMemory _ = let h = le (Err climbing.NoMemory) in omega arith
+    fault (climbing.Refused carving.NoFit) h = absurd h
+    fault (climbing.Refused carving.BadRequest) _ = let h = le (Err (climbing.Refused carving.BadRequest)) in omega arith
+    fault (climbing.Refused carving.NoMemory) _ = let h = le (Err (climbing.Refused carving.NoMemory)) in omega arith
     fault (climbing.Stuck t) _ = let h = le (Err (climbing.Stuck t)) in omega arith
     fault (climbing.Stopped o) _ = let h = le (Err (climbing.Stopped o)) in omega arith
-within_imported most up child size (Err climbing.NoFit) n m some low le = let h = le (Err climbing.NoFit) in omega arith
-within_imported most up child size (Err climbing.BadRequest) n m some low le = let h = le (Err climbing.BadRequest) in omega arith
-within_imported most up child size (Err climbing.NoMemory) n m some low le = let h = le (Err climbing.NoMemory) in omega arith
+within_imported most up child size (Err (climbing.Refused carving.NoFit)) n m some low le = let h = le (Err (climbing.Refused carving.NoFit)) in omega arith
+within_imported most up child size (Err (climbing.Refused carving.BadRequest)) n m some low le = let h = le (Err (climbing.Refused carving.BadRequest)) in omega arith
+within_imported most up child size (Err (climbing.Refused carving.NoMemory)) n m some low le = let h = le (Err (climbing.Refused carving.NoMemory)) in omega arith
 within_imported most up child size (Err (climbing.Stuck t)) n m some low le = let h = le (Err (climbing.Stuck t)) in omega arith
 within_imported most up child size (Err (climbing.Stopped o)) n m some low le = let h = le (Err (climbing.Stopped o)) in omega arith
 
 -- after the carve in the arena itself
-within_carved : (most : ClimbEnd → ℕ) (up : List Level) (child size amount : ℕ) (x : Result Tag CarveFault) (n : ℕ) → 1 ≤ length up → ((m : ClimbEnd → ℕ) (k : ℕ) → ((r : ClimbEnd) → k + climb_most (length up) r ≤ m r) → Within m (climb_plan up amount) k)
+within_carved : (most : ClimbEnd → ℕ) (up : List Level) (child size amount : ℕ) (x : Result Tag (PartFault ArenaFault)) (n : ℕ) → 1 ≤ length up → ((m : ClimbEnd → ℕ) (k : ℕ) → ((r : ClimbEnd) → k + climb_most (length up) r ≤ m r) → Within m (climb_plan up amount) k)
     → ((r : ClimbEnd) → n + climb_most (length up + 1) r ≤ most r) → Within most (on_carve (climb_plan up amount) up child size x) (n + 1)
 within_carved most up child size amount (Ok t) n some again le = let h = le (Ok t) in omega arith
-within_carved most up child size amount (Err carving.BadRequest) n some again le = let h = le (Err climbing.BadRequest) in omega arith
-within_carved most up child size amount (Err carving.NoMemory) n some again le = let h = le (Err climbing.NoMemory) in omega arith
-within_carved most up child size amount (Err carving.Stopped) n some again le = let h = le (Err (climbing.Stopped None)) in omega arith
-within_carved most up child size amount (Err carving.NoFit) n some again le =
+within_carved most up child size amount (Err (asking.Refused carving.BadRequest)) n some again le = let h = le (Err (climbing.Refused carving.BadRequest)) in omega arith
+within_carved most up child size amount (Err (asking.Refused carving.NoMemory)) n some again le = let h = le (Err (climbing.Refused carving.NoMemory)) in omega arith
+within_carved most up child size amount (Err asking.Stopped) n some again le = let h = le (Err (climbing.Stopped None)) in omega arith
+within_carved most up child size amount (Err (asking.Refused carving.NoFit)) n some again le =
     within_then (λ (r : ClimbEnd). n + 1 + climb_most (length up) r) most (climb_plan up amount) (on_import up child size) (n + 1) (again (λ (r : ClimbEnd). n + 1 + climb_most (length up) r) (n + 1) (λ r. omega arith))
     (λ x m low. within_imported most up child size x n m some low le)
 
 -- the top arena has no source
-within_top : (most : ClimbEnd → ℕ) (child size : ℕ) (x : Result Tag CarveFault) (n : ℕ) → ((r : ClimbEnd) → n + climb_most 1 r ≤ most r) → Within most (on_carve (Done (Err climbing.NoFit)) [] child size x) (n + 1)
+within_top : (most : ClimbEnd → ℕ) (child size : ℕ) (x : Result Tag (PartFault ArenaFault)) (n : ℕ) → ((r : ClimbEnd) → n + climb_most 1 r ≤ most r) → Within most (on_carve (Done (Err (climbing.Refused carving.NoFit))) [] child size x) (n + 1)
 within_top most child size (Ok t) n le = let h = le (Ok t) in omega arith
-within_top most child size (Err carving.BadRequest) n le = let h = le (Err climbing.BadRequest) in omega arith
-within_top most child size (Err carving.NoMemory) n le = let h = le (Err climbing.NoMemory) in omega arith
-within_top most child size (Err carving.Stopped) n le = let h = le (Err (climbing.Stopped None)) in omega arith
-within_top most child size (Err carving.NoFit) n le = let h = le (Err climbing.NoFit) in omega arith
+within_top most child size (Err (asking.Refused carving.BadRequest)) n le = let h = le (Err (climbing.Refused carving.BadRequest)) in omega arith
+within_top most child size (Err (asking.Refused carving.NoMemory)) n le = let h = le (Err (climbing.Refused carving.NoMemory)) in omega arith
+within_top most child size (Err asking.Stopped) n le = let h = le (Err (climbing.Stopped None)) in omega arith
+within_top most child size (Err (asking.Refused carving.NoFit)) n le = let h = le (Err (climbing.Refused carving.NoFit)) in omega arith
 
 -- a climb
 pub within_climb : (most : ClimbEnd → ℕ) (chain : List Level) (size n : ℕ) → ((r : ClimbEnd) → n + climb_most (length chain) r ≤ most r) → Within most (climb_plan chain size) n
-within_climb most [] size n le = let h = le (Err climbing.NoFit) in omega arith
+within_climb most [] size n le = let h = le (Err (climbing.Refused carving.NoFit)) in omega arith
 within_climb most (l ∷ []) size n le = λ x. within_top most l.id size x n le
 within_climb most (l ∷ (k ∷ up)) size n le =
     λ x. within_carved most (k ∷ up) l.id size (amount_of l (k ∷ up) size) x n (omega arith) (λ m j low. within_climb m (k ∷ up) (amount_of l (k ∷ up) size) j low) (λ r. let h = le r in subst (λ j. n + climb_most j r ≤ most r) (omega arith) h)

@@ -6,12 +6,14 @@ use Rattle.deed_core.specs.Tag.{Tag}
 use Rattle.deed_core.proofs.LawProofs.{rounded_some, plain_is_good}
 use Rattle.std.specs.Prelude.{max, Contains}
 use Rattle.arena_tree.specs.declared.levels.Level.{Level}
-use Rattle.arena_tree.specs.declared.part_faults.CarveFault.{CarveFault}
-use Rattle.arena_tree.specs.declared.part_faults.CarveFault.TheVariants as carving
-use Rattle.arena_tree.specs.declared.part_faults.FreeFault.{FreeFault}
-use Rattle.arena_tree.specs.declared.part_faults.FreeFault.TheVariants as freeing
-use Rattle.arena_tree.specs.declared.part_faults.AddCarveFault.{AddCarveFault}
-use Rattle.arena_tree.specs.declared.part_faults.AddCarveFault.TheVariants as adding
+use Rattle.arena_tree.specs.declared.part_faults.PartFault.{PartFault}
+use Rattle.arena_tree.specs.declared.part_faults.GivenFault.{GivenFault}
+use Rattle.tag_arena.specs.declared.faults.ArenaFault.{ArenaFault}
+use Rattle.tag_arena.specs.declared.faults.SpanFault.{SpanFault}
+use Rattle.arena_tree.specs.declared.part_faults.PartFault.TheVariants as asking
+use Rattle.arena_tree.specs.declared.part_faults.GivenFault.TheVariants as giving
+use Rattle.tag_arena.specs.declared.faults.ArenaFault.TheVariants as carving
+use Rattle.tag_arena.specs.declared.faults.SpanFault.TheVariants as adding
 use Rattle.arena_tree.specs.declared.part_faults.ClimbFault.TheVariants as climbing
 use Rattle.arena_tree.specs.declared.part_faults.ReturnFault.TheVariants as returning
 use Rattle.arena_tree.specs.Chains.{Node, IsChain, first_id, quantum_in, amount_of}
@@ -99,14 +101,14 @@ return_tells nodes (l ∷ up) t is first = freed (λ w at. return_tells nodes up
     later w (Err (returning.Stuck x)) now g = subst (WasRefused x) (sym g.1) (refused_more x g.0 (answered (Free t) (Ok (Some w)) ∷ []) g.2)
     later w (Err (returning.Stopped x)) now g = subst WasStopped (sym g.1) (stopped_more g.0 (answered (Free t) (Ok (Some w)) ∷ []) g.2)
 
-    freed : ((w : Tag) → first_id up ≡ Some w.arena → Tells nodes ReturnTold (return_plan up w) []) → (x : Result (Option Tag) (FreeFault Tag)) → Sound nodes (Free t) x → Tells nodes ReturnTold (on_free (return_plan up) x) (answered (Free t) x ∷ [])
+    freed : ((w : Tag) → first_id up ≡ Some w.arena → Tells nodes ReturnTold (return_plan up w) []) → (x : Result (Option Tag) (GivenFault Tag Tag)) → Sound nodes (Free t) x → Tells nodes ReturnTold (on_free (return_plan up) x) (answered (Free t) x ∷ [])
     freed again (Ok None) s = (one_back (answered (Free t) (Ok None)) (None, refl), refl)
     freed again (Ok (Some w)) s =
         let before = answered (Free t) (Ok (Some w)) ∷ [] in
         tells_so nodes (TellsAfter ReturnTold before) ReturnTold (return_plan up w) before (λ now r g. later w r now g)
         (tells_own nodes ReturnTold (return_plan up w) [] before (again w (chain_above nodes l up t w is first (s.0).whole.1)))
-    freed again (Err (freeing.BadFree x)) s = refl
-    freed again (Err (freeing.Stopped x)) s = refl
+    freed again (Err (giving.Refused x)) s = refl
+    freed again (Err (giving.Stopped x)) s = refl
 
 told_refused : (nodes : List Node) (chain up : List Level) (n : ℕ) (t : Tag) (told : List AnsweredEvent) → IsChain nodes up → first_id up ≡ Some t.arena → RanOut told → Tells nodes (ClimbTold nodes chain n) (then (return_plan up t) (λ r. Done (memory_refusal r))) told
 told_refused nodes chain up n t told is first ran =
@@ -117,15 +119,15 @@ told_refused nodes chain up n t told is first ran =
     ends (Err (returning.Stuck x)) now w = subst (WasRefused x) (sym w.1) (refused_more x w.0 told w.2)
     ends (Err (returning.Stopped x)) now w = subst WasStopped (sym w.1) (stopped_more w.0 told w.2)
 
-told_added : (nodes : List Node) (l : Level) (up : List Level) (n : ℕ) (given : Tag) (told : List AnsweredEvent) (x : Result Tag (AddCarveFault Tag)) → IsChain nodes up → first_id up ≡ Some given.arena → Sound nodes (AddCarve l.id given n) x
+told_added : (nodes : List Node) (l : Level) (up : List Level) (n : ℕ) (given : Tag) (told : List AnsweredEvent) (x : Result Tag (GivenFault (SpanFault Tag) Tag)) → IsChain nodes up → first_id up ≡ Some given.arena → Sound nodes (AddCarve l.id given n) x
     → Tells nodes (ClimbTold nodes (l ∷ up) n) (on_add up x) (answered (AddCarve l.id given n) x ∷ told)
 told_added nodes l up n given told (Ok t) is first s = (s.0).grant
-told_added nodes l up n given told (Err (adding.NotAligned t)) is first s = refl
-told_added nodes l up n given told (Err (adding.Overlaps t)) is first s = refl
-told_added nodes l up n given told (Err (adding.Stopped t)) is first s = refl
-told_added nodes l up n given told (Err (adding.NoMemory t)) is first s =
-    told_refused nodes (l ∷ up) up n t (answered (AddCarve l.id given n) (Err (adding.NoMemory t)) ∷ told) is (subst (λ (z : Tag). first_id up ≡ Some z.arena) (sym s.1) first)
-    (inl (ap (λ (z : Tag). Err (adding.NoMemory z)) s.1))
+told_added nodes l up n given told (Err (giving.Refused (adding.NotAligned t))) is first s = refl
+told_added nodes l up n given told (Err (giving.Refused (adding.Overlaps t))) is first s = refl
+told_added nodes l up n given told (Err (giving.Stopped t)) is first s = refl
+told_added nodes l up n given told (Err (giving.Refused (adding.NoMemory t))) is first s =
+    told_refused nodes (l ∷ up) up n t (answered (AddCarve l.id given n) (Err (giving.Refused (adding.NoMemory t))) ∷ told) is (subst (λ (z : Tag). first_id up ≡ Some z.arena) (sym s.1) first)
+    (inl (ap (λ (z : Tag). Err (giving.Refused (adding.NoMemory z))) s.1))
 
 -- some units are asked of the source for some units
 amount_some : (l k : Level) (up : List Level) (n : ℕ) → 0 < n → 0 < amount_of l (k ∷ up) n
@@ -142,30 +144,30 @@ bad_is_none quantum (suc n) bad = absurd (bad (plain_is_good quantum (suc n) (om
 told_imported : (nodes : List Node) (l k : Level) (up : List Level) (n : ℕ) → IsChain nodes (k ∷ up) → 0 < n → (r : ClimbEnd) (now : List AnsweredEvent) → TellsAfter (ClimbTold nodes (k ∷ up) (amount_of l (k ∷ up) n)) (no_fit l.id n ∷ []) now r
     → Tells nodes (ClimbTold nodes (l ∷ (k ∷ up)) n) (on_import (k ∷ up) l.id n r) now
 told_imported nodes l k up n is some (Ok span) now g = λ x s. told_added nodes l (k ∷ up) n span now x is (let here = (g.2).of_arena in cc) s
-told_imported nodes l k up n is some (Err climbing.BadRequest) now g = absurd (let a = amount_some l k up n some in let none = g.2 in omega (arith, a, none))
-told_imported nodes l k up n is some (Err climbing.NoFit) now g = g.1 ∙ ap (λ told. told ++ no_fit l.id n ∷ []) g.2
-told_imported nodes l k up n is some (Err climbing.NoMemory) now g = subst RanOut (sym g.1) (ran_out_more g.0 (no_fit l.id n ∷ []) g.2)
+told_imported nodes l k up n is some (Err (climbing.Refused carving.BadRequest)) now g = absurd (let a = amount_some l k up n some in let none = g.2 in omega (arith, a, none))
+told_imported nodes l k up n is some (Err (climbing.Refused carving.NoFit)) now g = g.1 ∙ ap (λ told. told ++ no_fit l.id n ∷ []) g.2
+told_imported nodes l k up n is some (Err (climbing.Refused carving.NoMemory)) now g = subst RanOut (sym g.1) (ran_out_more g.0 (no_fit l.id n ∷ []) g.2)
 told_imported nodes l k up n is some (Err (climbing.Stuck t)) now g = subst (WasRefused t) (sym g.1) (refused_more t g.0 (no_fit l.id n ∷ []) g.2)
 told_imported nodes l k up n is some (Err (climbing.Stopped o)) now g = subst WasStopped (sym g.1) (stopped_more g.0 (no_fit l.id n ∷ []) g.2)
 
-told_carved : (nodes : List Node) (l k : Level) (up : List Level) (n : ℕ) (x : Result Tag CarveFault) → IsChain nodes (k ∷ up) → Tells nodes (ClimbTold nodes (k ∷ up) (amount_of l (k ∷ up) n)) (climb_plan (k ∷ up) (amount_of l (k ∷ up) n)) []
+told_carved : (nodes : List Node) (l k : Level) (up : List Level) (n : ℕ) (x : Result Tag (PartFault ArenaFault)) → IsChain nodes (k ∷ up) → Tells nodes (ClimbTold nodes (k ∷ up) (amount_of l (k ∷ up) n)) (climb_plan (k ∷ up) (amount_of l (k ∷ up) n)) []
     → SoundCarve nodes l.id (plain_of n) x → Tells nodes (ClimbTold nodes (l ∷ (k ∷ up)) n) (on_carve (climb_plan (k ∷ up) (amount_of l (k ∷ up) n)) (k ∷ up) l.id n x) (answered (Carve l.id (plain_of n)) x ∷ [])
 told_carved nodes l k up n (Ok t) is again s = s.1
-told_carved nodes l k up n (Err carving.BadRequest) is again s = bad_is_none (quantum_in nodes l.id) n s
-told_carved nodes l k up n (Err carving.NoMemory) is again s = inl refl
-told_carved nodes l k up n (Err carving.Stopped) is again s = refl
-told_carved nodes l k up n (Err carving.NoFit) is again s =
+told_carved nodes l k up n (Err (asking.Refused carving.BadRequest)) is again s = bad_is_none (quantum_in nodes l.id) n s
+told_carved nodes l k up n (Err (asking.Refused carving.NoMemory)) is again s = inl refl
+told_carved nodes l k up n (Err asking.Stopped) is again s = refl
+told_carved nodes l k up n (Err (asking.Refused carving.NoFit)) is again s =
     tells_then nodes (TellsAfter (ClimbTold nodes (k ∷ up) (amount_of l (k ∷ up) n)) (no_fit l.id n ∷ [])) (ClimbTold nodes (l ∷ (k ∷ up)) n) (climb_plan (k ∷ up) (amount_of l (k ∷ up) n)) (on_import (k ∷ up) l.id n) (no_fit l.id n ∷ [])
     (tells_own nodes (ClimbTold nodes (k ∷ up) (amount_of l (k ∷ up) n)) (climb_plan (k ∷ up) (amount_of l (k ∷ up) n)) [] (no_fit l.id n ∷ []) again) (told_imported nodes l k up n is s.size)
 
 -- the top arena has no source
-told_top : (nodes : List Node) (l : Level) (n : ℕ) (x : Result Tag CarveFault) → SoundCarve nodes l.id (plain_of n) x
-    → Tells nodes (ClimbTold nodes (l ∷ []) n) (on_carve (Done (Err climbing.NoFit)) [] l.id n x) (answered (Carve l.id (plain_of n)) x ∷ [])
+told_top : (nodes : List Node) (l : Level) (n : ℕ) (x : Result Tag (PartFault ArenaFault)) → SoundCarve nodes l.id (plain_of n) x
+    → Tells nodes (ClimbTold nodes (l ∷ []) n) (on_carve (Done (Err (climbing.Refused carving.NoFit))) [] l.id n x) (answered (Carve l.id (plain_of n)) x ∷ [])
 told_top nodes l n (Ok t) s = s.1
-told_top nodes l n (Err carving.BadRequest) s = bad_is_none (quantum_in nodes l.id) n s
-told_top nodes l n (Err carving.NoMemory) s = inl refl
-told_top nodes l n (Err carving.Stopped) s = refl
-told_top nodes l n (Err carving.NoFit) s = refl
+told_top nodes l n (Err (asking.Refused carving.BadRequest)) s = bad_is_none (quantum_in nodes l.id) n s
+told_top nodes l n (Err (asking.Refused carving.NoMemory)) s = inl refl
+told_top nodes l n (Err asking.Stopped) s = refl
+told_top nodes l n (Err (asking.Refused carving.NoFit)) s = refl
 
 pub climb_tells : ClimbTells
 climb_tells nodes [] n is = refl
@@ -189,5 +191,5 @@ no_fit_is_told (l ∷ up) n =
     )
 
 -- a climb tells a bad request for 0 units alone
-pub climb_bad : (nodes : List Node) (chain : List Level) (n : ℕ) → IsChain nodes chain → Gives nodes (λ (r : ClimbEnd). r ≡ Err climbing.BadRequest → n ≡ 0) (climb_plan chain n)
-climb_bad nodes chain n is = tells_gives nodes (ClimbTold nodes chain n) (λ (r : ClimbEnd). r ≡ Err climbing.BadRequest → n ≡ 0) (climb_plan chain n) [] (λ now r w e. subst (ClimbTold nodes chain n now) e w) (climb_tells nodes chain n is)
+pub climb_bad : (nodes : List Node) (chain : List Level) (n : ℕ) → IsChain nodes chain → Gives nodes (λ (r : ClimbEnd). r ≡ Err (climbing.Refused carving.BadRequest) → n ≡ 0) (climb_plan chain n)
+climb_bad nodes chain n is = tells_gives nodes (ClimbTold nodes chain n) (λ (r : ClimbEnd). r ≡ Err (climbing.Refused carving.BadRequest) → n ≡ 0) (climb_plan chain n) [] (λ now r w e. subst (ClimbTold nodes chain n now) e w) (climb_tells nodes chain n is)

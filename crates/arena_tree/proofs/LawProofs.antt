@@ -8,3 +8,4 @@ pub use Rattle.arena_tree.proofs.ClimbHands.{handles_return, handles_refused, ha
 pub use Rattle.arena_tree.proofs.Same.{tag_ok_same, tag_option_same, tag_all_same, tag_free_same, tag_add_same, tag_put_same, tag_slab_same, tag_push_same, tag_climb_same, tag_return_same}
 pub use Rattle.arena_tree.proofs.OneReason.{one_refusal}
 pub use Rattle.arena_tree.proofs.TreeNames.{own_name}
+pub use Rattle.arena_tree.proofs.Amounts.{node_read, arena_read, chain_read}

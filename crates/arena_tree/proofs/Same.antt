@@ -1,16 +1,14 @@
 -- A segment of deeds is seen as its tag: what is answered with such segments is the same with their tags.
 use Rattle.std.proofs.Common.{◌≡◌, refl, Option, Some, None, Result, Ok, Err}
 use Rattle.deed_core.specs.Tag.{Tag}
-use Rattle.arena_tree.specs.declared.part_faults.FreeFault.{FreeFault}
-use Rattle.arena_tree.specs.declared.part_faults.FreeFault.TheVariants as freeing
-use Rattle.arena_tree.specs.declared.part_faults.AddCarveFault.{AddCarveFault}
-use Rattle.arena_tree.specs.declared.part_faults.AddCarveFault.TheVariants as adding
-use Rattle.arena_tree.specs.declared.part_faults.SlabPutFault.{SlabPutFault}
-use Rattle.arena_tree.specs.declared.part_faults.SlabPutFault.TheVariants as putting
-use Rattle.arena_tree.specs.declared.part_faults.SlabAddFault.{SlabAddFault}
-use Rattle.arena_tree.specs.declared.part_faults.SlabAddFault.TheVariants as slabbing
-use Rattle.arena_tree.specs.declared.part_faults.PushFault.{PushFault}
-use Rattle.arena_tree.specs.declared.part_faults.PushFault.TheVariants as pushing
+use Rattle.arena_tree.specs.declared.part_faults.GivenFault.{GivenFault}
+use Rattle.tag_arena.specs.declared.faults.SpanFault.{SpanFault}
+use Rattle.slab_layer.specs.declared.faults.PutFault.{PutFault}
+use Rattle.slab_layer.specs.declared.faults.AddFault.{AddFault}
+use Rattle.arena_tree.specs.declared.part_faults.GivenFault.TheVariants as giving
+use Rattle.tag_arena.specs.declared.faults.SpanFault.TheVariants as adding
+use Rattle.slab_layer.specs.declared.faults.PutFault.TheVariants as putting
+use Rattle.slab_layer.specs.declared.faults.AddFault.TheVariants as slabbing
 use Rattle.arena_tree.specs.declared.part_faults.ClimbFault.{ClimbFault}
 use Rattle.arena_tree.specs.declared.part_faults.ClimbFault.TheVariants as climbing
 use Rattle.arena_tree.specs.declared.part_faults.ReturnFault.{ReturnFault}
@@ -30,42 +28,40 @@ tag_all_same (Ok None) = refl
 tag_all_same (Ok (Some t)) = refl
 tag_all_same (Err e) = refl
 
-pub tag_free_same : (r : Result (Option Tag) (FreeFault Tag)) → tag_free (λ (t : Tag). t) r ≡ r
+pub tag_free_same : (r : Result (Option Tag) (GivenFault Tag Tag)) → tag_free (λ (t : Tag). t) r ≡ r
 tag_free_same (Ok None) = refl
 tag_free_same (Ok (Some t)) = refl
-tag_free_same (Err (freeing.BadFree t)) = refl
-tag_free_same (Err (freeing.Stopped t)) = refl
+tag_free_same (Err (giving.Refused t)) = refl
+tag_free_same (Err (giving.Stopped t)) = refl
 
-pub tag_add_same : (r : Result Tag (AddCarveFault Tag)) → tag_add (λ (t : Tag). t) r ≡ r
+pub tag_add_same : (r : Result Tag (GivenFault (SpanFault Tag) Tag)) → tag_add (λ (t : Tag). t) r ≡ r
 tag_add_same (Ok t) = refl
-tag_add_same (Err (adding.Overlaps t)) = refl
-tag_add_same (Err (adding.NotAligned t)) = refl
-tag_add_same (Err (adding.NoMemory t)) = refl
-tag_add_same (Err (adding.Stopped t)) = refl
+tag_add_same (Err (giving.Refused (adding.Overlaps t))) = refl
+tag_add_same (Err (giving.Refused (adding.NotAligned t))) = refl
+tag_add_same (Err (giving.Refused (adding.NoMemory t))) = refl
+tag_add_same (Err (giving.Stopped t)) = refl
 
-pub tag_put_same : (r : Result (Unit {0}) (SlabPutFault Tag)) → tag_put (λ (t : Tag). t) r ≡ r
+pub tag_put_same : (r : Result (Unit {0}) (GivenFault (PutFault Tag) Tag)) → tag_put (λ (t : Tag). t) r ≡ r
 tag_put_same (Ok u) = refl
-tag_put_same (Err (putting.NotMine t)) = refl
-tag_put_same (Err (putting.AtHome t)) = refl
-tag_put_same (Err (putting.Stopped t)) = refl
+tag_put_same (Err (giving.Refused (putting.NotMine t))) = refl
+tag_put_same (Err (giving.Refused (putting.AtHome t))) = refl
+tag_put_same (Err (giving.Stopped t)) = refl
 
-pub tag_slab_same : (r : Result Tag (SlabAddFault Tag)) → tag_slab (λ (t : Tag). t) r ≡ r
+pub tag_slab_same : (r : Result Tag (GivenFault (AddFault Tag) Tag)) → tag_slab (λ (t : Tag). t) r ≡ r
 tag_slab_same (Ok t) = refl
-tag_slab_same (Err (slabbing.WrongSize t)) = refl
-tag_slab_same (Err (slabbing.Overlaps t)) = refl
-tag_slab_same (Err (slabbing.NoMemory t)) = refl
-tag_slab_same (Err (slabbing.Stopped t)) = refl
+tag_slab_same (Err (giving.Refused (slabbing.WrongSize t))) = refl
+tag_slab_same (Err (giving.Refused (slabbing.Overlaps t))) = refl
+tag_slab_same (Err (giving.Refused (slabbing.NoMemory t))) = refl
+tag_slab_same (Err (giving.Stopped t)) = refl
 
-pub tag_push_same : (r : Result (Unit {0}) (PushFault Tag)) → tag_push (λ (t : Tag). t) r ≡ r
+pub tag_push_same : (r : Result (Unit {0}) (GivenFault Tag Tag)) → tag_push (λ (t : Tag). t) r ≡ r
 tag_push_same (Ok u) = refl
-tag_push_same (Err (pushing.NoRoom t)) = refl
-tag_push_same (Err (pushing.Stopped t)) = refl
+tag_push_same (Err (giving.Refused t)) = refl
+tag_push_same (Err (giving.Stopped t)) = refl
 
 pub tag_climb_same : (r : Result Tag (ClimbFault Tag)) → tag_climb (λ (t : Tag). t) r ≡ r
 tag_climb_same (Ok t) = refl
-tag_climb_same (Err climbing.BadRequest) = refl
-tag_climb_same (Err climbing.NoFit) = refl
-tag_climb_same (Err climbing.NoMemory) = refl
+tag_climb_same (Err (climbing.Refused w)) = refl
 tag_climb_same (Err (climbing.Stuck t)) = refl
 tag_climb_same (Err (climbing.Stopped None)) = refl
 tag_climb_same (Err (climbing.Stopped (Some t))) = refl

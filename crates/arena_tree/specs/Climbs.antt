@@ -9,12 +9,14 @@ use Rattle.arena_tree.specs.Chains.{amount_of}
 use Rattle.arena_tree.specs.Events.{Carve, Free, AddCarve}
 use Rattle.arena_tree.specs.Plans.{Plan, Done, Ask, then}
 use Rattle.arena_tree.specs.declared.levels.Level.{Level}
-use Rattle.arena_tree.specs.declared.part_faults.CarveFault.{CarveFault}
-use Rattle.arena_tree.specs.declared.part_faults.CarveFault.TheVariants as carving
-use Rattle.arena_tree.specs.declared.part_faults.FreeFault.{FreeFault}
-use Rattle.arena_tree.specs.declared.part_faults.FreeFault.TheVariants as freeing
-use Rattle.arena_tree.specs.declared.part_faults.AddCarveFault.{AddCarveFault}
-use Rattle.arena_tree.specs.declared.part_faults.AddCarveFault.TheVariants as adding
+use Rattle.arena_tree.specs.declared.part_faults.PartFault.{PartFault}
+use Rattle.arena_tree.specs.declared.part_faults.GivenFault.{GivenFault}
+use Rattle.tag_arena.specs.declared.faults.ArenaFault.{ArenaFault}
+use Rattle.tag_arena.specs.declared.faults.SpanFault.{SpanFault}
+use Rattle.arena_tree.specs.declared.part_faults.PartFault.TheVariants as asking
+use Rattle.arena_tree.specs.declared.part_faults.GivenFault.TheVariants as giving
+use Rattle.tag_arena.specs.declared.faults.ArenaFault.TheVariants as carving
+use Rattle.tag_arena.specs.declared.faults.SpanFault.TheVariants as adding
 use Rattle.arena_tree.specs.declared.part_faults.ClimbFault.{ClimbFault}
 use Rattle.arena_tree.specs.declared.part_faults.ClimbFault.TheVariants as climbing
 use Rattle.arena_tree.specs.declared.part_faults.ReturnFault.{ReturnFault}
@@ -28,11 +30,12 @@ abbrev pub ReturnEnd : Type 0
 ReturnEnd = Result (Unit {0}) (ReturnFault Tag)
 
 -- a segment is freed; each span that it makes whole is freed in its source, and so on upwards
-abbrev pub on_free : (Tag → Plan ReturnEnd) → Result (Option Tag) (FreeFault Tag) → Plan ReturnEnd
+abbrev pub on_free : (Tag → Plan ReturnEnd) → Result (Option Tag) (GivenFault Tag Tag)
+    → Plan ReturnEnd
 on_free again (Ok None) = Done (Ok tt)
 on_free again (Ok (Some whole)) = again whole
-on_free again (Err (freeing.BadFree t)) = Done (Err (returning.Stuck t))
-on_free again (Err (freeing.Stopped t)) = Done (Err (returning.Stopped t))
+on_free again (Err (giving.Refused t)) = Done (Err (returning.Stuck t))
+on_free again (Err (giving.Stopped t)) = Done (Err (returning.Stopped t))
 
 abbrev pub return_plan : List Level → Tag → Plan ReturnEnd
 return_plan [] t = Done (Err (returning.Stuck t))
@@ -40,7 +43,7 @@ return_plan (l ∷ up) t = Ask (Free t) (on_free (return_plan up))
 
 -- what a climb ends with that handed a span back since it ran out of memory
 abbrev pub memory_refusal : ReturnEnd → ClimbEnd
-memory_refusal (Ok u) = Err climbing.NoMemory
+memory_refusal (Ok u) = Err (climbing.Refused carving.NoMemory)
 memory_refusal (Err (returning.Stuck t)) = Err (climbing.Stuck t)
 memory_refusal (Err (returning.Stopped t)) = Err (climbing.Stopped (Some t))
 
@@ -49,12 +52,12 @@ give_back_plan up t = then (return_plan up t) (λ r. Done (memory_refusal r))
 
 -- the child is given the span, and carves n units of it; out of memory for that, the span is freed
 -- upwards
-abbrev pub on_add : List Level → Result Tag (AddCarveFault Tag) → Plan ClimbEnd
+abbrev pub on_add : List Level → Result Tag (GivenFault (SpanFault Tag) Tag) → Plan ClimbEnd
 on_add up (Ok t) = Done (Ok t)
-on_add up (Err (adding.NoMemory t)) = give_back_plan up t
-on_add up (Err (adding.Overlaps t)) = Done (Err (climbing.Stuck t))
-on_add up (Err (adding.NotAligned t)) = Done (Err (climbing.Stuck t))
-on_add up (Err (adding.Stopped t)) = Done (Err (climbing.Stopped (Some t)))
+on_add up (Err (giving.Refused (adding.NoMemory t))) = give_back_plan up t
+on_add up (Err (giving.Refused (adding.Overlaps t))) = Done (Err (climbing.Stuck t))
+on_add up (Err (giving.Refused (adding.NotAligned t))) = Done (Err (climbing.Stuck t))
+on_add up (Err (giving.Stopped t)) = Done (Err (climbing.Stopped (Some t)))
 
 abbrev pub descent_plan : List Level → ℕ → ℕ → Tag → Plan ClimbEnd
 descent_plan up child n span = Ask (AddCarve child span n) (on_add up)
@@ -77,15 +80,15 @@ on_import up child n (Err f) = Done (Err f)
 
 -- n units are carved in the arena; where none fit, the source is climbed in the same way for the
 -- import amount, and so on upwards; without a source nothing fits
-abbrev pub on_carve : Plan ClimbEnd → List Level → ℕ → ℕ → Result Tag CarveFault → Plan ClimbEnd
+abbrev pub on_carve : Plan ClimbEnd → List Level → ℕ → ℕ → Result Tag (PartFault ArenaFault)
+    → Plan ClimbEnd
 on_carve import up child n (Ok t) = Done (Ok t)
-on_carve import up child n (Err carving.NoFit) = then import (on_import up child n)
-on_carve import up child n (Err carving.BadRequest) = Done (Err climbing.BadRequest)
-on_carve import up child n (Err carving.NoMemory) = Done (Err climbing.NoMemory)
-on_carve import up child n (Err carving.Stopped) = Done (Err (climbing.Stopped None))
+on_carve import up child n (Err (asking.Refused carving.NoFit)) = then import (on_import up child n)
+on_carve import up child n (Err (asking.Refused f)) = Done (Err (climbing.Refused f))
+on_carve import up child n (Err asking.Stopped) = Done (Err (climbing.Stopped None))
 
 abbrev pub climb_plan : List Level → ℕ → Plan ClimbEnd
-climb_plan [] n = Done (Err climbing.NoFit)
+climb_plan [] n = Done (Err (climbing.Refused carving.NoFit))
 climb_plan (l ∷ up) n = Ask (Carve l.id (plain_of n))
     (on_carve (climb_plan up (amount_of l up n)) up l.id n)
 
@@ -94,9 +97,7 @@ abbrev pub climb_left : ClimbEnd → Option Tag
 climb_left (Ok t) = Some t
 climb_left (Err (climbing.Stuck t)) = Some t
 climb_left (Err (climbing.Stopped o)) = o
-climb_left (Err climbing.BadRequest) = None
-climb_left (Err climbing.NoFit) = None
-climb_left (Err climbing.NoMemory) = None
+climb_left (Err (climbing.Refused f)) = None
 
 abbrev pub return_left : ReturnEnd → Option Tag
 return_left (Ok u) = None
@@ -111,8 +112,5 @@ IsGrantOf nodes (l ∷ up) n t = IsGrant nodes l.id (plain_of n) t
 -- the most locks of a climb in a chain of so many arenas
 abbrev pub climb_most : ℕ → ClimbEnd → ℕ
 climb_most depth (Ok t) = 2 * depth - 1
-climb_most depth (Err climbing.NoFit) = depth
-climb_most depth (Err climbing.BadRequest) = 3 * depth - 2
-climb_most depth (Err climbing.NoMemory) = 3 * depth - 2
-climb_most depth (Err (climbing.Stuck t)) = 3 * depth - 2
-climb_most depth (Err (climbing.Stopped o)) = 3 * depth - 2
+climb_most depth (Err (climbing.Refused carving.NoFit)) = depth
+climb_most depth (Err _) = 3 * depth - 2

@@ -3,21 +3,20 @@
 use Rattle.std.specs.Prelude.{◌≡◌, ℕ, Option, Some, None, Result, Ok, Err}
 use Rattle.deed_core.specs.Tag.{Tag}
 use Rattle.deed_core.specs.declared.requests.Request.{Request}
-use Rattle.arena_tree.specs.declared.part_faults.CarveFault.{CarveFault}
-use Rattle.arena_tree.specs.declared.part_faults.FreeFault.{FreeFault}
-use Rattle.arena_tree.specs.declared.part_faults.FreeFault.TheVariants as freeing
-use Rattle.arena_tree.specs.declared.part_faults.AddCarveFault.{AddCarveFault}
-use Rattle.arena_tree.specs.declared.part_faults.AddCarveFault.TheVariants as adding
-use Rattle.arena_tree.specs.declared.part_faults.SlabPutFault.{SlabPutFault}
-use Rattle.arena_tree.specs.declared.part_faults.SlabPutFault.TheVariants as putting
-use Rattle.arena_tree.specs.declared.part_faults.SlabAddFault.{SlabAddFault}
-use Rattle.arena_tree.specs.declared.part_faults.SlabAddFault.TheVariants as slabbing
-use Rattle.arena_tree.specs.declared.part_faults.SwapFullFault.{SwapFullFault}
-use Rattle.arena_tree.specs.declared.part_faults.SwapEmptyFault.{SwapEmptyFault}
-use Rattle.arena_tree.specs.declared.part_faults.SwapFreshFault.{SwapFreshFault}
-use Rattle.arena_tree.specs.declared.part_faults.PushFault.{PushFault}
-use Rattle.arena_tree.specs.declared.part_faults.PushFault.TheVariants as pushing
+use Rattle.arena_tree.specs.declared.part_faults.PartFault.{PartFault}
+use Rattle.arena_tree.specs.declared.part_faults.GivenFault.{GivenFault}
+use Rattle.arena_tree.specs.declared.part_faults.FreshFault.{FreshFault}
 use Rattle.arena_tree.specs.declared.part_faults.ChangeFault.{ChangeFault}
+use Rattle.tag_arena.specs.declared.faults.ArenaFault.{ArenaFault}
+use Rattle.tag_arena.specs.declared.faults.SpanFault.{SpanFault}
+use Rattle.slab_layer.specs.declared.faults.PutFault.{PutFault}
+use Rattle.slab_layer.specs.declared.faults.AddFault.{AddFault}
+use Rattle.magazine_layer.specs.declared.faults.FullFault.{FullFault}
+use Rattle.magazine_layer.specs.declared.faults.EmptyFault.{EmptyFault}
+use Rattle.arena_tree.specs.declared.part_faults.GivenFault.TheVariants as giving
+use Rattle.tag_arena.specs.declared.faults.SpanFault.TheVariants as adding
+use Rattle.slab_layer.specs.declared.faults.PutFault.TheVariants as putting
+use Rattle.slab_layer.specs.declared.faults.AddFault.TheVariants as slabbing
 use Rattle.arena_tree.specs.declared.part_faults.Stopped.{Stopped}
 
 -- the first eleven are of parts that are shared, the last three are the CPU's own; `given` is the
@@ -40,20 +39,20 @@ pub data Event : Type 0 where
 
 -- what an event can be answered
 abbrev pub AnswerTo : Event → Type 0
-AnswerTo (Carve arena request) = Result Tag CarveFault
-AnswerTo (Free given) = Result (Option Tag) (FreeFault Tag)
-AnswerTo (AddCarve child given size) = Result Tag (AddCarveFault Tag)
+AnswerTo (Carve arena request) = Result Tag (PartFault ArenaFault)
+AnswerTo (Free given) = Result (Option Tag) (GivenFault Tag Tag)
+AnswerTo (AddCarve child given size) = Result Tag (GivenFault (SpanFault Tag) Tag)
 AnswerTo (SlabTake arena cache) = Result (Option Tag) Stopped
-AnswerTo (SlabPut given) = Result (Unit {0}) (SlabPutFault Tag)
-AnswerTo (SlabAdd arena cache given) = Result Tag (SlabAddFault Tag)
+AnswerTo (SlabPut given) = Result (Unit {0}) (GivenFault (PutFault Tag) Tag)
+AnswerTo (SlabAdd arena cache given) = Result Tag (GivenFault (AddFault Tag) Tag)
 AnswerTo (SlabReap arena cache) = Result (Option Tag) Stopped
-AnswerTo (SwapFull arena cache) = Result (Unit {0}) SwapFullFault
-AnswerTo (SwapEmpty arena cache) = Result (Unit {0}) SwapEmptyFault
-AnswerTo (SwapFresh arena cache) = Result (Unit {0}) SwapFreshFault
+AnswerTo (SwapFull arena cache) = Result (Unit {0}) (PartFault FullFault)
+AnswerTo (SwapEmpty arena cache) = Result (Unit {0}) (PartFault EmptyFault)
+AnswerTo (SwapFresh arena cache) = Result (Unit {0}) (PartFault FreshFault)
 AnswerTo (DepotReap arena cache) = Result (Option Tag) Stopped
 AnswerTo (Pop arena cache) = Result (Option Tag) Stopped
-AnswerTo (Push arena cache given) = Result (Unit {0}) (PushFault Tag)
-AnswerTo (Change arena cache size) = Result (Unit {0}) ChangeFault
+AnswerTo (Push arena cache given) = Result (Unit {0}) (GivenFault Tag Tag)
+AnswerTo (Change arena cache size) = Result (Unit {0}) (PartFault ChangeFault)
 
 -- the parts that are shared of which it takes the lock
 abbrev pub locks : Event → ℕ
@@ -81,30 +80,30 @@ BeginsWith (Push arena cache given) hand = hand ≡ Some given
 BeginsWith (Change arena cache size) hand = Unit {0}
 
 -- the segment that a refusal hands back, by what was refused
-abbrev pub segment_of_free : FreeFault Tag → Tag
-segment_of_free (freeing.BadFree t) = t
-segment_of_free (freeing.Stopped t) = t
+abbrev pub segment_of_free : GivenFault Tag Tag → Tag
+segment_of_free (giving.Refused t) = t
+segment_of_free (giving.Stopped t) = t
 
-abbrev pub segment_of_add : AddCarveFault Tag → Tag
-segment_of_add (adding.Overlaps t) = t
-segment_of_add (adding.NotAligned t) = t
-segment_of_add (adding.NoMemory t) = t
-segment_of_add (adding.Stopped t) = t
+abbrev pub segment_of_add : GivenFault (SpanFault Tag) Tag → Tag
+segment_of_add (giving.Refused (adding.Overlaps t)) = t
+segment_of_add (giving.Refused (adding.NotAligned t)) = t
+segment_of_add (giving.Refused (adding.NoMemory t)) = t
+segment_of_add (giving.Stopped t) = t
 
-abbrev pub segment_of_put : SlabPutFault Tag → Tag
-segment_of_put (putting.NotMine t) = t
-segment_of_put (putting.AtHome t) = t
-segment_of_put (putting.Stopped t) = t
+abbrev pub segment_of_put : GivenFault (PutFault Tag) Tag → Tag
+segment_of_put (giving.Refused (putting.NotMine t)) = t
+segment_of_put (giving.Refused (putting.AtHome t)) = t
+segment_of_put (giving.Stopped t) = t
 
-abbrev pub segment_of_slab_add : SlabAddFault Tag → Tag
-segment_of_slab_add (slabbing.WrongSize t) = t
-segment_of_slab_add (slabbing.Overlaps t) = t
-segment_of_slab_add (slabbing.NoMemory t) = t
-segment_of_slab_add (slabbing.Stopped t) = t
+abbrev pub segment_of_slab_add : GivenFault (AddFault Tag) Tag → Tag
+segment_of_slab_add (giving.Refused (slabbing.WrongSize t)) = t
+segment_of_slab_add (giving.Refused (slabbing.Overlaps t)) = t
+segment_of_slab_add (giving.Refused (slabbing.NoMemory t)) = t
+segment_of_slab_add (giving.Stopped t) = t
 
-abbrev pub segment_of_push : PushFault Tag → Tag
-segment_of_push (pushing.NoRoom t) = t
-segment_of_push (pushing.Stopped t) = t
+abbrev pub segment_of_push : GivenFault Tag Tag → Tag
+segment_of_push (giving.Refused t) = t
+segment_of_push (giving.Stopped t) = t
 
 -- the hand after a call that gives a segment, or hands one back
 abbrev pub hand_left : {E : Type 0} → (E → Option Tag) → Result Tag E → Option Tag

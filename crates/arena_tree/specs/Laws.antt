@@ -1,17 +1,17 @@
 -- Laws of setups; and of the lists of steps of climbs, over all chains: what they leave in the
 -- hand, how many locks they take, what they give, and what each end tells of the way.
-use Rattle.std.specs.Prelude.{◌≡◌, ℕ, List, [], Some, None, length, slice_get, IfOk}
+use Rattle.std.specs.Prelude.{◌≡◌, ℕ, List, [], ◌∷◌, Some, None, length, slice_get, IfOk}
 use Rattle.deed_core.specs.Tag.{Tag}
-use Rattle.arena_tree.specs.Chains.{Node, IsChain, first_id}
 use Rattle.arena_tree.specs.Plans.{Within, Handles, Gives}
 use Rattle.arena_tree.specs.Climbs.{ClimbEnd, ReturnEnd, climb_plan, return_plan, climb_left}
 use Rattle.arena_tree.specs.Climbs.{return_left, climb_most, IsGrantOf}
 use Rattle.arena_tree.specs.Told.{Tells, ClimbTold, ReturnTold, NoneFits, OnlyNoFit, no_fits}
-use Rattle.arena_tree.specs.Trees.{IsTree, index_in}
 use Rattle.arena_tree.specs.Settings.{SetupState, RefusesSetting}
 use Rattle.arena_tree.specs.declared.levels.Level.{Level}
 use Rattle.arena_tree.specs.declared.settings.Setting.{Setting}
 use Rattle.arena_tree.specs.declared.setup_faults.SetupFault.{SetupFault}
+use Rattle.arena_tree.specs.Chains.{Node, IsChain, first_id, quantum_in, source_of}
+use Rattle.arena_tree.specs.Trees.{IsTree, index_in, nodes_of}
 use Rattle.arena_tree.specs.declared.trees.TreeArena.{TreeArena}
 
 -- A climb begins with an empty hand. It ends with a segment that it gives, with an empty hand, or
@@ -68,6 +68,21 @@ NoFitIsTold = (chain : List Level) (n : ℕ)
 abbrev pub OneRefusal : Type 0
 OneRefusal = (s : SetupState) (setting : Setting) (f g : SetupFault)
     → RefusesSetting s setting f → RefusesSetting s setting g → f ≡ g
+
+-- By its number a node is found with its quantum and its source,
+abbrev pub NodeIsRead : Type 0
+NodeIsRead = (nodes : List Node) (id : ℕ) (n : Node) → slice_get nodes id ≡ Some n
+    → (quantum_in nodes id ≡ n.quantum) × (source_of nodes id ≡ n.source)
+
+-- and so is an arena,
+abbrev pub ArenaIsRead : Type 0
+ArenaIsRead = (arenas : List TreeArena) (id : ℕ) (x : TreeArena) → slice_get arenas id ≡ Some x
+    → (quantum_in (nodes_of arenas) id ≡ x.quantum) × (source_of (nodes_of arenas) id ≡ x.source)
+
+-- and the first of a chain, whose source is the next.
+abbrev pub ChainIsRead : Type 0
+ChainIsRead = (nodes : List Node) (l : Level) (up : List Level) → IsChain nodes (l ∷ up)
+    → (quantum_in nodes l.id ≡ l.quantum) × (source_of nodes l.id ≡ first_id up)
 
 -- An arena of a tree is found by its name.
 abbrev pub OwnName : Type 0

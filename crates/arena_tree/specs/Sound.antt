@@ -5,8 +5,10 @@ use Rattle.deed_core.specs.Tag.{Tag}
 use Rattle.deed_core.specs.Request.{IsGood, plain_of}
 use Rattle.deed_core.specs.declared.requests.Request.{Request}
 use Rattle.deed_core.specs.declared.segments.Route.TheVariants.{Direct}
-use Rattle.arena_tree.specs.declared.part_faults.CarveFault.{CarveFault}
-use Rattle.arena_tree.specs.declared.part_faults.CarveFault.TheVariants as carving
+use Rattle.arena_tree.specs.declared.part_faults.PartFault.{PartFault}
+use Rattle.tag_arena.specs.declared.faults.ArenaFault.{ArenaFault}
+use Rattle.arena_tree.specs.declared.part_faults.PartFault.TheVariants as asking
+use Rattle.tag_arena.specs.declared.faults.ArenaFault.TheVariants.{BadRequest}
 use Rattle.arena_tree.specs.declared.part_faults.Stopped.{Stopped}
 use Rattle.arena_tree.specs.Chains.{Node, IsGrant, IsCachedChunk, source_of, quantum_in}
 use Rattle.arena_tree.specs.Events.{Event, AnswerTo, Carve, Free, AddCarve, SlabTake, SlabPut}
@@ -15,12 +17,11 @@ use Rattle.arena_tree.specs.Events.{Pop, Push, Change, segment_of_free, segment_
 use Rattle.arena_tree.specs.Events.{segment_of_put, segment_of_slab_add, segment_of_push}
 
 -- what is carved fits; a request is bad just where no arena of this quantum takes it
-abbrev pub SoundCarve : List Node → ℕ → Request → Result Tag CarveFault → Type 0
+abbrev pub SoundCarve : List Node → ℕ → Request → Result Tag (PartFault ArenaFault) → Type 0
 SoundCarve nodes arena q (Ok t) = IsGood (quantum_in nodes arena) q × IsGrant nodes arena q t
-SoundCarve nodes arena q (Err carving.NoFit) = IsGood (quantum_in nodes arena) q
-SoundCarve nodes arena q (Err carving.BadRequest) = ¬ IsGood (quantum_in nodes arena) q
-SoundCarve nodes arena q (Err carving.NoMemory) = IsGood (quantum_in nodes arena) q
-SoundCarve nodes arena q (Err carving.Stopped) = Unit {0}
+SoundCarve nodes arena q (Err (asking.Refused BadRequest)) = ¬ IsGood (quantum_in nodes arena) q
+SoundCarve nodes arena q (Err (asking.Refused f)) = IsGood (quantum_in nodes arena) q
+SoundCarve nodes arena q (Err asking.Stopped) = Unit {0}
 
 -- what is freed was no chunk; a span that it makes whole is a Direct segment of the arena's source
 pub record IsFreed (nodes : List Node) (given : Tag) (out : Option Tag) : Type 0 where

@@ -4,11 +4,13 @@ use Rattle.std.specs.Prelude.{Result, Ok, Err, true}
 use Rattle.deed_core.specs.Request.{plain_of}
 use Rattle.deed_core.specs.Tag.{Tag}
 use Rattle.arena_tree.specs.declared.levels.Level.{Level}
-use Rattle.arena_tree.specs.declared.part_faults.CarveFault.TheVariants as carving
-use Rattle.arena_tree.specs.declared.part_faults.FreeFault.TheVariants as freeing
-use Rattle.arena_tree.specs.declared.part_faults.AddCarveFault.{AddCarveFault}
-use Rattle.arena_tree.specs.declared.part_faults.AddCarveFault.TheVariants as adding
-use Rattle.arena_tree.specs.declared.part_faults.SlabAddFault.TheVariants as slabbing
+use Rattle.arena_tree.specs.declared.part_faults.GivenFault.{GivenFault}
+use Rattle.tag_arena.specs.declared.faults.SpanFault.{SpanFault}
+use Rattle.arena_tree.specs.declared.part_faults.PartFault.TheVariants as asking
+use Rattle.arena_tree.specs.declared.part_faults.GivenFault.TheVariants as giving
+use Rattle.tag_arena.specs.declared.faults.ArenaFault.TheVariants as carving
+use Rattle.tag_arena.specs.declared.faults.SpanFault.TheVariants as adding
+use Rattle.slab_layer.specs.declared.faults.AddFault.TheVariants as slabbing
 use Rattle.arena_tree.specs.declared.part_faults.ClimbFault.TheVariants as climbing
 use Rattle.arena_tree.specs.declared.part_faults.ReturnFault.TheVariants as returning
 use Rattle.arena_tree.specs.Chains.{Node, amount_of}
@@ -40,7 +42,8 @@ answers_along step (Ask e f) s t a d told =
 
 -- an arena was asked to carve so many units, and nothing fitted
 abbrev pub no_fit : ℕ → ℕ → AnsweredEvent
-no_fit arena n = record { event = Carve arena (plain_of n); answer = Err carving.NoFit }
+no_fit arena n =
+    record { event = Carve arena (plain_of n); answer = Err (asking.Refused carving.NoFit) }
 
 -- each arena of a chain was asked once, the first for n units, each other for the amount that the
 -- one below it would import, and nothing fitted; the last asked first
@@ -55,7 +58,7 @@ NoneFits (l ∷ up) n told = Contains told (no_fit l.id n) × NoneFits up (amoun
 
 -- an arena was asked to carve, and nothing fitted
 abbrev pub IsNoFit : (e : Event) → AnswerTo e → Type 0
-IsNoFit (Carve arena request) a = a ≡ Err carving.NoFit
+IsNoFit (Carve arena request) a = a ≡ Err (asking.Refused carving.NoFit)
 IsNoFit (Free given) a = ⊥
 IsNoFit _ a = ⊥
 
@@ -64,16 +67,16 @@ abbrev pub OnlyNoFit : List AnsweredEvent → Type 0
 OnlyNoFit told = All (λ a. IsNoFit a.event a.answer) told
 
 -- a part refused the segment, for another reason than memory or a stop
-abbrev pub RefusesInAdd : Tag → Result Tag (AddCarveFault Tag) → Type 0
+abbrev pub RefusesInAdd : Tag → Result Tag (GivenFault (SpanFault Tag) Tag) → Type 0
 RefusesInAdd t (Ok first) = ⊥
-RefusesInAdd t (Err (adding.Overlaps back)) = back ≡ t
-RefusesInAdd t (Err (adding.NotAligned back)) = back ≡ t
-RefusesInAdd t (Err (adding.NoMemory back)) = ⊥
-RefusesInAdd t (Err (adding.Stopped back)) = ⊥
+RefusesInAdd t (Err (giving.Refused (adding.Overlaps back))) = back ≡ t
+RefusesInAdd t (Err (giving.Refused (adding.NotAligned back))) = back ≡ t
+RefusesInAdd t (Err (giving.Refused (adding.NoMemory back))) = ⊥
+RefusesInAdd t (Err (giving.Stopped back)) = ⊥
 
 abbrev pub IsRefusalOf : Tag → (e : Event) → AnswerTo e → Type 0
 IsRefusalOf t (Carve arena request) a = ⊥
-IsRefusalOf t (Free given) a = a ≡ Err (freeing.BadFree t)
+IsRefusalOf t (Free given) a = a ≡ Err (giving.Refused t)
 IsRefusalOf t (AddCarve child given size) a = RefusesInAdd t a
 IsRefusalOf t _ a = ⊥
 
@@ -84,10 +87,10 @@ WasRefused t (last ∷ told) = IsRefusalOf t last.event last.answer
 
 -- a carve, an import or a new slab was out of memory
 abbrev pub IsOutOfMemory : (e : Event) → AnswerTo e → Type 0
-IsOutOfMemory (Carve arena request) a = a ≡ Err carving.NoMemory
+IsOutOfMemory (Carve arena request) a = a ≡ Err (asking.Refused carving.NoMemory)
 IsOutOfMemory (Free given) a = ⊥
-IsOutOfMemory (AddCarve child given size) a = a ≡ Err (adding.NoMemory given)
-IsOutOfMemory (SlabAdd arena cache given) a = a ≡ Err (slabbing.NoMemory given)
+IsOutOfMemory (AddCarve child given size) a = a ≡ Err (giving.Refused (adding.NoMemory given))
+IsOutOfMemory (SlabAdd arena cache given) a = a ≡ Err (giving.Refused (slabbing.NoMemory given))
 IsOutOfMemory _ a = ⊥
 
 -- a segment was freed
@@ -130,9 +133,9 @@ WasStopped (last ∷ told) = is_stopped last.event last.answer ≡ true
 -- refused it; stopped where a part has just said so
 abbrev pub ClimbTold : List Node → List Level → ℕ → List AnsweredEvent → ClimbEnd → Type 0
 ClimbTold nodes chain n told (Ok t) = IsGrantOf nodes chain n t
-ClimbTold nodes chain n told (Err climbing.BadRequest) = n ≡ 0
-ClimbTold nodes chain n told (Err climbing.NoFit) = told ≡ no_fits chain n
-ClimbTold nodes chain n told (Err climbing.NoMemory) = RanOut told
+ClimbTold nodes chain n told (Err (climbing.Refused carving.BadRequest)) = n ≡ 0
+ClimbTold nodes chain n told (Err (climbing.Refused carving.NoFit)) = told ≡ no_fits chain n
+ClimbTold nodes chain n told (Err (climbing.Refused carving.NoMemory)) = RanOut told
 ClimbTold nodes chain n told (Err (climbing.Stuck t)) = WasRefused t told
 ClimbTold nodes chain n told (Err (climbing.Stopped o)) = WasStopped told
 

@@ -1,8 +1,9 @@
 -- What a contract sees of a tree, and what is always so of one.
-use Rattle.std.specs.Prelude.{◌≡◌, ◌≢◌, ℕ, ◌+◌, ◌*◌, ◌%◌, ◌^◌, ◌<◌, ◌≤◌, List, [], ◌∷◌, AllPairs}
-use Rattle.std.specs.Prelude.{map, length, position, slice_get, Option, Some, None, IfSome}
 use Rattle.std.specs.Int.{IsPowerOfTwo, IsNextPowerOfTwo}
 use Rattle.std.specs.Str.{bytes_eq}
+use Rattle.std.specs.Prelude.{◌≡◌, ◌≢◌, ℕ, ◌+◌, ◌*◌, ◌/◌, ◌%◌, ◌^◌, ◌<◌, ◌≤◌, List, [], ◌∷◌}
+use Rattle.std.specs.Prelude.{AllPairs, map, min, length, position, slice_get, Option, Some, None}
+use Rattle.std.specs.Prelude.{IfSome}
 use Rattle.deed_core.specs.Extent.{Extent, IsRange}
 use Rattle.tag_arena.specs.ArenaState.{OnQuantum}
 use Rattle.arena_tree.specs.declared.limits.TheConstants.{MOST_ARENAS, MOST_CACHES, LONGEST_CHAIN}
@@ -13,6 +14,14 @@ use Rattle.arena_tree.specs.Chains.{Node}
 -- the number of the arena of this name
 abbrev pub index_in : List ℕ → List TreeArena → Option ℕ
 index_in name arenas = position (λ x. bytes_eq x.name name) arenas
+
+abbrev pub name_or_none : Option TreeArena → List ℕ
+name_or_none None = []
+name_or_none (Some x) = x.name
+
+-- the name of the arena of this number
+abbrev pub arena_named : List TreeArena → ℕ → List ℕ
+arena_named arenas id = name_or_none (slice_get arenas id)
 
 -- what lists of steps need of an arena
 abbrev pub level_of : ℕ → TreeArena → Level
@@ -59,6 +68,11 @@ IsSlabSize most size = (most ≡ 0 → size ≡ 0) × (most ≢ 0 → IsNextPowe
 abbrev pub HasCaches : ℕ → ℕ → ℕ → Type 0
 HasCaches quantum most size = (most % quantum ≡ 0) × (most ≤ MOST_CACHES * quantum)
     × IsSlabSize most size × (size ≤ 2 ^ 62)
+
+-- how many quantum caches an arena has that caches sizes up to this one: one for each multiple of
+-- its quantum
+abbrev pub caches_up_to : (quantum most : ℕ) → ℕ
+caches_up_to quantum most = min (most / quantum) 255
 
 abbrev pub CanCache : ℕ → ℕ → Type 0
 CanCache quantum most = (size : ℕ) × HasCaches quantum most size

@@ -8,9 +8,10 @@ ghost use Rattle.arena_tree.specs.Climbs.{IsGrantOf, CanDescend};
 ghost use Rattle.arena_tree.specs.Tags.{tag_climb, tag_return};
 
 use crate::levels::{Level, import_amount};
-use crate::part_faults::{AddCarveFault, CarveFault, ClimbFault, FreeFault, ReturnFault};
+use crate::part_faults::{ClimbFault, GivenFault, PartFault, ReturnFault};
 use crate::parts::Parts;
 use deed_core::{Held, Request};
+use tag_arena::{ArenaFault, SpanFault};
 
 /// Carves `size` units in the first arena of the chain; where none fit, imports a span from the
 /// next, and so on upwards.
@@ -23,7 +24,7 @@ pub fn climb_alloc<S: Held, P: Parts<S>>(
     ensures ran { Ran P.step P.tree P.count P.rounds (climb_plan chain.now size)
         parts.old parts.new (tag_climb S.tag result) }
     ensures ok { IfOk result (λ s. IsGrantOf (P.tree parts.old) chain.now size (S.tag s)) }
-    ensures refused { result ≡ Err ClimbFault.BadRequest → size ≡ 0 }
+    ensures refused { result ≡ Err (ClimbFault.Refused ArenaFault.BadRequest) → size ≡ 0 }
     ensures few { P.count parts.new
         ≤ P.count parts.old + climb_most (length chain.now) (tag_climb S.tag result) }
     ensures tree { P.tree parts.new ≡ P.tree parts.old }
@@ -49,7 +50,7 @@ pub fn climb_free<S: Held, P: Parts<S>>(
     hand_back(parts, chain, segment)
 }
 
-// As `climb_alloc`, which counts the steps beside it.
+/// As `climb_alloc`, which counts the steps beside it.
 #[tactic(auto, using(crate::proofs::Paths::ran_on, crate::proofs::Amounts::first_of_chain))]
 fn climb<S: Held, P: Parts<S>>(
     parts: &mut P,
@@ -64,23 +65,20 @@ fn climb<S: Held, P: Parts<S>>(
     ensures rounds { P.rounds parts.new ≡ P.rounds parts.old }
 {
     let Some((level, up)) = chain.split_first() else {
-        return Err(ClimbFault::NoFit);
+        return Err(ClimbFault::Refused(ArenaFault::NoFit));
     };
     match parts.carve(level.id, &Request::plain(size)) {
         Ok(segment) => return Ok(segment),
-        Err(CarveFault::NoFit) => {}
-        Err(CarveFault::BadRequest) => return Err(ClimbFault::BadRequest),
-        Err(CarveFault::NoMemory) => return Err(ClimbFault::NoMemory),
-        Err(CarveFault::Stopped) => return Err(ClimbFault::Stopped(None)),
+        Err(PartFault::Refused(ArenaFault::NoFit)) => {}
+        Err(PartFault::Refused(fault)) => return Err(ClimbFault::Refused(fault)),
+        Err(PartFault::Stopped) => return Err(ClimbFault::Stopped(None)),
     }
     let amount = import_amount(level, up, size);
-    match climb(parts, up, amount) {
-        Ok(span) => descend(parts, level.id, up, span, size),
-        Err(fault) => Err(fault),
-    }
+    let span = climb(parts, up, amount)?;
+    descend(parts, level.id, up, span, size)
 }
 
-// Gives a span to the child, which carves from it. Where it is out of memory, the span goes back.
+/// Gives a span to the child, which carves from it. Where it is out of memory, the span goes back.
 #[tactic(auto, using(crate::proofs::Paths::ran_on))]
 fn descend<S: Held, P: Parts<S>>(
     parts: &mut P,
@@ -99,18 +97,18 @@ fn descend<S: Held, P: Parts<S>>(
 {
     match parts.add_carve(child, span, size) {
         Ok(segment) => Ok(segment),
-        Err(AddCarveFault::Overlaps(same)) => Err(ClimbFault::Stuck(same)),
-        Err(AddCarveFault::NotAligned(same)) => Err(ClimbFault::Stuck(same)),
-        Err(AddCarveFault::Stopped(same)) => Err(ClimbFault::Stopped(Some(same))),
-        Err(AddCarveFault::NoMemory(same)) => match hand_back(parts, up, same) {
-            Ok(()) => Err(ClimbFault::NoMemory),
+        Err(GivenFault::Refused(SpanFault::Overlaps(same))) => Err(ClimbFault::Stuck(same)),
+        Err(GivenFault::Refused(SpanFault::NotAligned(same))) => Err(ClimbFault::Stuck(same)),
+        Err(GivenFault::Stopped(same)) => Err(ClimbFault::Stopped(Some(same))),
+        Err(GivenFault::Refused(SpanFault::NoMemory(same))) => match hand_back(parts, up, same) {
+            Ok(()) => Err(ClimbFault::Refused(ArenaFault::NoMemory)),
             Err(ReturnFault::Stuck(same)) => Err(ClimbFault::Stuck(same)),
             Err(ReturnFault::Stopped(same)) => Err(ClimbFault::Stopped(Some(same))),
         },
     }
 }
 
-// As `climb_free`, which counts the steps beside it.
+/// As `climb_free`, which counts the steps beside it.
 #[tactic(auto, using(crate::proofs::Amounts::chain_above))]
 fn hand_back<S: Held, P: Parts<S>>(
     parts: &mut P,
@@ -130,7 +128,7 @@ fn hand_back<S: Held, P: Parts<S>>(
     match parts.free(segment) {
         Ok(None) => Ok(()),
         Ok(Some(whole)) => hand_back(parts, up, whole),
-        Err(FreeFault::BadFree(same)) => Err(ReturnFault::Stuck(same)),
-        Err(FreeFault::Stopped(same)) => Err(ReturnFault::Stopped(same)),
+        Err(GivenFault::Refused(same)) => Err(ReturnFault::Stuck(same)),
+        Err(GivenFault::Stopped(same)) => Err(ReturnFault::Stopped(same)),
     }
 }

@@ -35,15 +35,17 @@ mod sizes;
 mod trees;
 
 pub use climbs::{climb_alloc, climb_free};
-pub use laws::{climb_laws, setup_laws};
+pub use laws::{climb_laws, setup_laws, tree_laws};
 pub use levels::Level;
-pub use limits::{LONGEST_CHAIN, MOST_ARENAS, MOST_CACHES, MOST_SPANS, setup_limit_law};
+pub use limits::{
+    LONGEST_CHAIN, MOST_ARENAS, MOST_CACHES, MOST_ROOTS, MOST_SPANS, setup_limit_law,
+};
 pub use part_faults::{
-    AddCarveFault, CarveFault, ChangeFault, ClimbFault, FreeFault, PushFault, ReturnFault,
-    SlabAddFault, SlabPutFault, Stopped, SwapEmptyFault, SwapFreshFault, SwapFullFault,
+    ChangeFault, ClimbFault, FreshFault, GivenFault, PartFault, ReturnFault, Stopped,
 };
 pub use parts::Parts;
 pub use settings::{NewChild, NewRoot, NewSpan, Setting};
 pub use setup_faults::SetupFault;
 pub use setups::{OwnedSpan, Setup};
+pub use sizes::cache_count;
 pub use trees::{Tree, TreeArena};

@@ -7,6 +7,10 @@ pub const MOST_ARENAS: usize = 32;
 /// How many spans an arena owns at most.
 pub const MOST_SPANS: usize = 65536;
 
+/// How many roots all arenas own at most: they are numbered below it. The root of this number is
+/// that of the mark of a book of their leases.
+pub const MOST_ROOTS: u32 = (MOST_ARENAS * MOST_SPANS) as u32;
+
 /// How many arenas a chain has at most.
 pub const LONGEST_CHAIN: usize = 4;
 

@@ -1,6 +1,6 @@
 //! What sizes and ranges an arena may have.
 ghost use Rattle.std.specs.Prelude.{◌≡◌, ◌<◌, IfSome, IfNone};
-ghost use Rattle.arena_tree.specs.Trees.{IsWholeRange, HasCaches, CanCache};
+ghost use Rattle.arena_tree.specs.Trees.{IsWholeRange, HasCaches, CanCache, caches_up_to};
 
 use crate::limits::MOST_CACHES;
 use deed_core::{LIMIT, Range};
@@ -28,6 +28,15 @@ pub(crate) fn slab_size(quantum: u64, qcache_max: u64) -> Option<u64>
         return None;
     }
     Some((3 * qcache_max + 1).next_power_of_two())
+}
+
+/// How many quantum caches an arena has that caches sizes up to this one. They are numbered from 1
+/// on.
+pub fn cache_count(quantum: u64, qcache_max: u64) -> u8
+    requires { 0 < quantum }
+    ensures value { result ≡ caches_up_to quantum qcache_max }
+{
+    (qcache_max / quantum).min(255) as u8
 }
 
 /// The range, where it is one, in whole quanta.

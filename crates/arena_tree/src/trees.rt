@@ -2,7 +2,7 @@
 ghost use Rattle.std.specs.Prelude.{◌≡◌, ◌≢◌, ◌<◌, ◌≤◌, List, [], ◌∷◌, ◌++◌, length, position};
 ghost use Rattle.std.specs.Prelude.{slice_get, Some, IfSome, IfOk, IfErr, OnOk, OnErr};
 ghost use Rattle.std.specs.Str.{bytes_eq};
-ghost use Rattle.arena_tree.specs.Chains.{IsChain};
+ghost use Rattle.arena_tree.specs.Chains.{IsChain, quantum_in};
 ghost use Rattle.arena_tree.specs.Trees.{index_in, level_of, nodes_of, ChainFrom, IsArena, IsTree};
 ghost use Rattle.arena_tree.specs.Stored.{IsNewChain};
 ghost use Rattle.arena_tree.specs.Setups.{BecomesRoot, BecomesChild, RefusesRoot, RefusesChild};
@@ -104,6 +104,15 @@ impl Tree {
         ensures arena { IsArena self.now id result.now }
     {
         &self.arenas[id as usize]
+    }
+
+    /// The quantum of the arena of this number, in units.
+    pub fn quantum(&self, id: u32) -> u64
+        requires { id < length self.now }
+        ensures value { quantum_in (nodes_of self.now) id ≡ result }
+        ensures some { 0 < result }
+    {
+        self.arena(id).quantum
     }
 
     /// The arena of this number, its source, that one's source, and so on: `LONGEST_CHAIN` at most.

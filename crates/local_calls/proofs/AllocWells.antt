@@ -5,14 +5,18 @@ use Rattle.deed_core.specs.declared.requests.Request.{Request}
 use Rattle.deed_core.specs.declared.segments.Route.TheVariants.{Direct}
 use Rattle.arena_tree.specs.declared.levels.Level.{Level}
 use Rattle.arena_tree.specs.declared.trees.TreeArena.{TreeArena}
+use Rattle.arena_tree.specs.declared.part_faults.PartFault.{PartFault}
+use Rattle.arena_tree.specs.declared.part_faults.GivenFault.{GivenFault}
 use Rattle.arena_tree.specs.declared.part_faults.ChangeFault.{ChangeFault}
-use Rattle.arena_tree.specs.declared.part_faults.ChangeFault.TheVariants as changing
+use Rattle.slab_layer.specs.declared.faults.AddFault.{AddFault}
+use Rattle.magazine_layer.specs.declared.faults.FullFault.{FullFault}
+use Rattle.arena_tree.specs.declared.part_faults.PartFault.TheVariants as asking
+use Rattle.arena_tree.specs.declared.part_faults.GivenFault.TheVariants as giving
+use Rattle.tag_arena.specs.declared.faults.ArenaFault.TheVariants as carving
+use Rattle.slab_layer.specs.declared.faults.AddFault.TheVariants as slabbing
+use Rattle.magazine_layer.specs.declared.faults.FullFault.TheVariants as fulling
 use Rattle.arena_tree.specs.declared.part_faults.ClimbFault.TheVariants as climbing
-use Rattle.arena_tree.specs.declared.part_faults.SlabAddFault.{SlabAddFault}
-use Rattle.arena_tree.specs.declared.part_faults.SlabAddFault.TheVariants as slabbing
 use Rattle.arena_tree.specs.declared.part_faults.Stopped.{Stopped}
-use Rattle.arena_tree.specs.declared.part_faults.SwapFullFault.{SwapFullFault}
-use Rattle.arena_tree.specs.declared.part_faults.SwapFullFault.TheVariants as fulling
 use Rattle.arena_tree.specs.Chains.{IsChain}
 use Rattle.arena_tree.specs.Climbs.{ClimbEnd, climb_plan}
 use Rattle.arena_tree.specs.Events.{SlabAdd}
@@ -21,7 +25,7 @@ use Rattle.arena_tree.specs.Sound.{Sound}
 use Rattle.arena_tree.specs.Trees.{nodes_of, IsTree}
 use Rattle.quantum_cache.specs.Allocs.{Stage, on_take, take_round, on_change_over, change_over, on_swap_full, take_from_depot, take_chunk, on_slab_add, make_slab, on_slab_climb, take_from_slab, alloc_cached, alloc_steps, alloc_plan, xalloc_plan}
 use Rattle.quantum_cache.specs.Sizes.{cache_for}
-use Rattle.local_calls.specs.Asked.{GoesWell, DoesWell, FillsWell, ChangesWell, CarvesWell, EndsWell, IsForSlab}
+use Rattle.local_calls.specs.Asked.{GoesWell, DoesWell, AsksWell, EndsWell, IsForSlab}
 use Rattle.local_calls.specs.Laws.{AllocsWell}
 use Rattle.local_calls.proofs.ClimbWells.{ends_then, ClimbsWell, well_climb, well_refused}
 use Rattle.local_calls.proofs.Slabs.{for_slab}
@@ -52,34 +56,33 @@ module _ (arenas : List TreeArena) where
   unfolding change_over
   well_over arena cache size = (tt, changed)
     where
-      changed : (a : Result (Unit {0}) ChangeFault) → Unit {0} → ChangesWell a → StageWell (on_change_over a)
+      changed : (a : Result (Unit {0}) (PartFault ChangeFault)) → Unit {0} → AsksWell a → StageWell (on_change_over a)
       changed (Ok u) s well = tt
-      changed (Err changing.NoMemory) s well = tt
-      changed (Err changing.NotGreater) s well = tt
-      changed (Err changing.Stopped) s well = absurd well
+      changed (Err (asking.Refused f)) s well = tt
+      changed (Err asking.Stopped) s well = absurd well
 
   well_depot : (arena cache : ℕ) → EndsWell arenas StageWell (take_from_depot arena cache)
   unfolding take_from_depot
   well_depot arena cache = (tt, swapped)
     where
-      swapped : (x : Result (Unit {0}) SwapFullFault) → Unit {0} → FillsWell x → EndsWell arenas StageWell (on_swap_full arena cache x)
+      swapped : (x : Result (Unit {0}) (PartFault FullFault)) → Unit {0} → AsksWell x → EndsWell arenas StageWell (on_swap_full arena cache x)
       swapped (Ok u) s well = well_round arena cache
-      swapped (Err (fulling.OldSize m)) s well = well_over arena cache m
-      swapped (Err fulling.NoneFull) s well = tt
-      swapped (Err fulling.Stopped) s well = absurd well
+      swapped (Err (asking.Refused (fulling.OldSize m))) s well = well_over arena cache m
+      swapped (Err (asking.Refused fulling.NoneFull)) s well = tt
+      swapped (Err asking.Stopped) s well = absurd well
 
   well_chunk : (arena cache : ℕ) → EndsWell arenas StageWell (take_chunk arena cache)
   unfolding take_chunk
   well_chunk arena cache = (tt, λ a s well. well_take a well)
 
-  well_slab : (l : Level) (up : List Level) (cache : ℕ) (span : Tag) → IsChain (nodes_of arenas) (l ∷ up) → IsForSlab arenas l.id cache span → (x : Result Tag (SlabAddFault Tag)) → Sound (nodes_of arenas) (SlabAdd l.id cache span) x → GoesWell (SlabAdd l.id cache span) x
+  well_slab : (l : Level) (up : List Level) (cache : ℕ) (span : Tag) → IsChain (nodes_of arenas) (l ∷ up) → IsForSlab arenas l.id cache span → (x : Result Tag (GivenFault (AddFault Tag) Tag)) → Sound (nodes_of arenas) (SlabAdd l.id cache span) x → GoesWell (SlabAdd l.id cache span) x
       → EndsWell arenas AllocsWell (on_slab_add (l ∷ up) x)
   well_slab l up cache span is for (Ok t) s well = tt
-  well_slab l up cache span is for (Err (slabbing.NoMemory t)) s well =
+  well_slab l up cache span is for (Err (giving.Refused (slabbing.NoMemory t))) s well =
       well_refused arenas AllocsWell tt (l ∷ up) t is (subst (λ (z : Tag). Some l.id ≡ Some z.arena) (sym s.1) (let e : span.arena ≡ l.id = for.of_arena in cc)) (subst (λ (z : Tag). z.route ≡ Direct) (sym s.1) for.direct)
-  well_slab l up cache span is for (Err (slabbing.WrongSize t)) s well = absurd well
-  well_slab l up cache span is for (Err (slabbing.Overlaps t)) s well = absurd well
-  well_slab l up cache span is for (Err (slabbing.Stopped t)) s well = absurd well
+  well_slab l up cache span is for (Err (giving.Refused (slabbing.WrongSize t))) s well = absurd well
+  well_slab l up cache span is for (Err (giving.Refused (slabbing.Overlaps t))) s well = absurd well
+  well_slab l up cache span is for (Err (giving.Stopped t)) s well = absurd well
 
   module _ (tree : IsTree arenas) (l : Level) (up : List Level) (is : IsChain (nodes_of arenas) (l ∷ up)) (size : ℕ) where
     well_climbed : (cache : ℕ) → cache_for l size ≡ Some cache → (r : ClimbEnd) → ClimbsWell arenas (l ∷ up) l.slab_size r → EndsWell arenas StageWell (on_slab_climb (l ∷ up) l.id cache r)
@@ -87,9 +90,9 @@ module _ (arenas : List TreeArena) where
     well_climbed cache e (Ok span) w =
         let for : IsForSlab arenas l.id cache span = for_slab arenas tree l up size cache span is e w in
         ends_then arenas AllocsWell StageWell (make_slab (l ∷ up) l.id cache span) (λ r. Done (Some r)) (for, well_slab l up cache span is for) (λ r w'. w')
-    well_climbed cache e (Err climbing.BadRequest) w = tt
-    well_climbed cache e (Err climbing.NoFit) w = tt
-    well_climbed cache e (Err climbing.NoMemory) w = tt
+    well_climbed cache e (Err (climbing.Refused carving.BadRequest)) w = tt
+    well_climbed cache e (Err (climbing.Refused carving.NoFit)) w = tt
+    well_climbed cache e (Err (climbing.Refused carving.NoMemory)) w = tt
     well_climbed cache e (Err (climbing.Stuck t)) w = absurd w
     well_climbed cache e (Err (climbing.Stopped o)) w = absurd w
 
@@ -102,9 +105,7 @@ module _ (arenas : List TreeArena) where
       where
         ends : (r : ClimbEnd) → ClimbsWell arenas (l ∷ up) size r → AllocsWell r
         ends (Ok t) w = tt
-        ends (Err climbing.BadRequest) w = tt
-        ends (Err climbing.NoFit) w = tt
-        ends (Err climbing.NoMemory) w = tt
+        ends (Err (climbing.Refused f)) w = tt
         ends (Err (climbing.Stuck t)) w = w
         ends (Err (climbing.Stopped o)) w = w
 
@@ -125,5 +126,5 @@ module _ (arenas : List TreeArena) where
   well_alloc tree [] size is = tt
   well_alloc tree (l ∷ up) size is = well_by tree l up is size (cache_for l size) refl
 
-  pub well_xalloc : (arena : ℕ) (request : Request) → EndsWell arenas CarvesWell (xalloc_plan arena request)
+  pub well_xalloc : (arena : ℕ) (request : Request) → EndsWell arenas AsksWell (xalloc_plan arena request)
   well_xalloc arena request = (tt, λ a s well. well)

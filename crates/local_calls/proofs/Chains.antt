@@ -4,28 +4,19 @@ use Rattle.std.specs.Prelude.{slice_get, IfSome}
 use Rattle.deed_core.specs.Tag.{Tag}
 use Rattle.deed_core.proofs.LawProofs.{mapped, slice_get_mapped, slice_get_some, power_some}
 use Rattle.arena_tree.specs.declared.levels.Level.{Level}
-use Rattle.arena_tree.specs.declared.trees.TreeArena.{TreeArena}
 use Rattle.arena_tree.specs.Chains.{Node, IsChain, first_id, first_node, source_of, quantum_in}
 use Rattle.arena_tree.specs.declared.limits.TheConstants.{LONGEST_CHAIN}
 use Rattle.arena_tree.specs.Trees.{node_of, nodes_of, level_of, ChainFrom, ImportsFrom, IsTree}
+use Rattle.arena_tree.specs.declared.trees.TreeArena.{TreeArena}
+use Rattle.arena_tree.proofs.LawProofs.{chain_read}
 use Rattle.quantum_cache.specs.Caches.{chain_in}
 use Rattle.quantum_cache.proofs.LawProofs.{chain_is}
 
-pub source_at : (nodes : List Node) (id : ℕ) (n : Node) → slice_get nodes id ≡ Some n → source_of nodes id ≡ n.source
-source_at [] id n at = absurd (let e : None ≡ Some n = at in cc)
-source_at (m ∷ nodes) zero n at = let e : Some m ≡ Some n = at in let is : m ≡ n = cc in ap (λ (z : Node). z.source) is
-source_at (m ∷ nodes) (suc id) n at = source_at nodes id n at
-
-quantum_at : (nodes : List Node) (id : ℕ) (n : Node) → slice_get nodes id ≡ Some n → quantum_in nodes id ≡ n.quantum
-quantum_at [] id n at = absurd (let e : None ≡ Some n = at in cc)
-quantum_at (m ∷ nodes) zero n at = let e : Some m ≡ Some n = at in let is : m ≡ n = cc in ap (λ (z : Node). z.quantum) is
-quantum_at (m ∷ nodes) (suc id) n at = quantum_at nodes id n at
-
 pub chain_source : (nodes : List Node) (l : Level) (up : List Level) → IsChain nodes (l ∷ up) → source_of nodes l.id ≡ first_id up
-chain_source nodes l up is = source_at nodes l.id (first_node l up) is.0
+chain_source nodes l up is = (chain_read nodes l up is).1
 
 pub chain_quantum : (nodes : List Node) (l : Level) (up : List Level) → IsChain nodes (l ∷ up) → quantum_in nodes l.id ≡ l.quantum
-chain_quantum nodes l up is = quantum_at nodes l.id (first_node l up) is.0
+chain_quantum nodes l up is = (chain_read nodes l up is).0
 
 -- the source of a chain's first arena is the first above it
 pub chain_above : (nodes : List Node) (l : Level) (up : List Level) (given whole : Tag) → IsChain nodes (l ∷ up) → first_id (l ∷ up) ≡ Some given.arena → source_of nodes given.arena ≡ Some whole.arena → first_id up ≡ Some whole.arena

@@ -13,8 +13,7 @@ use Rattle.slab_layer.specs.declared.faults.PutFault.{PutFault}
 use Rattle.slab_layer.specs.declared.faults.PutFault.TheVariants as putting
 use Rattle.magazine_layer.specs.Calls.{DepotReapOf}
 use Rattle.magazine_layer.specs.Depots.{DepotState, ReapsRound, Begins, after_trim, all_rounds, depot_rounds}
-use Rattle.arena_tree.specs.declared.part_faults.FreeFault.{FreeFault}
-use Rattle.arena_tree.specs.declared.part_faults.SlabPutFault.{SlabPutFault}
+use Rattle.arena_tree.specs.declared.part_faults.GivenFault.{GivenFault}
 use Rattle.stock.specs.Spaces.{SpaceState, QuantumCacheState, with_arena, with_cache, with_slab, with_depot}
 use Rattle.local_parts.specs.SharedSteps.{DoesFree, DoesPut, DoesReap, DoesDepotReap}
 use Rattle.local_calls.specs.Looks.{finds_in_cache, finds_in_space, finds_in_spaces}
@@ -71,7 +70,7 @@ reaps_one t d e did =
 
 module _ (old new : List SpaceState) where
   -- a free
-  pub freed_found : (t : Tag) (a : Result (Option Tag) (FreeFault Tag)) → DoesFree old t a new → finds_in_spaces new ≡ finds_in_spaces old
+  pub freed_found : (t : Tag) (a : Result (Option Tag) (GivenFault Tag Tag)) → DoesFree old t a new → finds_in_spaces new ≡ finds_in_spaces old
   freed_found t a does = elim does.2 [
     | inl on ↦ arena_weighs old new t.arena on.space (with_arena on.arena on.space) refl on.at on.after
     | inr none ↦ ap finds_in_spaces none.2
@@ -83,7 +82,7 @@ module _ (old new : List SpaceState) where
   put_slabs t (Err (putting.AtHome back)) x y did = ap (λ (z : SlabCacheState). length z.slabs) did.1.unchanged
   put_slabs t (Err (putting.NotMine back)) x y did = ap (λ (z : SlabCacheState). length z.slabs) did.2.unchanged
 
-  pub put_found : (t : Tag) (a : Result (Unit {0}) (SlabPutFault Tag)) → DoesPut old t a new → finds_in_spaces new ≡ finds_in_spaces old
+  pub put_found : (t : Tag) (a : Result (Unit {0}) (GivenFault (PutFault Tag) Tag)) → DoesPut old t a new → finds_in_spaces new ≡ finds_in_spaces old
   put_found t a does = elim does.2 [
     | inl on ↦
         let o = on.2 in

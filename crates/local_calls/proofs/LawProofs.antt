@@ -24,7 +24,7 @@ use Rattle.quantum_cache.proofs.LawProofs.{alloc_handles, xalloc_handles, free_h
 use Rattle.local_parts.specs.Cpus.{HasNoRounds}
 use Rattle.local_parts.specs.States.{LocalState}
 use Rattle.local_parts.specs.Steps.{LocalStep}
-use Rattle.local_calls.specs.Asked.{CarvesWell, DoesWell}
+use Rattle.local_calls.specs.Asked.{AsksWell, DoesWell}
 use Rattle.local_calls.specs.Laws.{AllocsWell, DrainsWell, AllocNeverStuck, XallocNeverStops, FreeAlwaysDone, DrainAlwaysDone, DrainWithTurns, ReapAlwaysDone}
 use Rattle.local_calls.specs.Runs.{RunsTo}
 use Rattle.local_calls.proofs.AllocWells.{well_alloc, well_xalloc}
@@ -39,7 +39,7 @@ alloc_never_stuck arenas chain size old new others a is local accounted path =
 
 pub xalloc_never_stops : XallocNeverStops
 xalloc_never_stops arenas arena request old new others a local accounted path =
-    run_ends_well arenas CarvesWell carve_left (xalloc_plan arena request) _ others (xalloc_handles arena request) (well_xalloc arenas arena request) old new a local.plans accounted path
+    run_ends_well arenas AsksWell carve_left (xalloc_plan arena request) _ others (xalloc_handles arena request) (well_xalloc arenas arena request) old new a local.plans accounted path
 
 pub free_always_done : FreeAlwaysDone
 free_always_done arenas chain t old new others a is first local accounted path =

@@ -5,8 +5,8 @@ use Rattle.deed_core.specs.Tag.{Tag}
 use Rattle.arena_tree.specs.declared.limits.TheConstants.{MOST_CACHES}
 use Rattle.arena_tree.specs.declared.levels.Level.{Level}
 use Rattle.arena_tree.specs.declared.trees.TreeArena.{TreeArena}
-use Rattle.arena_tree.specs.declared.part_faults.FreeFault.{FreeFault}
-use Rattle.arena_tree.specs.declared.part_faults.FreeFault.TheVariants as freeing
+use Rattle.arena_tree.specs.declared.part_faults.GivenFault.{GivenFault}
+use Rattle.arena_tree.specs.declared.part_faults.GivenFault.TheVariants as giving
 use Rattle.arena_tree.specs.declared.part_faults.Stopped.{Stopped}
 use Rattle.arena_tree.specs.declared.part_faults.ReturnFault.TheVariants as returning
 use Rattle.arena_tree.specs.Chains.{IsChain}
@@ -77,11 +77,11 @@ module _ (arenas : List TreeArena) where
       mid : LocalState
       mid = path.0
 
-      freed : (x : Result (Option Tag) (FreeFault Tag)) → SoundStep (nodes_of arenas) old (Free t) x mid → RunsTo arenas (on_free (return_plan up) x) mid new r → ((w : Tag) (s u : LocalState) (a : ReturnEnd) → RunsTo arenas (return_plan up w) s u a → found u ≡ found s) → found new ≡ found old
+      freed : (x : Result (Option Tag) (GivenFault Tag Tag)) → SoundStep (nodes_of arenas) old (Free t) x mid → RunsTo arenas (on_free (return_plan up) x) mid new r → ((w : Tag) (s u : LocalState) (a : ReturnEnd) → RunsTo arenas (return_plan up w) s u a → found u ≡ found s) → found new ≡ found old
       freed (Ok (Some w)) step rest again = again w mid new r rest ∙ freed_found old.spaces mid.spaces t (Ok (Some w)) step.step.does.0
       freed (Ok None) step rest again = ap found (sym rest.0) ∙ freed_found old.spaces mid.spaces t (Ok None) step.step.does.0
-      freed (Err (freeing.BadFree w)) step rest again = ap found (sym rest.0) ∙ freed_found old.spaces mid.spaces t (Err (freeing.BadFree w)) step.step.does.0
-      freed (Err (freeing.Stopped w)) step rest again = ap found (sym rest.0) ∙ freed_found old.spaces mid.spaces t (Err (freeing.Stopped w)) step.step.does.0
+      freed (Err (giving.Refused w)) step rest again = ap found (sym rest.0) ∙ freed_found old.spaces mid.spaces t (Err (giving.Refused w)) step.step.does.0
+      freed (Err (giving.Stopped w)) step rest again = ap found (sym rest.0) ∙ freed_found old.spaces mid.spaces t (Err (giving.Stopped w)) step.step.does.0
 
   -- a look at slabs
   slab_pays : (chain : List Level) (k c : ℕ) (old new : LocalState) (r : LookEnd) → RunsTo arenas (reap_slab chain k c) old new r → LookPays (found old) (found new) r

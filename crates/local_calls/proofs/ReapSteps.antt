@@ -8,8 +8,8 @@ use Rattle.slab_layer.specs.Calls.{ReapOf, Reaps}
 use Rattle.slab_layer.specs.Slab.{SlabState, IsComplete}
 use Rattle.magazine_layer.specs.Calls.{DepotReapOf}
 use Rattle.magazine_layer.specs.Depots.{DepotState, CanReap, ReapsRound, Begins, after_trim}
-use Rattle.arena_tree.specs.declared.part_faults.FreeFault.{FreeFault}
-use Rattle.arena_tree.specs.declared.part_faults.SlabPutFault.{SlabPutFault}
+use Rattle.arena_tree.specs.declared.part_faults.GivenFault.{GivenFault}
+use Rattle.slab_layer.specs.declared.faults.PutFault.{PutFault}
 use Rattle.stock.specs.Spaces.{SpaceState, QuantumCacheState, IsCacheAt, with_arena, with_cache, with_slab, with_depot}
 use Rattle.local_parts.specs.SharedSteps.{DoesFree, DoesPut, DoesReap, DoesDepotReap}
 use Rattle.local_calls.specs.Reaped.{HasNoneToReap, NoneToReapAt}
@@ -66,14 +66,14 @@ SlabsStand spaces k j = (d : QuantumCacheState) → IsCacheAt spaces k j d → A
 
 module _ (old new : List SpaceState) where
   -- a free
-  pub freed_same : (t : Tag) (a : Result (Option Tag) (FreeFault Tag)) → DoesFree old t a new → CachesSame old new
+  pub freed_same : (t : Tag) (a : Result (Option Tag) (GivenFault Tag Tag)) → DoesFree old t a new → CachesSame old new
   freed_same t a does = elim does.2 [
     | inl on ↦ arena_written old new t.arena on.space (with_arena on.arena on.space) refl on.at on.after
     | inr none ↦ same_caches old new none.2
   ]
 
   -- a put of a chunk of that cache
-  pub put_same : (t : Tag) (k c : ℕ) (a : Result (Unit {0}) (SlabPutFault Tag)) → t.arena ≡ k → t.route ≡ Cached c → DoesPut old t a new → OthersSame k c old new
+  pub put_same : (t : Tag) (k c : ℕ) (a : Result (Unit {0}) (GivenFault (PutFault Tag) Tag)) → t.arena ≡ k → t.route ≡ Cached c → DoesPut old t a new → OthersSame k c old new
   put_same t k c a home cached does i n d there = elim does.2 [
     | inl on ↦
         let number : Cached c ≡ Cached (on.0 + 1) = sym cached ∙ on.1 in

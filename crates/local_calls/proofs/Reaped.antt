@@ -7,8 +7,8 @@ use Rattle.deed_core.specs.Tag.{Tag}
 use Rattle.deed_core.specs.declared.segments.Route.TheVariants.{Cached}
 use Rattle.arena_tree.specs.declared.levels.Level.{Level}
 use Rattle.arena_tree.specs.declared.trees.TreeArena.{TreeArena}
-use Rattle.arena_tree.specs.declared.part_faults.FreeFault.{FreeFault}
-use Rattle.arena_tree.specs.declared.part_faults.FreeFault.TheVariants as freeing
+use Rattle.arena_tree.specs.declared.part_faults.GivenFault.{GivenFault}
+use Rattle.arena_tree.specs.declared.part_faults.GivenFault.TheVariants as giving
 use Rattle.arena_tree.specs.declared.part_faults.Stopped.{Stopped}
 use Rattle.arena_tree.specs.declared.part_faults.ReturnFault.TheVariants as returning
 use Rattle.arena_tree.specs.Chains.{IsChain, first_id}
@@ -138,15 +138,15 @@ module _ (arenas : List TreeArena) where
       mid : LocalState
       mid = path.0
 
-      freed : (x : Result (Option Tag) (FreeFault Tag)) → SoundStep (nodes_of arenas) old (Free t) x mid → RunsTo arenas (on_free (return_plan up) x) mid new r
+      freed : (x : Result (Option Tag) (GivenFault Tag Tag)) → SoundStep (nodes_of arenas) old (Free t) x mid → RunsTo arenas (on_free (return_plan up) x) mid new r
           → ((w : Tag) (s u : LocalState) (a : ReturnEnd) → RunsTo arenas (return_plan up w) s u a → (plans_of u.spaces ≡ plans_of s.spaces) × CachesSame s.spaces u.spaces) → (plans_of new.spaces ≡ plans_of old.spaces) × CachesSame old.spaces new.spaces
       freed (Ok (Some w)) step rest again =
           let more = again w mid new r rest in
           let first = freed_same old.spaces mid.spaces t (Ok (Some w)) step.step.does.0 in
           (more.0 ∙ step.step.setup.plans, λ i n d there. first i n d (more.1 i n d there))
       freed (Ok None) step rest again = subst (λ (s : LocalState). (plans_of s.spaces ≡ plans_of old.spaces) × CachesSame old.spaces s.spaces) rest.0 (step.step.setup.plans, freed_same old.spaces mid.spaces t (Ok None) step.step.does.0)
-      freed (Err (freeing.BadFree w)) step rest again = subst (λ (s : LocalState). (plans_of s.spaces ≡ plans_of old.spaces) × CachesSame old.spaces s.spaces) rest.0 (step.step.setup.plans, freed_same old.spaces mid.spaces t (Err (freeing.BadFree w)) step.step.does.0)
-      freed (Err (freeing.Stopped w)) step rest again = subst (λ (s : LocalState). (plans_of s.spaces ≡ plans_of old.spaces) × CachesSame old.spaces s.spaces) rest.0 (step.step.setup.plans, freed_same old.spaces mid.spaces t (Err (freeing.Stopped w)) step.step.does.0)
+      freed (Err (giving.Refused w)) step rest again = subst (λ (s : LocalState). (plans_of s.spaces ≡ plans_of old.spaces) × CachesSame old.spaces s.spaces) rest.0 (step.step.setup.plans, freed_same old.spaces mid.spaces t (Err (giving.Refused w)) step.step.does.0)
+      freed (Err (giving.Stopped w)) step rest again = subst (λ (s : LocalState). (plans_of s.spaces ≡ plans_of old.spaces) × CachesSame old.spaces s.spaces) rest.0 (step.step.setup.plans, freed_same old.spaces mid.spaces t (Err (giving.Stopped w)) step.step.does.0)
 
   -- a look at slabs
   slab_keeps : (chain : List Level) (k c : ℕ) (old new : LocalState) (r : LookEnd) → RunsTo arenas (reap_slab chain k c) old new r → SlabKeeps old new × (r ≡ Ok None → (j : ℕ) → c ≡ j + 1 → SlabsStand new.spaces k j)

@@ -13,7 +13,6 @@ use Rattle.deed_core.proofs.LawProofs.{mapped, slice_get_mapped, slice_get_one, 
 use Rattle.tag_arena.specs.Calls.{IsTagged}
 use Rattle.tag_arena.specs.Outcomes.{ImportOf}
 use Rattle.tag_arena.specs.declared.faults.ArenaFault.{ArenaFault}
-use Rattle.tag_arena.specs.declared.faults.ArenaFault.TheVariants as arena_fault
 use Rattle.tag_arena.specs.declared.faults.SpanFault.{SpanFault}
 use Rattle.tag_arena.specs.declared.faults.SpanFault.TheVariants as span_fault
 use Rattle.slab_layer.specs.Cache.{chunks_out}
@@ -23,15 +22,14 @@ use Rattle.slab_layer.specs.declared.faults.AddFault.{AddFault}
 use Rattle.slab_layer.specs.declared.faults.AddFault.TheVariants as add_fault
 use Rattle.slab_layer.specs.declared.faults.PutFault.{PutFault}
 use Rattle.slab_layer.specs.declared.faults.PutFault.TheVariants as put_fault
-use Rattle.arena_tree.specs.declared.part_faults.AddCarveFault.{AddCarveFault}
-use Rattle.arena_tree.specs.declared.part_faults.CarveFault.{CarveFault}
-use Rattle.arena_tree.specs.declared.part_faults.FreeFault.{FreeFault}
-use Rattle.arena_tree.specs.declared.part_faults.FreeFault.TheVariants.{BadFree}
-use Rattle.arena_tree.specs.declared.part_faults.SlabAddFault.{SlabAddFault}
-use Rattle.arena_tree.specs.declared.part_faults.SlabPutFault.{SlabPutFault}
-use Rattle.arena_tree.specs.declared.trees.TreeArena.{TreeArena}
+use Rattle.arena_tree.specs.declared.part_faults.PartFault.{PartFault}
+use Rattle.arena_tree.specs.declared.part_faults.GivenFault.{GivenFault}
+use Rattle.arena_tree.specs.declared.part_faults.PartFault.TheVariants as asking
+use Rattle.arena_tree.specs.declared.part_faults.GivenFault.TheVariants as giving
 use Rattle.arena_tree.specs.Chains.{source_of}
-use Rattle.arena_tree.specs.Trees.{nodes_of, node_of}
+use Rattle.arena_tree.specs.Trees.{nodes_of}
+use Rattle.arena_tree.specs.declared.trees.TreeArena.{TreeArena}
+use Rattle.arena_tree.proofs.LawProofs.{arena_read}
 use Rattle.stock.specs.Accounts.{IsAccounted}
 use Rattle.stock.specs.Setups.{plan_for, plans_for}
 use Rattle.stock.specs.Spaces.{SpaceState, SpacePlan, QuantumCacheState, HasCache, plan_of, plans_of, slab_size_of}
@@ -39,9 +37,8 @@ use Rattle.stock.specs.Steps.{OnArena, OnSlab, FreeIn, PutIn, NamesNoCache}
 use Rattle.stock.specs.Stocks.{IsQuantumCache}
 use Rattle.stock.proofs.LawProofs.{always_tagged, always_out, always_imports, always_slab}
 use Rattle.local_parts.specs.SharedSteps.{DoesCarve, DoesFree, DoesImport, DoesPut, DoesAdd}
-use Rattle.local_parts.specs.Words.{wording_of, carve_word, import_word, put_word, add_word}
-use Rattle.local_calls.proofs.Chains.{source_at}
-use Rattle.local_calls.specs.Asked.{IsForSlab, IsForChild, CarvesWell, AddsWell, SlabsWell, DoesWell}
+use Rattle.arena_tree.specs.Tags.{wording_of}
+use Rattle.local_calls.specs.Asked.{IsForSlab, IsForChild, AsksWell, AddsWell, SlabsWell, DoesWell}
 
 -- what stands among equal members
 one_of_same : (n i y z : ℕ) → slice_get (replicate n y) i ≡ Some z → z ≡ y
@@ -58,21 +55,19 @@ module _ (arenas : List TreeArena) (old new : List SpaceState) (plans : plans_of
   planned_back k x at = mapped plan_of old k (plan_for x) (ap (λ ps. slice_get ps k) plans ∙ slice_get_mapped plan_for arenas k x at)
 
   -- carves
-  pub carve_well : (k : ℕ) (q : Request) (a : Result Tag CarveFault) → DoesCarve old k q a new → CarvesWell a
-  carve_well k q a does = subst CarvesWell (sym does.1) (words does.0)
+  pub carve_well : (k : ℕ) (q : Request) (a : Result Tag (PartFault ArenaFault)) → DoesCarve old k q a new → AsksWell a
+  carve_well k q a does = subst AsksWell (sym does.1) (words does.0)
     where
-      words : (r : Result Tag ArenaFault) → CarvesWell (wording_of carve_word r)
+      words : (r : Result Tag ArenaFault) → AsksWell (wording_of asking.Refused r)
       words (Ok t) = tt
-      words (Err arena_fault.BadRequest) = tt
-      words (Err arena_fault.NoFit) = tt
-      words (Err arena_fault.NoMemory) = tt
+      words (Err f) = tt
 
   module _ (t : Tag) (rest : List Tag) (accounted : IsAccounted old (t ∷ rest)) where
     -- what is out can be freed
-    pub free_well : (a : Result (Option Tag) (FreeFault Tag)) → t.route ≡ Direct → DoesFree old t a new → DoesWell a
+    pub free_well : (a : Result (Option Tag) (GivenFault Tag Tag)) → t.route ≡ Direct → DoesFree old t a new → DoesWell a
     free_well a direct does = subst DoesWell (sym does.1) (words does.0 does.2)
       where
-        words : (r : Result (Option Tag) Tag) → FreeIn old t r new → DoesWell (wording_of BadFree r)
+        words : (r : Result (Option Tag) Tag) → FreeIn old t r new → DoesWell (wording_of {F = GivenFault Tag Tag} giving.Refused r)
         words (Ok o) is = tt
         words (Err same) is =
             let tagged = always_tagged old t rest accounted direct in
@@ -96,10 +91,10 @@ module _ (arenas : List TreeArena) (old new : List SpaceState) (plans : plans_of
     none_out k cached none = let out = always_out old t k rest accounted cached in none out.0 out.2.cache out.2.route out.2.at
 
     -- a chunk can be put back
-    pub put_well : (a : Result (Unit {0}) (SlabPutFault Tag)) (k : ℕ) → t.route ≡ Cached k → DoesPut old t a new → DoesWell a
+    pub put_well : (a : Result (Unit {0}) (GivenFault (PutFault Tag) Tag)) (k : ℕ) → t.route ≡ Cached k → DoesPut old t a new → DoesWell a
     put_well a k cached does = subst DoesWell (sym does.1) (words does.0 does.2)
       where
-        words : (r : Result (Unit {0}) (PutFault Tag)) → PutIn old t r new → DoesWell (wording_of put_word r)
+        words : (r : Result (Unit {0}) (PutFault Tag)) → PutIn old t r new → DoesWell (wording_of {F = GivenFault (PutFault Tag) Tag} giving.Refused r)
         words (Ok o) is = tt
         words (Err (put_fault.NotMine back)) is = elim is [
           | inl on ↦ on.2.does.0 (out_here k on.0 cached on.1 on.2.space on.2.cache on.2.at on.2.among)
@@ -113,16 +108,16 @@ module _ (arenas : List TreeArena) (old new : List SpaceState) (plans : plans_of
         ]
 
     -- a span can be imported
-    pub import_well : (child n : ℕ) (a : Result Tag (AddCarveFault Tag)) → IsForChild arenas child t → DoesImport old child t n a new → AddsWell a
+    pub import_well : (child n : ℕ) (a : Result Tag (GivenFault (SpanFault Tag) Tag)) → IsForChild arenas child t → DoesImport old child t n a new → AddsWell a
     import_well child n a for does = subst AddsWell (sym does.1) (words does.0 does.2)
       where
         source : (s : SpaceState) → slice_get old child ≡ Some s → s.source ≡ Some t.arena
         source s at =
             let x = planned child s at in
-            let tree : source_of (nodes_of arenas) child ≡ x.0.source = source_at (nodes_of arenas) child (node_of x.0) (slice_get_mapped node_of arenas child x.0 x.1) in
+            let tree : source_of (nodes_of arenas) child ≡ x.0.source = (arena_read arenas child x.0 x.1).1 in
             ap (λ (p : SpacePlan). p.source) x.2 ∙ (sym tree ∙ for.source)
 
-        words : (r : Result Tag (SpanFault Tag)) → OnArena child (λ x y. ImportOf x t (plain_of n) r y) old new → AddsWell (wording_of import_word r)
+        words : (r : Result Tag (SpanFault Tag)) → OnArena child (λ x y. ImportOf x t (plain_of n) r y) old new → AddsWell (wording_of giving.Refused r)
         words (Ok o) on = tt
         words (Err (span_fault.NoMemory same)) on = tt
         words (Err (span_fault.Overlaps same)) on =
@@ -132,13 +127,13 @@ module _ (arenas : List TreeArena) (old new : List SpaceState) (plans : plans_of
         words (Err (span_fault.NotAligned same)) on = on.does.0.1 (always_imports old t rest accounted for.direct child on.space on.at (source on.space on.at)).1
 
     -- a span becomes a slab
-    pub slab_well : (k c : ℕ) (a : Result Tag (SlabAddFault Tag)) → IsForSlab arenas k c t → DoesAdd old k c t a new → SlabsWell a
+    pub slab_well : (k c : ℕ) (a : Result Tag (GivenFault (AddFault Tag) Tag)) → IsForSlab arenas k c t → DoesAdd old k c t a new → SlabsWell a
     slab_well k c a for does = elim does [
       | inl d ↦ subst SlabsWell (sym d.2.1) (words d.0 d.2.0 d.2.2)
       | inr none ↦ absurd (none.0 (c - 1) (omega (arith, for.slab.some)) here)
     ]
       where
-        words : (j : ℕ) (r : Result Tag (AddFault Tag)) → OnSlab k j (λ x y. AddOf x t r y) old new → SlabsWell (wording_of add_word r)
+        words : (j : ℕ) (r : Result Tag (AddFault Tag)) → OnSlab k j (λ x y. AddOf x t r y) old new → SlabsWell (wording_of giving.Refused r)
         words j (Ok o) on = tt
         words j (Err (add_fault.NoMemory same)) on = tt
         words j (Err (add_fault.Overlaps same)) on =

@@ -9,7 +9,9 @@ use Rattle.magazine_layer.specs.Calls.{PopOf, SwapFullOf}
 use Rattle.magazine_layer.specs.Depots.{IsDepot, SwapsForFull}
 use Rattle.magazine_layer.specs.Magazines.{CpuCacheState, BothEmpty, IsSize}
 use Rattle.magazine_layer.specs.declared.faults.FullFault.{FullFault}
+use Rattle.arena_tree.specs.declared.part_faults.PartFault.{PartFault}
 use Rattle.arena_tree.specs.declared.part_faults.ChangeFault.{ChangeFault}
+use Rattle.arena_tree.specs.declared.part_faults.PartFault.TheVariants as asking
 use Rattle.stock.specs.OwnCaches.{OwnCacheState, IsAtIndexesOf, own_rounds, all_own_rounds}
 use Rattle.stock.specs.Spaces.{SpaceState, QuantumCacheState, IsCacheAt, with_cache, with_slab, plans_of}
 use Rattle.stock.specs.Stocks.{IsStock}
@@ -18,7 +20,7 @@ use Rattle.local_parts.specs.Cpus.{OnOwn, IsOwnAt, cpu_rounds}
 use Rattle.local_parts.specs.OwnSteps.{DoesPop, DoesChange, OnExchange, SwapsFull}
 use Rattle.local_parts.specs.SharedSteps.{DoesTake}
 use Rattle.local_parts.specs.States.{LocalState, IsReached, IsUnchanged}
-use Rattle.local_parts.specs.Words.{wording_of, full_word}
+use Rattle.arena_tree.specs.Tags.{wording_of}
 use Rattle.local_calls.specs.NoFits.{HasNoRoundOf, HasNoChunkOf}
 
 -- the caches of a CPU, of which one is written over by one with the same rounds
@@ -97,7 +99,7 @@ module _ (old new : LocalState) (k c : ℕ) where
       nothing = let e : Ok None ≡ Ok does.0 = does.1 in cc
 
   -- a change of magazines
-  pub changed_over : (size : ℕ) (a : Result (Unit {0}) ChangeFault) → DoesChange old k c size a new → (new.spaces ≡ old.spaces) × (cpu_rounds new.cpu ≡ cpu_rounds old.cpu)
+  pub changed_over : (size : ℕ) (a : Result (Unit {0}) (PartFault ChangeFault)) → DoesChange old k c size a new → (new.spaces ≡ old.spaces) × (cpu_rounds new.cpu ≡ cpu_rounds old.cpu)
   changed_over size a does = elim does [
     | inl on ↦
         let rounds : own_rounds on.1.1.3.changed ≡ own_rounds on.1.1.3.own = ap (λ (x : CpuCacheState). x.previous ++ x.loaded) on.1.1.3.does.1.after in
@@ -121,9 +123,9 @@ module _ (old new : LocalState) (k c : ℕ) (law : IsStock old.spaces) (fixed : 
   swap : SwapsForFull on.3.own.cpu on.3.does.1.cache.depot on.3.changed.cpu on.3.does.1.depot
   swap = swapped on.3.does.1.does.r on.3.does.1.does.told on.3.does.1.does.did
     where
-      swapped : (r : Result (Unit {0}) FullFault) → Ok tt ≡ wording_of full_word r → SwapFullOf on.3.own.cpu on.3.does.1.cache.depot r on.3.changed.cpu on.3.does.1.depot → SwapsForFull on.3.own.cpu on.3.does.1.cache.depot on.3.changed.cpu on.3.does.1.depot
+      swapped : (r : Result (Unit {0}) FullFault) → Ok tt ≡ wording_of asking.Refused r → SwapFullOf on.3.own.cpu on.3.does.1.cache.depot r on.3.changed.cpu on.3.does.1.depot → SwapsForFull on.3.own.cpu on.3.does.1.cache.depot on.3.changed.cpu on.3.does.1.depot
       swapped (Ok u) e did = did
-      swapped (Err f) e did = absurd (let x : Ok tt ≡ Err (full_word f) = e in cc)
+      swapped (Err f) e did = absurd (let x : Ok tt ≡ Err (asking.Refused f) = e in cc)
 
   -- the magazine that came has rounds
   has_some : 0 < length on.3.changed.cpu.loaded

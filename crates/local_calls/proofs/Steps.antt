@@ -3,16 +3,14 @@ use Rattle.std.proofs.Common.{◌≡◌, ℕ, List, ◌∷◌, ◌++◌, Option,
 use Rattle.deed_core.specs.Tag.{Tag}
 use Rattle.magazine_layer.specs.Magazines.{MagazineState}
 use Rattle.magazine_layer.specs.declared.faults.EmptyFault.{EmptyFault}
-use Rattle.magazine_layer.specs.declared.faults.EmptyFault.TheVariants as empty_fault
 use Rattle.magazine_layer.specs.declared.faults.FullFault.{FullFault}
-use Rattle.magazine_layer.specs.declared.faults.FullFault.TheVariants as full_fault
 use Rattle.magazine_layer.specs.declared.faults.PutFullFault.{PutFullFault}
 use Rattle.magazine_layer.specs.declared.faults.PutFullFault.TheVariants as fresh_fault
+use Rattle.arena_tree.specs.declared.part_faults.PartFault.{PartFault}
+use Rattle.arena_tree.specs.declared.part_faults.GivenFault.{GivenFault}
+use Rattle.arena_tree.specs.declared.part_faults.FreshFault.{FreshFault}
 use Rattle.arena_tree.specs.declared.part_faults.ChangeFault.{ChangeFault}
-use Rattle.arena_tree.specs.declared.part_faults.PushFault.{PushFault}
-use Rattle.arena_tree.specs.declared.part_faults.SwapEmptyFault.{SwapEmptyFault}
-use Rattle.arena_tree.specs.declared.part_faults.SwapFreshFault.{SwapFreshFault}
-use Rattle.arena_tree.specs.declared.part_faults.SwapFullFault.{SwapFullFault}
+use Rattle.arena_tree.specs.declared.part_faults.PartFault.TheVariants as asking
 use Rattle.arena_tree.specs.declared.trees.TreeArena.{TreeArena}
 use Rattle.arena_tree.specs.Events.{Event, AnswerTo, BeginsWith, hand_after, Carve, Free, AddCarve, SlabTake, SlabPut, SlabAdd, SlabReap, SwapFull, SwapEmpty, SwapFresh, DepotReap, Pop, Push, Change}
 use Rattle.arena_tree.specs.Plans.{Plan, Done, Ask, Handles}
@@ -23,60 +21,55 @@ use Rattle.local_parts.specs.Cpus.{cpu_rounds}
 use Rattle.local_parts.specs.OwnSteps.{DoesPush, DoesChange, DoesSwapFull, DoesSwapEmpty, DoesSwapFresh}
 use Rattle.local_parts.specs.States.{LocalState}
 use Rattle.local_parts.specs.Steps.{LocalStep}
-use Rattle.local_parts.specs.Words.{wording_of, full_word, empty_word, fresh_word}
-use Rattle.local_calls.specs.Asked.{IsRightlyAsked, GoesWell, DoesWell, FillsWell, EmptiesWell, FreshensWell, PushesWell, ChangesWell, EndsWell}
+use Rattle.arena_tree.specs.Tags.{wording_of}
+use Rattle.local_parts.specs.OwnSteps.{fresh_word}
+use Rattle.local_calls.specs.Asked.{IsRightlyAsked, GoesWell, DoesWell, AsksWell, PushesWell, EndsWell}
 use Rattle.local_calls.specs.Runs.{IsAccountedWith, RunsTo}
 use Rattle.local_calls.proofs.Refusals.{carve_well, free_well, put_well, import_well, slab_well}
 
-full_well : (r : Result (Unit {0}) FullFault) → FillsWell (wording_of full_word r)
-full_well (Ok u) = tt
-full_well (Err (full_fault.OldSize m)) = tt
-full_well (Err full_fault.NoneFull) = tt
+wrapped_well : {F : Type 0} (r : Result (Unit {0}) F) → AsksWell (wording_of asking.Refused r)
+wrapped_well (Ok u) = tt
+wrapped_well (Err f) = tt
 
-empty_well : (r : Result (Unit {0}) EmptyFault) → EmptiesWell (wording_of empty_word r)
-empty_well (Ok u) = tt
-empty_well (Err (empty_fault.OldSize m)) = tt
-empty_well (Err empty_fault.NoneEmpty) = tt
-
-fresh_well : (r : Result (Unit {0}) (PutFullFault MagazineState)) → FreshensWell (wording_of fresh_word r)
+fresh_well : (r : Result (Unit {0}) (PutFullFault MagazineState)) → AsksWell (wording_of fresh_word r)
 fresh_well (Ok u) = tt
 fresh_well (Err (fresh_fault.OldSize m back)) = tt
 fresh_well (Err (fresh_fault.NoMemory back)) = tt
 
 module _ (old new : LocalState) (k c : ℕ) where
-  swapped_full : (a : Result (Unit {0}) SwapFullFault) → DoesSwapFull old k c a new → FillsWell a
+  swapped_full : (a : Result (Unit {0}) (PartFault FullFault)) → DoesSwapFull old k c a new → AsksWell a
   swapped_full a does = elim does [
-    | inl on ↦ subst FillsWell (sym on.3.does.1.does.told) (full_well on.3.does.1.does.r)
-    | inr none ↦ subst FillsWell (sym none.0) tt
+    | inl on ↦ subst AsksWell (sym on.3.does.1.does.told) (wrapped_well on.3.does.1.does.r)
+    | inr none ↦ subst AsksWell (sym none.0) tt
   ]
 
-  swapped_empty : (a : Result (Unit {0}) SwapEmptyFault) → DoesSwapEmpty old k c a new → EmptiesWell a
+  swapped_empty : (a : Result (Unit {0}) (PartFault EmptyFault)) → DoesSwapEmpty old k c a new → AsksWell a
   swapped_empty a does = elim does [
-    | inl on ↦ subst EmptiesWell (sym on.3.does.1.does.told) (empty_well on.3.does.1.does.r)
-    | inr none ↦ subst EmptiesWell (sym none.0) tt
+    | inl on ↦ subst AsksWell (sym on.3.does.1.does.told) (wrapped_well on.3.does.1.does.r)
+    | inr none ↦ subst AsksWell (sym none.0) tt
   ]
 
-  swapped_fresh : (a : Result (Unit {0}) SwapFreshFault) → DoesSwapFresh old k c a new → FreshensWell a
+  swapped_fresh : (a : Result (Unit {0}) (PartFault FreshFault)) → DoesSwapFresh old k c a new → AsksWell a
   swapped_fresh a does = elim does [
-    | inl on ↦ subst FreshensWell (sym on.3.does.1.does.told) (fresh_well on.3.does.1.does.r)
+    | inl on ↦ subst AsksWell (sym on.3.does.1.does.told) (fresh_well on.3.does.1.does.r)
     | inr out ↦ elim out [
-      | inl memory ↦ subst FreshensWell (sym memory.0) tt
-      | inr none ↦ subst FreshensWell (sym none.0) tt
+      | inl memory ↦ subst AsksWell (sym memory.0) tt
+      | inr none ↦ subst AsksWell (sym none.0) tt
     ]
   ]
 
-  pushed_well : (t : Tag) (a : Result (Unit {0}) (PushFault Tag)) → DoesPush old k c t a new → PushesWell a
+  pushed_well : (t : Tag) (a : Result (Unit {0}) (GivenFault Tag Tag)) → DoesPush old k c t a new → PushesWell a
   pushed_well t a does = elim does [
     | inl on ↦ subst PushesWell (sym on.0) tt
     | inr none ↦ subst PushesWell (sym none.0) tt
   ]
 
-  changed_well : (size : ℕ) (a : Result (Unit {0}) ChangeFault) → DoesChange old k c size a new → ChangesWell a
+  changed_well : (size : ℕ) (a : Result (Unit {0}) (PartFault ChangeFault)) → DoesChange old k c size a new → AsksWell a
   changed_well size a does = elim does [
-    | inl on ↦ subst ChangesWell (sym on.0) tt
+    | inl on ↦ subst AsksWell (sym on.0) tt
     | inr none ↦ elim none [
-      | inl memory ↦ subst ChangesWell (sym memory.0) tt
-      | inr small ↦ subst ChangesWell (sym small.0) tt
+      | inl memory ↦ subst AsksWell (sym memory.0) tt
+      | inr small ↦ subst AsksWell (sym small.0) tt
     ]
   ]
 

@@ -3,22 +3,14 @@
 use Rattle.std.specs.Prelude.{◌≡◌, ℕ, ◌/◌, ◌<◌, ◌≤◌, List, slice_get, Some, Result, Ok, Err}
 use Rattle.deed_core.specs.Tag.{Tag}
 use Rattle.deed_core.specs.declared.segments.Route.TheVariants.{Direct, Cached}
-use Rattle.arena_tree.specs.declared.part_faults.AddCarveFault.{AddCarveFault}
-use Rattle.arena_tree.specs.declared.part_faults.AddCarveFault.TheVariants as adding
-use Rattle.arena_tree.specs.declared.part_faults.CarveFault.{CarveFault}
-use Rattle.arena_tree.specs.declared.part_faults.CarveFault.TheVariants as carving
-use Rattle.arena_tree.specs.declared.part_faults.ChangeFault.{ChangeFault}
-use Rattle.arena_tree.specs.declared.part_faults.ChangeFault.TheVariants as changing
-use Rattle.arena_tree.specs.declared.part_faults.PushFault.{PushFault}
-use Rattle.arena_tree.specs.declared.part_faults.PushFault.TheVariants as pushing
-use Rattle.arena_tree.specs.declared.part_faults.SlabAddFault.{SlabAddFault}
-use Rattle.arena_tree.specs.declared.part_faults.SlabAddFault.TheVariants as slabbing
-use Rattle.arena_tree.specs.declared.part_faults.SwapEmptyFault.{SwapEmptyFault}
-use Rattle.arena_tree.specs.declared.part_faults.SwapEmptyFault.TheVariants as emptying
-use Rattle.arena_tree.specs.declared.part_faults.SwapFreshFault.{SwapFreshFault}
-use Rattle.arena_tree.specs.declared.part_faults.SwapFreshFault.TheVariants as freshing
-use Rattle.arena_tree.specs.declared.part_faults.SwapFullFault.{SwapFullFault}
-use Rattle.arena_tree.specs.declared.part_faults.SwapFullFault.TheVariants as fulling
+use Rattle.arena_tree.specs.declared.part_faults.PartFault.{PartFault}
+use Rattle.arena_tree.specs.declared.part_faults.GivenFault.{GivenFault}
+use Rattle.tag_arena.specs.declared.faults.SpanFault.{SpanFault}
+use Rattle.slab_layer.specs.declared.faults.AddFault.{AddFault}
+use Rattle.arena_tree.specs.declared.part_faults.PartFault.TheVariants as asking
+use Rattle.arena_tree.specs.declared.part_faults.GivenFault.TheVariants as giving
+use Rattle.tag_arena.specs.declared.faults.SpanFault.TheVariants as adding
+use Rattle.slab_layer.specs.declared.faults.AddFault.TheVariants as slabbing
 use Rattle.arena_tree.specs.declared.trees.TreeArena.{TreeArena}
 use Rattle.arena_tree.specs.Chains.{source_of}
 use Rattle.arena_tree.specs.Events.{Event, AnswerTo, Carve, Free, AddCarve, SlabTake, SlabPut}
@@ -58,41 +50,25 @@ IsRightlyAsked arenas (Carve arena request) = Unit {0}
 IsRightlyAsked arenas _ = Unit {0}
 
 -- by the answer: done, refused for want of room or of a magazine, or out of memory
-abbrev pub CarvesWell : Result Tag CarveFault → Type 0
-CarvesWell (Err carving.Stopped) = ⊥
-CarvesWell _ = Unit {0}
+abbrev pub AsksWell : {A F : Type 0} → Result A (PartFault F) → Type 0
+AsksWell (Err asking.Stopped) = ⊥
+AsksWell _ = Unit {0}
 
-abbrev pub AddsWell : Result Tag (AddCarveFault Tag) → Type 0
-AddsWell (Err (adding.Overlaps t)) = ⊥
-AddsWell (Err (adding.NotAligned t)) = ⊥
-AddsWell (Err (adding.Stopped t)) = ⊥
+abbrev pub AddsWell : Result Tag (GivenFault (SpanFault Tag) Tag) → Type 0
+AddsWell (Err (giving.Refused (adding.Overlaps t))) = ⊥
+AddsWell (Err (giving.Refused (adding.NotAligned t))) = ⊥
+AddsWell (Err (giving.Stopped t)) = ⊥
 AddsWell _ = Unit {0}
 
-abbrev pub SlabsWell : Result Tag (SlabAddFault Tag) → Type 0
-SlabsWell (Err (slabbing.WrongSize t)) = ⊥
-SlabsWell (Err (slabbing.Overlaps t)) = ⊥
-SlabsWell (Err (slabbing.Stopped t)) = ⊥
+abbrev pub SlabsWell : Result Tag (GivenFault (AddFault Tag) Tag) → Type 0
+SlabsWell (Err (giving.Refused (slabbing.WrongSize t))) = ⊥
+SlabsWell (Err (giving.Refused (slabbing.Overlaps t))) = ⊥
+SlabsWell (Err (giving.Stopped t)) = ⊥
 SlabsWell _ = Unit {0}
 
-abbrev pub FillsWell : Result (Unit {0}) SwapFullFault → Type 0
-FillsWell (Err fulling.Stopped) = ⊥
-FillsWell _ = Unit {0}
-
-abbrev pub EmptiesWell : Result (Unit {0}) SwapEmptyFault → Type 0
-EmptiesWell (Err emptying.Stopped) = ⊥
-EmptiesWell _ = Unit {0}
-
-abbrev pub FreshensWell : Result (Unit {0}) SwapFreshFault → Type 0
-FreshensWell (Err freshing.Stopped) = ⊥
-FreshensWell _ = Unit {0}
-
-abbrev pub PushesWell : Result (Unit {0}) (PushFault Tag) → Type 0
-PushesWell (Err (pushing.Stopped t)) = ⊥
+abbrev pub PushesWell : Result (Unit {0}) (GivenFault Tag Tag) → Type 0
+PushesWell (Err (giving.Stopped t)) = ⊥
 PushesWell _ = Unit {0}
-
-abbrev pub ChangesWell : Result (Unit {0}) ChangeFault → Type 0
-ChangesWell (Err changing.Stopped) = ⊥
-ChangesWell _ = Unit {0}
 
 -- what is never refused is done
 abbrev pub DoesWell : {A E : Type 0} → Result A E → Type 0
@@ -101,20 +77,20 @@ DoesWell (Err e) = ⊥
 
 -- no part stops, and none refuses what is given to it but when out of memory
 abbrev pub GoesWell : (e : Event) → AnswerTo e → Type 0
-GoesWell (Carve arena request) a = CarvesWell a
+GoesWell (Carve arena request) a = AsksWell a
 GoesWell (Free given) a = DoesWell a
 GoesWell (AddCarve child given size) a = AddsWell a
 GoesWell (SlabTake arena cache) a = DoesWell a
 GoesWell (SlabPut given) a = DoesWell a
 GoesWell (SlabAdd arena cache given) a = SlabsWell a
 GoesWell (SlabReap arena cache) a = DoesWell a
-GoesWell (SwapFull arena cache) a = FillsWell a
-GoesWell (SwapEmpty arena cache) a = EmptiesWell a
-GoesWell (SwapFresh arena cache) a = FreshensWell a
+GoesWell (SwapFull arena cache) a = AsksWell a
+GoesWell (SwapEmpty arena cache) a = AsksWell a
+GoesWell (SwapFresh arena cache) a = AsksWell a
 GoesWell (DepotReap arena cache) a = DoesWell a
 GoesWell (Pop arena cache) a = DoesWell a
 GoesWell (Push arena cache given) a = PushesWell a
-GoesWell (Change arena cache size) a = ChangesWell a
+GoesWell (Change arena cache size) a = AsksWell a
 
 -- each part is rightly asked, and what it ends with is as said, where each answer is sound and all
 -- goes well

@@ -3,8 +3,10 @@ use Rattle.std.specs.Prelude.{◌≡◌, ◌<◌, ℕ, List, length, Some, None,
 use Rattle.deed_core.specs.Tag.{Tag}
 use Rattle.deed_core.specs.declared.requests.Request.{Request}
 use Rattle.arena_tree.specs.declared.levels.Level.{Level}
-use Rattle.arena_tree.specs.declared.part_faults.CarveFault.{CarveFault}
-use Rattle.arena_tree.specs.declared.part_faults.CarveFault.TheVariants as carving
+use Rattle.arena_tree.specs.declared.part_faults.PartFault.{PartFault}
+use Rattle.tag_arena.specs.declared.faults.ArenaFault.{ArenaFault}
+use Rattle.arena_tree.specs.declared.part_faults.PartFault.TheVariants as asking
+use Rattle.tag_arena.specs.declared.faults.ArenaFault.TheVariants as carving
 use Rattle.arena_tree.specs.declared.part_faults.ClimbFault.TheVariants as climbing
 use Rattle.arena_tree.specs.declared.trees.TreeArena.{TreeArena}
 use Rattle.arena_tree.specs.Chains.{IsChain, first_id}
@@ -18,17 +20,15 @@ use Rattle.quantum_cache.specs.Reaps.{ReapEnd, reap_plan}
 use Rattle.stock.specs.Stocks.{IsStock}
 use Rattle.local_parts.specs.Cpus.{cpu_rounds, HasNoRounds}
 use Rattle.local_parts.specs.States.{LocalState, IsUnchanged}
-use Rattle.local_calls.specs.Asked.{CarvesWell, DoesWell}
-use Rattle.local_calls.specs.NoFits.{NoneServesIn, NothingFits}
+use Rattle.local_calls.specs.Asked.{AsksWell, DoesWell}
+use Rattle.local_calls.specs.NoFits.{HasBase, NothingFits}
 use Rattle.local_calls.specs.Reaped.{NoneToReap}
 use Rattle.local_calls.specs.Runs.{IsLocalOf, IsAccountedWith, RunsTo}
 
 -- an allocation gives a segment, or is refused with an empty hand: nothing is stuck or stopped
 abbrev pub AllocsWell : ClimbEnd → Type 0
 AllocsWell (Ok t) = Unit {0}
-AllocsWell (Err climbing.BadRequest) = Unit {0}
-AllocsWell (Err climbing.NoFit) = Unit {0}
-AllocsWell (Err climbing.NoMemory) = Unit {0}
+AllocsWell (Err (climbing.Refused f)) = Unit {0}
 AllocsWell (Err (climbing.Stuck t)) = ⊥
 AllocsWell (Err (climbing.Stopped o)) = ⊥
 
@@ -49,9 +49,9 @@ AllocNeverStuck = (arenas : List TreeArena) (chain : List Level) (size : ℕ)
 -- Nor does one of a constrained request.
 abbrev pub XallocNeverStops : Type 0
 XallocNeverStops = (arenas : List TreeArena) (arena : ℕ) (request : Request)
-    (old new : LocalState) (others : List Tag) (a : Result Tag CarveFault) → IsLocalOf arenas old
-    → IsAccountedWith old None others → RunsTo arenas (xalloc_plan arena request) old new a
-    → CarvesWell a
+    (old new : LocalState) (others : List Tag) (a : Result Tag (PartFault ArenaFault))
+    → IsLocalOf arenas old → IsAccountedWith old None others
+    → RunsTo arenas (xalloc_plan arena request) old new a → AsksWell a
 
 -- A segment that is out can always be freed.
 abbrev pub FreeAlwaysDone : Type 0
@@ -75,7 +75,8 @@ ReapAlwaysDone = (arenas : List TreeArena) (limit : ℕ) (old new : LocalState) 
 -- it began, and leaves the stock as it was: at most the CPU has changed over, with no round.
 abbrev pub NoFitIsRight : Type 0
 NoFitIsRight = (arenas : List TreeArena) (chain : List Level) (size : ℕ) (old new : LocalState)
-    → IsStock old.spaces → RunsTo arenas (alloc_plan chain size) old new (Err climbing.NoFit)
+    → IsStock old.spaces
+    → RunsTo arenas (alloc_plan chain size) old new (Err (climbing.Refused carving.NoFit))
     → NothingFits old chain size × (new.spaces ≡ old.spaces)
     × (cpu_rounds new.cpu ≡ cpu_rounds old.cpu)
 
@@ -83,8 +84,8 @@ NoFitIsRight = (arenas : List TreeArena) (chain : List Level) (size : ℕ) (old 
 abbrev pub XallocNoFitIsRight : Type 0
 XallocNoFitIsRight = (arenas : List TreeArena) (arena : ℕ) (request : Request)
     (old new : LocalState) → IsStock old.spaces
-    → RunsTo arenas (xalloc_plan arena request) old new (Err carving.NoFit)
-    → NoneServesIn old.spaces arena request × IsUnchanged old new
+    → RunsTo arenas (xalloc_plan arena request) old new (Err (asking.Refused carving.NoFit))
+    → (¬ HasBase old.spaces arena request) × IsUnchanged old new
 
 -- A drain that ends well leaves the CPU no round.
 abbrev pub DrainEmptiesCpu : Type 0

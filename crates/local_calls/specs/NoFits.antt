@@ -1,5 +1,5 @@
--- When nothing fits.
-use Rattle.std.specs.Prelude.{◌≡◌, ℕ, ◌+◌, List, [], ◌∷◌, All, slice_get, Option, Some, None}
+-- What serves an allocation, and when nothing fits.
+use Rattle.std.specs.Prelude.{◌≡◌, ◌⊎◌, ℕ, ◌+◌, List, [], ◌∷◌, All, slice_get, Option, Some, None}
 use Rattle.deed_core.specs.Request.{plain_of}
 use Rattle.deed_core.specs.declared.requests.Request.{Request}
 use Rattle.tag_arena.specs.Place.{Serves}
@@ -12,17 +12,17 @@ use Rattle.stock.specs.Spaces.{SpaceState, QuantumCacheState, IsCacheAt}
 use Rattle.quantum_cache.specs.Sizes.{cache_for}
 use Rattle.local_parts.specs.States.{LocalState, IsReached}
 
--- no address in the arena serves the request
-abbrev pub NoneServesIn : List SpaceState → ℕ → Request → Type 0
-NoneServesIn spaces arena q = (s : SpaceState) → slice_get spaces arena ≡ Some s → (base : ℕ)
-    → ¬ Serves s.arena.quantum q s.arena.free base
+-- an address of the arena at the index serves the request
+abbrev pub HasBase : List SpaceState → ℕ → Request → Type 0
+HasBase spaces index q = (s : SpaceState) × (slice_get spaces index ≡ Some s)
+    × ((base : ℕ) × Serves s.arena.quantum q s.arena.free base)
 
--- none in the chain's first arena serves n units, and none in its source what it would import for
--- them, and so on upwards
-abbrev pub NoneServesUp : List SpaceState → List Level → ℕ → Type 0
-NoneServesUp spaces [] n = Unit {0}
-NoneServesUp spaces (l ∷ up) n =
-    NoneServesIn spaces l.id (plain_of n) × NoneServesUp spaces up (amount_of l up n)
+-- so does one of an arena of the chain: of the first so many units, of each other what the one
+-- below it would import for them
+abbrev pub HasBaseUp : List SpaceState → List Level → ℕ → Type 0
+HasBaseUp spaces [] n = ⊥
+HasBaseUp spaces (l ∷ up) n =
+    HasBase spaces l.id (plain_of n) ⊎ HasBaseUp spaces up (amount_of l up n)
 
 -- the CPU's magazines have no round of the cache
 abbrev pub HasNoRoundOf : LocalState → ℕ → ℕ → Type 0
@@ -45,7 +45,7 @@ pub record NoneInCache (s : LocalState) (l : Level) (up : List Level) (cache : �
   pub magazines : HasNoRoundOf s l.id cache
   pub depot : HasNoFullOf s l.id cache
   pub chunks : HasNoChunkOf s.spaces l.id cache
-  pub slab : NoneServesUp s.spaces (l ∷ up) l.slab_size
+  pub slab : ¬ HasBaseUp s.spaces (l ∷ up) l.slab_size
 
 abbrev pub NoneInCacheBy : Option ℕ → LocalState → Level → List Level → Type 0
 NoneInCacheBy None s l up = Unit {0}
@@ -55,4 +55,4 @@ NoneInCacheBy (Some cache) s l up = NoneInCache s l up cache
 abbrev pub NothingFits : LocalState → List Level → ℕ → Type 0
 NothingFits s [] size = Unit {0}
 NothingFits s (l ∷ up) size =
-    NoneInCacheBy (cache_for l size) s l up × NoneServesUp s.spaces (l ∷ up) size
+    NoneInCacheBy (cache_for l size) s l up × (¬ HasBaseUp s.spaces (l ∷ up) size)

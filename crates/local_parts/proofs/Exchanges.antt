@@ -6,15 +6,16 @@ use Rattle.magazine_layer.specs.Calls.{SwapFullOf, SwapEmptyOf, PutFullOf}
 use Rattle.magazine_layer.specs.declared.faults.FullFault.{FullFault}
 use Rattle.magazine_layer.specs.declared.faults.EmptyFault.{EmptyFault}
 use Rattle.magazine_layer.specs.declared.faults.PutFullFault.{PutFullFault}
-use Rattle.arena_tree.specs.declared.part_faults.SwapFullFault.{SwapFullFault}
-use Rattle.arena_tree.specs.declared.part_faults.SwapEmptyFault.{SwapEmptyFault}
-use Rattle.arena_tree.specs.declared.part_faults.SwapFreshFault.{SwapFreshFault}
+use Rattle.arena_tree.specs.declared.part_faults.PartFault.{PartFault}
+use Rattle.arena_tree.specs.declared.part_faults.FreshFault.{FreshFault}
+use Rattle.arena_tree.specs.declared.part_faults.PartFault.TheVariants as asking
 use Rattle.stock.specs.Spaces.{SpaceState, plans_of}
 use Rattle.stock.specs.Stocks.{IsStock}
 use Rattle.stock.specs.Accounts.{Frames}
 use Rattle.stock.specs.OwnCaches.{OwnCacheState, IsAtIndexesOf, own_rounds}
 use Rattle.stock.specs.Steps.{OnDepot}
-use Rattle.local_parts.specs.Words.{wording_of, full_word, empty_word, fresh_word}
+use Rattle.arena_tree.specs.Tags.{wording_of}
+use Rattle.local_parts.specs.OwnSteps.{fresh_word}
 use Rattle.local_parts.specs.OwnSteps.{SwapsFull, SwapsEmpty, SwapsFresh}
 use Rattle.local_parts.specs.OwnChanges.{OwnExchanges}
 
@@ -23,13 +24,13 @@ depot_does k j P Q old new so on =
     record { space = on.space; at = on.at; cache = on.cache; among = on.among; depot = on.depot; after = on.after; does = so on.cache.depot on.depot on.does }
 
 module _ (old new : List SpaceState) (o o' : OwnCacheState) (index : IsAtIndexesOf o o') (frame : Frames old (own_rounds o) new (own_rounds o')) (fixed : plans_of new ≡ plans_of old) (stock : IsStock new) where
-  pub full_exchanged : BothEmpty o.cpu → (r : Result (Unit {0}) FullFault) (a : Result (Unit {0}) SwapFullFault) → a ≡ wording_of full_word r → OnDepot o.arena o.cache (λ d e. SwapFullOf o.cpu d r o'.cpu e) old new → OwnExchanges o.arena o.cache (SwapsFull a) old new o o'
+  pub full_exchanged : BothEmpty o.cpu → (r : Result (Unit {0}) FullFault) (a : Result (Unit {0}) (PartFault FullFault)) → a ≡ wording_of asking.Refused r → OnDepot o.arena o.cache (λ d e. SwapFullOf o.cpu d r o'.cpu e) old new → OwnExchanges o.arena o.cache (SwapsFull a) old new o o'
   full_exchanged empty r a told on = record { index = index; swapped = depot_does o.arena o.cache _ _ old new (λ d e did. record { empty = empty; r = r; did = did; told = told }) on; frame = frame; fixed = fixed; stock = stock }
 
-  pub empty_exchanged : BothFull o.cpu → (r : Result (Unit {0}) EmptyFault) (a : Result (Unit {0}) SwapEmptyFault) → a ≡ wording_of empty_word r → OnDepot o.arena o.cache (λ d e. SwapEmptyOf o.cpu d r o'.cpu e) old new → OwnExchanges o.arena o.cache (SwapsEmpty a) old new o o'
+  pub empty_exchanged : BothFull o.cpu → (r : Result (Unit {0}) EmptyFault) (a : Result (Unit {0}) (PartFault EmptyFault)) → a ≡ wording_of asking.Refused r → OnDepot o.arena o.cache (λ d e. SwapEmptyOf o.cpu d r o'.cpu e) old new → OwnExchanges o.arena o.cache (SwapsEmpty a) old new o o'
   empty_exchanged full r a told on = record { index = index; swapped = depot_does o.arena o.cache _ _ old new (λ d e did. record { full = full; r = r; did = did; told = told }) on; frame = frame; fixed = fixed; stock = stock }
 
-  pub fresh_exchanged : BothFull o.cpu → (m : MagazineState) (r : Result (Unit {0}) (PutFullFault MagazineState)) (a : Result (Unit {0}) SwapFreshFault) → m ≡ empty_magazine o.cpu.size → a ≡ wording_of fresh_word r
+  pub fresh_exchanged : BothFull o.cpu → (m : MagazineState) (r : Result (Unit {0}) (PutFullFault MagazineState)) (a : Result (Unit {0}) (PartFault FreshFault)) → m ≡ empty_magazine o.cpu.size → a ≡ wording_of fresh_word r
       → OnDepot o.arena o.cache (λ d e. PutFullOf o.cpu d m r o'.cpu e) old new → OwnExchanges o.arena o.cache (SwapsFresh a) old new o o'
   fresh_exchanged full m r a is told on = record {
     index = index;

@@ -14,19 +14,17 @@ use Rattle.magazine_layer.specs.declared.faults.PutFullFault.{PutFullFault}
 use Rattle.magazine_layer.specs.declared.faults.PutFullFault.TheVariants as fresh_fault
 use Rattle.magazine_layer.specs.Depots.{DepotState}
 use Rattle.arena_tree.specs.declared.trees.TreeArena.{TreeArena}
+use Rattle.arena_tree.specs.declared.part_faults.PartFault.{PartFault}
+use Rattle.arena_tree.specs.declared.part_faults.FreshFault.{FreshFault}
 use Rattle.arena_tree.specs.declared.part_faults.ChangeFault.{ChangeFault}
-use Rattle.arena_tree.specs.declared.part_faults.ChangeFault.TheVariants.{NotGreater, NoMemory, Stopped}
-use Rattle.arena_tree.specs.declared.part_faults.PushFault.TheVariants.{NoRoom}
-use Rattle.arena_tree.specs.declared.part_faults.SwapFullFault.{SwapFullFault}
-use Rattle.arena_tree.specs.declared.part_faults.SwapFullFault.TheVariants.{NoneFull}
-use Rattle.arena_tree.specs.declared.part_faults.SwapEmptyFault.{SwapEmptyFault}
-use Rattle.arena_tree.specs.declared.part_faults.SwapEmptyFault.TheVariants.{NoneEmpty}
-use Rattle.arena_tree.specs.declared.part_faults.SwapFreshFault.{SwapFreshFault}
-use Rattle.arena_tree.specs.declared.part_faults.SwapFreshFault.TheVariants as freshing
+use Rattle.arena_tree.specs.declared.part_faults.PartFault.TheVariants as asking
+use Rattle.arena_tree.specs.declared.part_faults.GivenFault.TheVariants as giving
+use Rattle.arena_tree.specs.declared.part_faults.ChangeFault.TheVariants.{NotGreater, NoMemory}
+use Rattle.arena_tree.specs.declared.part_faults.FreshFault.TheVariants as freshing
 use Rattle.arena_tree.specs.Chains.{IsCachedChunk}
 use Rattle.arena_tree.specs.Events.{Event, AnswerTo, BeginsWith, hand_after, Pop, Push, Change, SwapFull, SwapEmpty, SwapFresh}
 use Rattle.arena_tree.specs.Sound.{Sound, KeepsRounds}
-use Rattle.arena_tree.specs.Stops.{is_stopped, refuses_by, full_stops, empty_stops, fresh_stops}
+use Rattle.arena_tree.specs.Stops.{is_stopped, refuses_by, part_stops}
 use Rattle.stock.specs.Spaces.{SpaceState, plans_of}
 use Rattle.stock.specs.Stocks.{IsStock, IsRoundOf}
 use Rattle.stock.specs.Accounts.{Accounts}
@@ -35,7 +33,8 @@ use Rattle.stock.specs.Steps.{OnDepot}
 use Rattle.local_parts.specs.Cpus.{IsOwnAt, OnOwn, own_indexes, cpu_rounds}
 use Rattle.local_parts.specs.States.{LocalState, IsReached, HasReached, IsUnchanged, Conserves, tree_of}
 use Rattle.local_parts.specs.OwnSteps.{NoneReached, CanPush, CanChange, OnExchange, SwapsFull, SwapsEmpty, SwapsFresh}
-use Rattle.local_parts.specs.Words.{wording_of, full_word, empty_word, fresh_word}
+use Rattle.arena_tree.specs.Tags.{wording_of}
+use Rattle.local_parts.specs.OwnSteps.{fresh_word}
 use Rattle.local_parts.specs.OwnChanges.{OwnPops, OwnPushes, OwnChanges, OwnTries, OwnSwapsFull, OwnSwapsEmpty, OwnSwapsFresh}
 use Rattle.local_parts.specs.Steps.{Does, WholeStep}
 use Rattle.local_parts.proofs.Sounds.{chunk_here}
@@ -115,20 +114,20 @@ module _ (s : LocalState) (law : IsStock s.spaces) (k c : ℕ) (none : (j : ℕ)
   pub none_popped : WholeStep s (Pop k c) (Ok None) s
   none_popped = unchanged_whole s s law same (Pop k c) (Ok None) (λ h b. sym b) (None, refl, inr (refl, none_served (λ o. Unit {0}), same)) (λ sizes. tt) refl refl
 
-  pub none_pushed : (t : Tag) → WholeStep s (Push k c t) (Err (NoRoom t)) s
-  none_pushed t = unchanged_whole s s law same (Push k c t) (Err (NoRoom t)) (λ h b. sym b) (inr (refl, none_served (CanPush t k c), same)) (λ sizes. refl) refl refl
+  pub none_pushed : (t : Tag) → WholeStep s (Push k c t) (Err (giving.Refused t)) s
+  none_pushed t = unchanged_whole s s law same (Push k c t) (Err (giving.Refused t)) (λ h b. sym b) (inr (refl, none_served (CanPush t k c), same)) (λ sizes. refl) refl refl
 
-  pub none_changed : (size : ℕ) → WholeStep s (Change k c size) (Err NotGreater) s
-  none_changed size = unchanged_whole s s law same (Change k c size) (Err NotGreater) (λ h b. refl) (inr (inr (refl, none_served (CanChange size), same))) (λ sizes. tt) refl refl
+  pub none_changed : (size : ℕ) → WholeStep s (Change k c size) (Err (asking.Refused NotGreater)) s
+  none_changed size = unchanged_whole s s law same (Change k c size) (Err (asking.Refused NotGreater)) (λ h b. refl) (inr (inr (refl, none_served (CanChange size), same))) (λ sizes. tt) refl refl
 
-  pub none_full : WholeStep s (SwapFull k c) (Err NoneFull) s
-  none_full = unchanged_whole s s law same (SwapFull k c) (Err NoneFull) (λ h b. refl) (inr (refl, none_served (λ o. BothEmpty o.cpu), same)) (λ sizes. tt) tt refl
+  pub none_full : WholeStep s (SwapFull k c) (Err (asking.Refused full_fault.NoneFull)) s
+  none_full = unchanged_whole s s law same (SwapFull k c) (Err (asking.Refused full_fault.NoneFull)) (λ h b. refl) (inr (refl, none_served (λ o. BothEmpty o.cpu), same)) (λ sizes. tt) tt refl
 
-  pub none_empty : WholeStep s (SwapEmpty k c) (Err NoneEmpty) s
-  none_empty = unchanged_whole s s law same (SwapEmpty k c) (Err NoneEmpty) (λ h b. refl) (inr (refl, none_served (λ o. BothFull o.cpu), same)) (λ sizes. tt) tt refl
+  pub none_empty : WholeStep s (SwapEmpty k c) (Err (asking.Refused empty_fault.NoneEmpty)) s
+  none_empty = unchanged_whole s s law same (SwapEmpty k c) (Err (asking.Refused empty_fault.NoneEmpty)) (λ h b. refl) (inr (refl, none_served (λ o. BothFull o.cpu), same)) (λ sizes. tt) tt refl
 
-  pub none_fresh : WholeStep s (SwapFresh k c) (Err freshing.NotFull) s
-  none_fresh = unchanged_whole s s law same (SwapFresh k c) (Err freshing.NotFull) (λ h b. refl) (inr (inr (refl, none_served (λ o. BothFull o.cpu), same))) (λ sizes. tt) tt refl
+  pub none_fresh : WholeStep s (SwapFresh k c) (Err (asking.Refused freshing.NotFull)) s
+  none_fresh = unchanged_whole s s law same (SwapFresh k c) (Err (asking.Refused freshing.NotFull)) (λ h b. refl) (inr (inr (refl, none_served (λ o. BothFull o.cpu), same))) (λ sizes. tt) tt refl
 
 -- the one cache that serves it isn't so
 one_served : (s : LocalState) (k c j : ℕ) (P : OwnCacheState → Type 0) (number : c ≡ j + 1) (o : OwnCacheState) → IsReached s k j o → ¬ P o → NoneReached s k c P
@@ -160,7 +159,7 @@ module _ (spaces : List SpaceState) (law : IsStock spaces) (old new : List (List
         goes = refl;
       }
 
-  pub push_refused : (t same : Tag) → OnOwn k j (OwnPushes t (Err same)) old new → WholeStep (beside spaces old) (Push k c t) (Err (NoRoom same)) (beside spaces new)
+  pub push_refused : (t same : Tag) → OnOwn k j (OwnPushes t (Err same)) old new → WholeStep (beside spaces old) (Push k c t) (Err (giving.Refused same)) (beside spaces new)
   push_refused t same on =
       let back : same ≡ t = on.does.0 in
       let here = own_is k j _ old new on served.0 served.1.own in
@@ -168,11 +167,11 @@ module _ (spaces : List SpaceState) (law : IsStock spaces) (old new : List (List
       let cannot : ¬ CanPush t k c served.0
       = λ can. on.does.2 (subst (λ x. CanPush t x.arena (x.cache + 1) x) (sym here)
       (subst (λ m. CanPush t m (served.0.cache + 1) served.0) (sym served.1.own.arena) (subst (λ m. CanPush t k (m + 1) served.0) (sym served.1.own.cache) (subst (λ m. CanPush t k m served.0) number can)))) in
-      unchanged_whole (beside spaces old) (beside spaces new) law u (Push k c t) (Err (NoRoom same)) (λ h b. ap Some back ∙ sym b)
-      (inr (ap (λ x. Err (NoRoom x)) back, one_served (beside spaces old) k c j (CanPush t k c) number served.0 served.1 cannot, u)) (λ sizes. back) (ap (λ x. length (cpu_rounds x)) u.cpu) refl
+      unchanged_whole (beside spaces old) (beside spaces new) law u (Push k c t) (Err (giving.Refused same)) (λ h b. ap Some back ∙ sym b)
+      (inr (ap (λ x. Err (giving.Refused x)) back, one_served (beside spaces old) k c j (CanPush t k c) number served.0 served.1 cannot, u)) (λ sizes. back) (ap (λ x. length (cpu_rounds x)) u.cpu) refl
 
-  pub change_whole : (size : ℕ) (r : Result (Unit {0}) ChangeFault) → OnOwn k j (OwnChanges size r) old new → WholeStep (beside spaces old) (Change k c size) r (beside spaces new)
-  change_whole size (Ok tt) on =
+  change_cases : (size : ℕ) (r : Result (Unit {0}) ChangeFault) → OnOwn k j (OwnChanges size r) old new → WholeStep (beside spaces old) (Change k c size) (wording_of asking.Refused r) (beside spaces new)
+  change_cases size (Ok tt) on =
       let sums = weigh_same k j _ old new on on.does.weights in
       record {
         step = record {
@@ -185,16 +184,18 @@ module _ (spaces : List SpaceState) (law : IsStock spaces) (old new : List (List
         moved = omega (arith, count_sum (cpu_rounds new), count_sum (cpu_rounds old), sums (λ x. 1));
         goes = refl;
       }
-  change_whole size (Err NoMemory) on =
+  change_cases size (Err NoMemory) on =
       let here = own_is k j _ old new on served.0 served.1.own in
       let u : IsUnchanged (beside spaces old) (beside spaces new) = record { spaces = refl; cpu = same_cpu k j _ old new on on.does.0 } in
-      unchanged_whole (beside spaces old) (beside spaces new) law u (Change k c size) (Err NoMemory) (λ h b. refl) (inr (inl (refl, (j, number, (served.0, served.1, subst (CanChange size) here on.does.1)), u))) (λ sizes. tt) (ap (λ x. length (cpu_rounds x)) u.cpu) refl
-  change_whole size (Err NotGreater) on =
+      unchanged_whole (beside spaces old) (beside spaces new) law u (Change k c size) (Err (asking.Refused NoMemory)) (λ h b. refl) (inr (inl (refl, (j, number, (served.0, served.1, subst (CanChange size) here on.does.1)), u))) (λ sizes. tt) (ap (λ x. length (cpu_rounds x)) u.cpu) refl
+  change_cases size (Err NotGreater) on =
       let here = own_is k j _ old new on served.0 served.1.own in
       let u : IsUnchanged (beside spaces old) (beside spaces new) = record { spaces = refl; cpu = same_cpu k j _ old new on on.does.0 } in
-      unchanged_whole (beside spaces old) (beside spaces new) law u (Change k c size) (Err NotGreater) (λ h b. refl)
+      unchanged_whole (beside spaces old) (beside spaces new) law u (Change k c size) (Err (asking.Refused NotGreater)) (λ h b. refl)
       (inr (inr (refl, one_served (beside spaces old) k c j (CanChange size) number served.0 served.1 (λ can. on.does.1 (subst (CanChange size) (sym here) can)), u))) (λ sizes. tt) (ap (λ x. length (cpu_rounds x)) u.cpu) refl
-  change_whole size (Err Stopped) on = absurd on.does
+
+  pub change_whole : (size : ℕ) (r : Result (Unit {0}) ChangeFault) (a : AnswerTo (Change k c size)) → a ≡ wording_of asking.Refused r → OnOwn k j (OwnChanges size r) old new → WholeStep (beside spaces old) (Change k c size) a (beside spaces new)
+  change_whole size r a told on = subst (λ x. WholeStep (beside spaces old) (Change k c size) x (beside spaces new)) (sym told) (change_cases size r on)
 
 -- the three exchanges
 module _ (old new : LocalState) (law : IsStock old.spaces) (k c j : ℕ) (number : c ≡ j + 1) (served : HasReached old k j) where
@@ -224,56 +225,44 @@ module _ (old new : LocalState) (law : IsStock old.spaces) (k c j : ℕ) (number
       let u : IsUnchanged old new = record { spaces = y.2; cpu = same_cpu k j _ old.cpu new.cpu on y.1 } in
       unchanged_whole old new law u e a (λ h b. ends h) (didnt (subst why here y.0) u) sound (moved (length (cpu_rounds old.cpu)) (length (cpu_rounds new.cpu))) goes
 
-  full_goes : (a : Result (Unit {0}) SwapFullFault) (x : CpuCacheState) (d : DepotState) (y : CpuCacheState) (z : DepotState) → SwapsFull a x d y z → refuses_by full_stops a ≡ false
-  full_goes a x d y z s = subst (λ v. refuses_by full_stops v ≡ false) (sym s.told) (full_in s.r)
-    where
-      full_in : (r : Result (Unit {0}) FullFault) → refuses_by full_stops (wording_of full_word r) ≡ false
-      full_in (Ok u) = refl
-      full_in (Err (full_fault.OldSize m)) = refl
-      full_in (Err full_fault.NoneFull) = refl
+  wrapped_goes : {F : Type 0} (r : Result (Unit {0}) F) (a : Result (Unit {0}) (PartFault F)) → a ≡ wording_of asking.Refused r → refuses_by part_stops a ≡ false
+  wrapped_goes (Ok u) a told = subst (λ v. refuses_by part_stops v ≡ false) (sym told) refl
+  wrapped_goes (Err f) a told = subst (λ v. refuses_by part_stops v ≡ false) (sym told) refl
 
-  empty_goes : (a : Result (Unit {0}) SwapEmptyFault) (x : CpuCacheState) (d : DepotState) (y : CpuCacheState) (z : DepotState) → SwapsEmpty a x d y z → refuses_by empty_stops a ≡ false
-  empty_goes a x d y z s = subst (λ v. refuses_by empty_stops v ≡ false) (sym s.told) (empty_in s.r)
+  fresh_goes : (a : Result (Unit {0}) (PartFault FreshFault)) (x : CpuCacheState) (d : DepotState) (y : CpuCacheState) (z : DepotState) → SwapsFresh a x d y z → refuses_by part_stops a ≡ false
+  fresh_goes a x d y z s = subst (λ v. refuses_by part_stops v ≡ false) (sym s.told) (fresh_in s.r)
     where
-      empty_in : (r : Result (Unit {0}) EmptyFault) → refuses_by empty_stops (wording_of empty_word r) ≡ false
-      empty_in (Ok u) = refl
-      empty_in (Err (empty_fault.OldSize m)) = refl
-      empty_in (Err empty_fault.NoneEmpty) = refl
-
-  fresh_goes : (a : Result (Unit {0}) SwapFreshFault) (x : CpuCacheState) (d : DepotState) (y : CpuCacheState) (z : DepotState) → SwapsFresh a x d y z → refuses_by fresh_stops a ≡ false
-  fresh_goes a x d y z s = subst (λ v. refuses_by fresh_stops v ≡ false) (sym s.told) (fresh_in s.r)
-    where
-      fresh_in : (r : Result (Unit {0}) (PutFullFault MagazineState)) → refuses_by fresh_stops (wording_of fresh_word r) ≡ false
+      fresh_in : (r : Result (Unit {0}) (PutFullFault MagazineState)) → refuses_by part_stops (wording_of fresh_word r) ≡ false
       fresh_in (Ok u) = refl
       fresh_in (Err (fresh_fault.OldSize m back)) = refl
       fresh_in (Err (fresh_fault.NoMemory back)) = refl
 
-  pub full_whole : (a : Result (Unit {0}) SwapFullFault) → OnOwn k j (OwnSwapsFull a old.spaces new.spaces) old.cpu new.cpu → WholeStep old (SwapFull k c) a new
+  pub full_whole : (a : Result (Unit {0}) (PartFault FullFault)) → OnOwn k j (OwnSwapsFull a old.spaces new.spaces) old.cpu new.cpu → WholeStep old (SwapFull k c) a new
   full_whole a on = tried (SwapsFull a) _ (SwapFull k c) a (λ h. refl) (λ sizes. tt) (λ m n. tt) (goes on.does) (λ x. inl x)
       (λ why u. inr (why.0, one_served old k c j (λ o. BothEmpty o.cpu) number served.0 served.1 why.1, u)) on on.does
     where
-      goes : OwnSwapsFull a old.spaces new.spaces on.own on.changed → refuses_by full_stops a ≡ false
-      goes (inl x) = full_goes a _ _ _ _ x.swapped.does
-      goes (inr y) = subst (λ v. refuses_by full_stops v ≡ false) (sym y.0.0) refl
+      goes : OwnSwapsFull a old.spaces new.spaces on.own on.changed → refuses_by part_stops a ≡ false
+      goes (inl x) = wrapped_goes x.swapped.does.r a x.swapped.does.told
+      goes (inr y) = subst (λ v. refuses_by part_stops v ≡ false) (sym y.0.0) refl
 
-  pub empty_whole : (a : Result (Unit {0}) SwapEmptyFault) → OnOwn k j (OwnSwapsEmpty a old.spaces new.spaces) old.cpu new.cpu → WholeStep old (SwapEmpty k c) a new
+  pub empty_whole : (a : Result (Unit {0}) (PartFault EmptyFault)) → OnOwn k j (OwnSwapsEmpty a old.spaces new.spaces) old.cpu new.cpu → WholeStep old (SwapEmpty k c) a new
   empty_whole a on = tried (SwapsEmpty a) _ (SwapEmpty k c) a (λ h. refl) (λ sizes. tt) (λ m n. tt) (goes on.does) (λ x. inl x)
       (λ why u. inr (why.0, one_served old k c j (λ o. BothFull o.cpu) number served.0 served.1 why.1, u)) on on.does
     where
-      goes : OwnSwapsEmpty a old.spaces new.spaces on.own on.changed → refuses_by empty_stops a ≡ false
-      goes (inl x) = empty_goes a _ _ _ _ x.swapped.does
-      goes (inr y) = subst (λ v. refuses_by empty_stops v ≡ false) (sym y.0.0) refl
+      goes : OwnSwapsEmpty a old.spaces new.spaces on.own on.changed → refuses_by part_stops a ≡ false
+      goes (inl x) = wrapped_goes x.swapped.does.r a x.swapped.does.told
+      goes (inr y) = subst (λ v. refuses_by part_stops v ≡ false) (sym y.0.0) refl
 
-  pub fresh_whole : (a : Result (Unit {0}) SwapFreshFault) → OnOwn k j (OwnSwapsFresh a old.spaces new.spaces) old.cpu new.cpu → WholeStep old (SwapFresh k c) a new
+  pub fresh_whole : (a : Result (Unit {0}) (PartFault FreshFault)) → OnOwn k j (OwnSwapsFresh a old.spaces new.spaces) old.cpu new.cpu → WholeStep old (SwapFresh k c) a new
   fresh_whole a on = tried (SwapsFresh a) _ (SwapFresh k c) a (λ h. refl) (λ sizes. tt) (λ m n. tt) (goes on.does) (λ x. inl x)
       (λ why u. inr (elim why [
         | inl memory ↦ inl (memory.0, (j, number, (served.0, served.1, memory.1)), u)
         | inr none ↦ inr (none.0, one_served old k c j (λ o. BothFull o.cpu) number served.0 served.1 none.1, u)
       ])) on on.does
     where
-      goes : OwnSwapsFresh a old.spaces new.spaces on.own on.changed → refuses_by fresh_stops a ≡ false
+      goes : OwnSwapsFresh a old.spaces new.spaces on.own on.changed → refuses_by part_stops a ≡ false
       goes (inl x) = fresh_goes a _ _ _ _ x.swapped.does
       goes (inr y) = elim y.0 [
-        | inl memory ↦ subst (λ v. refuses_by fresh_stops v ≡ false) (sym memory.0) refl
-        | inr none ↦ subst (λ v. refuses_by fresh_stops v ≡ false) (sym none.0) refl
+        | inl memory ↦ subst (λ v. refuses_by part_stops v ≡ false) (sym memory.0) refl
+        | inr none ↦ subst (λ v. refuses_by part_stops v ≡ false) (sym none.0) refl
       ]

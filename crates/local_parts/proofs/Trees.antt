@@ -7,19 +7,12 @@ use Rattle.arena_tree.specs.Chains.{source_of, quantum_in}
 use Rattle.stock.specs.Spaces.{SpaceState, SpacePlan, plan_of, plans_of}
 use Rattle.local_parts.specs.States.{tree_of}
 
-quantum_at : (plans : List SpacePlan) (sizes : List TreeArena) (k : ℕ) (p : SpacePlan) → slice_get plans k ≡ Some p → quantum_in (tree_of plans sizes) k ≡ p.quantum
-quantum_at [] sizes k p at = absurd (let e : None ≡ Some p = at in cc)
-quantum_at (z ∷ plans) [] zero p at = ap (λ (x : SpacePlan). x.quantum) (let e : Some z ≡ Some p = at in let d : z ≡ p = cc in d)
-quantum_at (z ∷ plans) (x ∷ sizes) zero p at = ap (λ (x : SpacePlan). x.quantum) (let e : Some z ≡ Some p = at in let d : z ≡ p = cc in d)
-quantum_at (z ∷ plans) [] (suc k) p at = quantum_at plans [] k p at
-quantum_at (z ∷ plans) (x ∷ sizes) (suc k) p at = quantum_at plans sizes k p at
-
-source_at : (plans : List SpacePlan) (sizes : List TreeArena) (k : ℕ) (p : SpacePlan) → slice_get plans k ≡ Some p → source_of (tree_of plans sizes) k ≡ p.source
-source_at [] sizes k p at = absurd (let e : None ≡ Some p = at in cc)
-source_at (z ∷ plans) [] zero p at = ap (λ (x : SpacePlan). x.source) (let e : Some z ≡ Some p = at in let d : z ≡ p = cc in d)
-source_at (z ∷ plans) (x ∷ sizes) zero p at = ap (λ (x : SpacePlan). x.source) (let e : Some z ≡ Some p = at in let d : z ≡ p = cc in d)
-source_at (z ∷ plans) [] (suc k) p at = source_at plans [] k p at
-source_at (z ∷ plans) (x ∷ sizes) (suc k) p at = source_at plans sizes k p at
+plan_read : (plans : List SpacePlan) (sizes : List TreeArena) (k : ℕ) (p : SpacePlan) → slice_get plans k ≡ Some p → (quantum_in (tree_of plans sizes) k ≡ p.quantum) × (source_of (tree_of plans sizes) k ≡ p.source)
+plan_read [] sizes k p at = absurd (let e : None ≡ Some p = at in cc)
+plan_read (z ∷ plans) [] zero p at = let e : Some z ≡ Some p = at in let is : z ≡ p = cc in (ap (λ (x : SpacePlan). x.quantum) is, ap (λ (x : SpacePlan). x.source) is)
+plan_read (z ∷ plans) (x ∷ sizes) zero p at = let e : Some z ≡ Some p = at in let is : z ≡ p = cc in (ap (λ (x : SpacePlan). x.quantum) is, ap (λ (x : SpacePlan). x.source) is)
+plan_read (z ∷ plans) [] (suc k) p at = plan_read plans [] k p at
+plan_read (z ∷ plans) (x ∷ sizes) (suc k) p at = plan_read plans sizes k p at
 
 length_at : (plans : List SpacePlan) (sizes : List TreeArena) → length (tree_of plans sizes) ≡ length plans
 length_at [] sizes = refl
@@ -31,10 +24,10 @@ plan_count [] = refl
 plan_count (s ∷ spaces) = ap suc (plan_count spaces)
 
 pub quantum_here : (spaces : List SpaceState) (sizes : List TreeArena) (k : ℕ) (s : SpaceState) → slice_get spaces k ≡ Some s → quantum_in (tree_of (plans_of spaces) sizes) k ≡ s.arena.quantum
-quantum_here spaces sizes k s at = quantum_at (plans_of spaces) sizes k (plan_of s) (slice_get_mapped plan_of spaces k s at)
+quantum_here spaces sizes k s at = (plan_read (plans_of spaces) sizes k (plan_of s) (slice_get_mapped plan_of spaces k s at)).0
 
 pub source_here : (spaces : List SpaceState) (sizes : List TreeArena) (k : ℕ) (s : SpaceState) → slice_get spaces k ≡ Some s → source_of (tree_of (plans_of spaces) sizes) k ≡ s.source
-source_here spaces sizes k s at = source_at (plans_of spaces) sizes k (plan_of s) (slice_get_mapped plan_of spaces k s at)
+source_here spaces sizes k s at = (plan_read (plans_of spaces) sizes k (plan_of s) (slice_get_mapped plan_of spaces k s at)).1
 
 pub within_tree : (spaces : List SpaceState) (sizes : List TreeArena) (k : ℕ) → k < length (tree_of (plans_of spaces) sizes) → k < length spaces
 within_tree spaces sizes k lt = omega (arith, lt, length_at (plans_of spaces) sizes, plan_count spaces)

@@ -1,6 +1,5 @@
 pub mod Cpus
 pub mod States
-pub mod Words
 pub mod SharedSteps
 pub mod OwnSteps
 pub mod Steps

@@ -7,15 +7,16 @@ use Rattle.magazine_layer.specs.Depots.{DepotState}
 use Rattle.magazine_layer.specs.Calls.{PopOf, PushOf}
 use Rattle.magazine_layer.specs.declared.faults.PutFullFault.{PutFullFault}
 use Rattle.magazine_layer.specs.declared.faults.PutFullFault.TheVariants as fresh_fault
+use Rattle.arena_tree.specs.declared.part_faults.PartFault.{PartFault}
+use Rattle.arena_tree.specs.declared.part_faults.FreshFault.{FreshFault}
 use Rattle.arena_tree.specs.declared.part_faults.ChangeFault.{ChangeFault}
+use Rattle.magazine_layer.specs.declared.faults.FullFault.{FullFault}
+use Rattle.magazine_layer.specs.declared.faults.EmptyFault.{EmptyFault}
+use Rattle.arena_tree.specs.declared.part_faults.PartFault.TheVariants as asking
 use Rattle.arena_tree.specs.declared.part_faults.ChangeFault.TheVariants.{NotGreater, NoMemory}
-use Rattle.arena_tree.specs.declared.part_faults.ChangeFault.TheVariants.{Stopped}
-use Rattle.arena_tree.specs.declared.part_faults.SwapFullFault.{SwapFullFault}
-use Rattle.arena_tree.specs.declared.part_faults.SwapFullFault.TheVariants.{NoneFull}
-use Rattle.arena_tree.specs.declared.part_faults.SwapEmptyFault.{SwapEmptyFault}
-use Rattle.arena_tree.specs.declared.part_faults.SwapEmptyFault.TheVariants.{NoneEmpty}
-use Rattle.arena_tree.specs.declared.part_faults.SwapFreshFault.{SwapFreshFault}
-use Rattle.arena_tree.specs.declared.part_faults.SwapFreshFault.TheVariants as freshing
+use Rattle.magazine_layer.specs.declared.faults.FullFault.TheVariants.{NoneFull}
+use Rattle.magazine_layer.specs.declared.faults.EmptyFault.TheVariants.{NoneEmpty}
+use Rattle.arena_tree.specs.declared.part_faults.FreshFault.TheVariants as freshing
 use Rattle.stock.specs.Spaces.{SpaceState, plans_of}
 use Rattle.stock.specs.Stocks.{IsRoundOf, IsStock}
 use Rattle.stock.specs.Accounts.{Frames}
@@ -54,7 +55,6 @@ abbrev pub OwnChanges : ℕ → Result (Unit {0}) ChangeFault → OwnCacheState 
 OwnChanges size (Ok _) o o' = OwnGrows size o o'
 OwnChanges size (Err NoMemory) o o' = (o' ≡ o) × CanChange size o
 OwnChanges size (Err NotGreater) o o' = (o' ≡ o) × (¬ CanChange size o)
-OwnChanges size (Err Stopped) o o' = ⊥
 
 -- it exchanged a magazine with the depot of the stock's cache at that index, or was refused there
 pub record OwnExchanges (k j : ℕ)
@@ -74,18 +74,20 @@ OwnTries why P old new o o' = OwnExchanges o.arena o.cache P old new o o'
     ⊎ (why o × (o' ≡ o) × (new ≡ old))
 
 -- of the three exchanges
-abbrev pub OwnSwapsFull : Result (Unit {0}) SwapFullFault → List SpaceState → List SpaceState
-    → OwnCacheState → OwnCacheState → Type 0
-OwnSwapsFull a = OwnTries (λ o. (a ≡ Err NoneFull) × (¬ BothEmpty o.cpu)) (SwapsFull a)
+abbrev pub OwnSwapsFull : Result (Unit {0}) (PartFault FullFault) → List SpaceState
+    → List SpaceState → OwnCacheState → OwnCacheState → Type 0
+OwnSwapsFull a =
+    OwnTries (λ o. (a ≡ Err (asking.Refused NoneFull)) × (¬ BothEmpty o.cpu)) (SwapsFull a)
 
-abbrev pub OwnSwapsEmpty : Result (Unit {0}) SwapEmptyFault → List SpaceState → List SpaceState
-    → OwnCacheState → OwnCacheState → Type 0
-OwnSwapsEmpty a = OwnTries (λ o. (a ≡ Err NoneEmpty) × (¬ BothFull o.cpu)) (SwapsEmpty a)
+abbrev pub OwnSwapsEmpty : Result (Unit {0}) (PartFault EmptyFault) → List SpaceState
+    → List SpaceState → OwnCacheState → OwnCacheState → Type 0
+OwnSwapsEmpty a =
+    OwnTries (λ o. (a ≡ Err (asking.Refused NoneEmpty)) × (¬ BothFull o.cpu)) (SwapsEmpty a)
 
-abbrev pub OwnSwapsFresh : Result (Unit {0}) SwapFreshFault → List SpaceState → List SpaceState
-    → OwnCacheState → OwnCacheState → Type 0
-OwnSwapsFresh a = OwnTries (λ o. ((a ≡ Err freshing.NoMemory) × BothFull o.cpu)
-    ⊎ ((a ≡ Err freshing.NotFull) × (¬ BothFull o.cpu))) (SwapsFresh a)
+abbrev pub OwnSwapsFresh : Result (Unit {0}) (PartFault FreshFault) → List SpaceState
+    → List SpaceState → OwnCacheState → OwnCacheState → Type 0
+OwnSwapsFresh a = OwnTries (λ o. ((a ≡ Err (asking.Refused freshing.NoMemory)) × BothFull o.cpu)
+    ⊎ ((a ≡ Err (asking.Refused freshing.NotFull)) × (¬ BothFull o.cpu))) (SwapsFresh a)
 
 -- the magazine that comes back with a refusal is empty
 abbrev pub EndsEmpty : Result (Unit {0}) (PutFullFault MagazineState) → Type 0

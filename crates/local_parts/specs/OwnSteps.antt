@@ -8,22 +8,23 @@ use Rattle.magazine_layer.specs.Calls.{PopOf, PushOf, SwapFullOf, SwapEmptyOf, P
 use Rattle.magazine_layer.specs.declared.faults.FullFault.{FullFault}
 use Rattle.magazine_layer.specs.declared.faults.EmptyFault.{EmptyFault}
 use Rattle.magazine_layer.specs.declared.faults.PutFullFault.{PutFullFault}
-use Rattle.arena_tree.specs.declared.part_faults.SwapFullFault.{SwapFullFault}
-use Rattle.arena_tree.specs.declared.part_faults.SwapFullFault.TheVariants.{NoneFull}
-use Rattle.arena_tree.specs.declared.part_faults.SwapEmptyFault.{SwapEmptyFault}
-use Rattle.arena_tree.specs.declared.part_faults.SwapEmptyFault.TheVariants.{NoneEmpty}
-use Rattle.arena_tree.specs.declared.part_faults.SwapFreshFault.{SwapFreshFault}
-use Rattle.arena_tree.specs.declared.part_faults.SwapFreshFault.TheVariants as freshing
-use Rattle.arena_tree.specs.declared.part_faults.PushFault.{PushFault}
-use Rattle.arena_tree.specs.declared.part_faults.PushFault.TheVariants.{NoRoom}
+use Rattle.arena_tree.specs.declared.part_faults.PartFault.{PartFault}
+use Rattle.arena_tree.specs.declared.part_faults.GivenFault.{GivenFault}
+use Rattle.arena_tree.specs.declared.part_faults.FreshFault.{FreshFault}
 use Rattle.arena_tree.specs.declared.part_faults.ChangeFault.{ChangeFault}
+use Rattle.arena_tree.specs.declared.part_faults.PartFault.TheVariants as asking
+use Rattle.arena_tree.specs.declared.part_faults.GivenFault.TheVariants as giving
+use Rattle.magazine_layer.specs.declared.faults.FullFault.TheVariants.{NoneFull}
+use Rattle.magazine_layer.specs.declared.faults.EmptyFault.TheVariants.{NoneEmpty}
+use Rattle.magazine_layer.specs.declared.faults.PutFullFault.TheVariants as fresh_fault
+use Rattle.arena_tree.specs.declared.part_faults.FreshFault.TheVariants as freshing
 use Rattle.arena_tree.specs.declared.part_faults.ChangeFault.TheVariants as changing
 use Rattle.arena_tree.specs.declared.part_faults.Stopped.{Stopped}
 use Rattle.stock.specs.Stocks.{IsRoundOf}
 use Rattle.stock.specs.OwnCaches.{OwnCacheState, IsAtIndexesOf}
 use Rattle.stock.specs.Steps.{OnDepot}
 use Rattle.local_parts.specs.Cpus.{OnOwn}
-use Rattle.local_parts.specs.Words.{wording_of, full_word, empty_word, fresh_word}
+use Rattle.arena_tree.specs.Tags.{wording_of}
 use Rattle.local_parts.specs.States.{LocalState, IsReached, HasReached, IsUnchanged}
 
 -- the CPU's cache that serves the arena's cache of c quanta changed so, and nothing else did
@@ -59,11 +60,11 @@ pub record CanPush (t : Tag) (k c : ℕ) (o : OwnCacheState) : Type 0 where
 
 -- a chunk of the cache was kept; it is back where there is no room, where it is no chunk of the
 -- cache, or no cache serves it
-abbrev pub DoesPush : LocalState → ℕ → ℕ → Tag → Result (Unit {0}) (PushFault Tag) → LocalState
-    → Type 0
+abbrev pub DoesPush : LocalState → ℕ → ℕ → Tag → Result (Unit {0}) (GivenFault Tag Tag)
+    → LocalState → Type 0
 DoesPush old k c t a new = ((a ≡ Ok tt) × OneReached old k c (λ o. IsRoundOf k c o.quantum t)
     × OnReached old k c (λ x y. PushOf x t (Ok tt) y) new)
-    ⊎ ((a ≡ Err (NoRoom t)) × NoneReached old k c (CanPush t k c) × IsUnchanged old new)
+    ⊎ ((a ≡ Err (giving.Refused t)) × NoneReached old k c (CanPush t k c) × IsUnchanged old new)
 
 -- the size is one of a magazine, and greater than the CPU's
 pub record CanChange (size : ℕ) (o : OwnCacheState) : Type 0 where
@@ -78,54 +79,63 @@ pub record ChangesTo (size : ℕ) (x y : CpuCacheState) : Type 0 where
 
 -- the CPU changed over; it is refused where the size isn't greater or none of a magazine, or no
 -- cache serves it; else it is out of memory
-abbrev pub DoesChange : LocalState → ℕ → ℕ → ℕ → Result (Unit {0}) ChangeFault → LocalState
-    → Type 0
+abbrev pub DoesChange : LocalState → ℕ → ℕ → ℕ → Result (Unit {0}) (PartFault ChangeFault)
+    → LocalState → Type 0
 DoesChange old k c size a new = ((a ≡ Ok tt) × OnReached old k c (ChangesTo size) new)
-    ⊎ ((a ≡ Err changing.NoMemory) × OneReached old k c (CanChange size) × IsUnchanged old new)
-    ⊎ ((a ≡ Err changing.NotGreater) × NoneReached old k c (CanChange size) × IsUnchanged old new)
+    ⊎ ((a ≡ Err (asking.Refused changing.NoMemory)) × OneReached old k c (CanChange size)
+    × IsUnchanged old new)
+    ⊎ ((a ≡ Err (asking.Refused changing.NotGreater)) × NoneReached old k c (CanChange size)
+    × IsUnchanged old new)
 
 -- both magazines being empty, a full one came for one of them, or was refused
-pub record SwapsFull (a : Result (Unit {0}) SwapFullFault) (x : CpuCacheState) (d : DepotState)
-    (y : CpuCacheState) (e : DepotState) : Type 0 where
+pub record SwapsFull (a : Result (Unit {0}) (PartFault FullFault)) (x : CpuCacheState)
+    (d : DepotState) (y : CpuCacheState) (e : DepotState) : Type 0 where
   pub empty : BothEmpty x
   pub r : Result (Unit {0}) FullFault
   pub did : SwapFullOf x d r y e
-  pub told : a ≡ wording_of full_word r
+  pub told : a ≡ wording_of asking.Refused r
 
 -- both being full, an empty one came for one of them, or was refused
-pub record SwapsEmpty (a : Result (Unit {0}) SwapEmptyFault) (x : CpuCacheState) (d : DepotState)
-    (y : CpuCacheState) (e : DepotState) : Type 0 where
+pub record SwapsEmpty (a : Result (Unit {0}) (PartFault EmptyFault)) (x : CpuCacheState)
+    (d : DepotState) (y : CpuCacheState) (e : DepotState) : Type 0 where
   pub full : BothFull x
   pub r : Result (Unit {0}) EmptyFault
   pub did : SwapEmptyOf x d r y e
-  pub told : a ≡ wording_of empty_word r
+  pub told : a ≡ wording_of asking.Refused r
+
+-- the magazine that comes back with a refusal is ended
+abbrev pub fresh_word : PutFullFault MagazineState → PartFault FreshFault
+fresh_word (fresh_fault.OldSize size back) = asking.Refused (freshing.OldSize size)
+fresh_word (fresh_fault.NoMemory back) = asking.Refused freshing.NoMemory
 
 -- both being full, a fresh one of the CPU's size came for one of them, or was refused
-pub record SwapsFresh (a : Result (Unit {0}) SwapFreshFault) (x : CpuCacheState) (d : DepotState)
-    (y : CpuCacheState) (e : DepotState) : Type 0 where
+pub record SwapsFresh (a : Result (Unit {0}) (PartFault FreshFault)) (x : CpuCacheState)
+    (d : DepotState) (y : CpuCacheState) (e : DepotState) : Type 0 where
   pub full : BothFull x
   pub r : Result (Unit {0}) (PutFullFault MagazineState)
   pub did : PutFullOf x d (empty_magazine x.size) r y e
   pub told : a ≡ wording_of fresh_word r
 
 -- NoneFull comes too where the CPU's magazines aren't both empty, or no cache serves it
-abbrev pub DoesSwapFull : LocalState → ℕ → ℕ → Result (Unit {0}) SwapFullFault → LocalState
-    → Type 0
+abbrev pub DoesSwapFull : LocalState → ℕ → ℕ → Result (Unit {0}) (PartFault FullFault)
+    → LocalState → Type 0
 DoesSwapFull old k c a new = OnExchange old k c (SwapsFull a) new
-    ⊎ ((a ≡ Err NoneFull) × NoneReached old k c (λ o. BothEmpty o.cpu) × IsUnchanged old new)
+    ⊎ ((a ≡ Err (asking.Refused NoneFull)) × NoneReached old k c (λ o. BothEmpty o.cpu)
+    × IsUnchanged old new)
 
 -- NoneEmpty comes too where the CPU's magazines aren't both full, or no cache serves it
-abbrev pub DoesSwapEmpty : LocalState → ℕ → ℕ → Result (Unit {0}) SwapEmptyFault → LocalState
-    → Type 0
+abbrev pub DoesSwapEmpty : LocalState → ℕ → ℕ → Result (Unit {0}) (PartFault EmptyFault)
+    → LocalState → Type 0
 DoesSwapEmpty old k c a new = OnExchange old k c (SwapsEmpty a) new
-    ⊎ ((a ≡ Err NoneEmpty) × NoneReached old k c (λ o. BothFull o.cpu) × IsUnchanged old new)
+    ⊎ ((a ≡ Err (asking.Refused NoneEmpty)) × NoneReached old k c (λ o. BothFull o.cpu)
+    × IsUnchanged old new)
 
 -- NotFull comes where the CPU's magazines aren't both full, or no cache serves it; NoMemory comes
 -- too where no magazine can be made
-abbrev pub DoesSwapFresh : LocalState → ℕ → ℕ → Result (Unit {0}) SwapFreshFault → LocalState
-    → Type 0
+abbrev pub DoesSwapFresh : LocalState → ℕ → ℕ → Result (Unit {0}) (PartFault FreshFault)
+    → LocalState → Type 0
 DoesSwapFresh old k c a new = OnExchange old k c (SwapsFresh a) new
-    ⊎ ((a ≡ Err freshing.NoMemory) × OneReached old k c (λ o. BothFull o.cpu)
+    ⊎ ((a ≡ Err (asking.Refused freshing.NoMemory)) × OneReached old k c (λ o. BothFull o.cpu)
     × IsUnchanged old new)
-    ⊎ ((a ≡ Err freshing.NotFull) × NoneReached old k c (λ o. BothFull o.cpu)
+    ⊎ ((a ≡ Err (asking.Refused freshing.NotFull)) × NoneReached old k c (λ o. BothFull o.cpu)
     × IsUnchanged old new)

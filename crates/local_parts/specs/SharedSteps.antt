@@ -11,34 +11,32 @@ use Rattle.slab_layer.specs.Calls.{TakeOf, AddOf, ReapOf}
 use Rattle.slab_layer.specs.declared.faults.AddFault.{AddFault}
 use Rattle.slab_layer.specs.declared.faults.PutFault.{PutFault}
 use Rattle.magazine_layer.specs.Calls.{DepotReapOf}
-use Rattle.arena_tree.specs.declared.part_faults.CarveFault.{CarveFault}
-use Rattle.arena_tree.specs.declared.part_faults.FreeFault.{FreeFault}
-use Rattle.arena_tree.specs.declared.part_faults.FreeFault.TheVariants.{BadFree}
-use Rattle.arena_tree.specs.declared.part_faults.AddCarveFault.{AddCarveFault}
-use Rattle.arena_tree.specs.declared.part_faults.SlabPutFault.{SlabPutFault}
-use Rattle.arena_tree.specs.declared.part_faults.SlabAddFault.{SlabAddFault}
-use Rattle.arena_tree.specs.declared.part_faults.SlabAddFault.TheVariants.{WrongSize}
+use Rattle.arena_tree.specs.declared.part_faults.PartFault.{PartFault}
+use Rattle.arena_tree.specs.declared.part_faults.GivenFault.{GivenFault}
+use Rattle.arena_tree.specs.declared.part_faults.PartFault.TheVariants as asking
+use Rattle.arena_tree.specs.declared.part_faults.GivenFault.TheVariants as giving
+use Rattle.slab_layer.specs.declared.faults.AddFault.TheVariants.{WrongSize}
 use Rattle.arena_tree.specs.declared.part_faults.Stopped.{Stopped}
 use Rattle.stock.specs.Spaces.{SpaceState, HasCache}
 use Rattle.stock.specs.Steps.{OnArena, OnSlab, OnDepot, FreeIn, PutIn}
-use Rattle.local_parts.specs.Words.{wording_of, carve_word, import_word, put_word, add_word}
+use Rattle.arena_tree.specs.Tags.{wording_of}
 
 -- the arena carved, or refused
-abbrev pub DoesCarve : List SpaceState → ℕ → Request → Result Tag CarveFault → List SpaceState
-    → Type 0
-DoesCarve old k q a new = (r : Result Tag ArenaFault) × (a ≡ wording_of carve_word r)
+abbrev pub DoesCarve : List SpaceState → ℕ → Request → Result Tag (PartFault ArenaFault)
+    → List SpaceState → Type 0
+DoesCarve old k q a new = (r : Result Tag ArenaFault) × (a ≡ wording_of asking.Refused r)
     × OnArena k (λ x y. CarveOf x q r y) old new
 
 -- the segment was freed, or refused
-abbrev pub DoesFree : List SpaceState → Tag → Result (Option Tag) (FreeFault Tag)
+abbrev pub DoesFree : List SpaceState → Tag → Result (Option Tag) (GivenFault Tag Tag)
     → List SpaceState → Type 0
 DoesFree old t a new =
-    (r : Result (Option Tag) Tag) × (a ≡ wording_of BadFree r) × FreeIn old t r new
+    (r : Result (Option Tag) Tag) × (a ≡ wording_of giving.Refused r) × FreeIn old t r new
 
 -- the span was imported and carved from, or refused
-abbrev pub DoesImport : List SpaceState → ℕ → Tag → ℕ → Result Tag (AddCarveFault Tag)
+abbrev pub DoesImport : List SpaceState → ℕ → Tag → ℕ → Result Tag (GivenFault (SpanFault Tag) Tag)
     → List SpaceState → Type 0
-DoesImport old k span n a new = (r : Result Tag (SpanFault Tag)) × (a ≡ wording_of import_word r)
+DoesImport old k span n a new = (r : Result Tag (SpanFault Tag)) × (a ≡ wording_of giving.Refused r)
     × OnArena k (λ x y. ImportOf x span (plain_of n) r y) old new
 
 -- the arena's cache of c quanta stands at the index j, of which the first is so; else the second is
@@ -66,15 +64,15 @@ DoesDepotReap old k c a new = (o : Option Tag) × (a ≡ Ok o)
     ((o ≡ None) × (new ≡ old))
 
 -- the chunk was put back, or refused
-abbrev pub DoesPut : List SpaceState → Tag → Result (Unit {0}) (SlabPutFault Tag)
+abbrev pub DoesPut : List SpaceState → Tag → Result (Unit {0}) (GivenFault (PutFault Tag) Tag)
     → List SpaceState → Type 0
-DoesPut old t a new = (r : Result (Unit {0}) (PutFault Tag)) × (a ≡ wording_of put_word r)
+DoesPut old t a new = (r : Result (Unit {0}) (PutFault Tag)) × (a ≡ wording_of giving.Refused r)
     × PutIn old t r new
 
 -- the span was cut into a slab, or refused: its size is wrong where there is no such cache
-abbrev pub DoesAdd : List SpaceState → ℕ → ℕ → Tag → Result Tag (SlabAddFault Tag)
+abbrev pub DoesAdd : List SpaceState → ℕ → ℕ → Tag → Result Tag (GivenFault (AddFault Tag) Tag)
     → List SpaceState → Type 0
 DoesAdd old k c span a new = OfCache old k c
-    (λ j. (r : Result Tag (AddFault Tag)) × (a ≡ wording_of add_word r)
+    (λ j. (r : Result Tag (AddFault Tag)) × (a ≡ wording_of giving.Refused r)
     × OnSlab k j (λ x y. AddOf x span r y) old new)
-    ((a ≡ Err (WrongSize span)) × (new ≡ old))
+    ((a ≡ Err (giving.Refused (WrongSize span))) × (new ≡ old))

@@ -9,8 +9,9 @@ ghost use Rattle.local_parts.specs.OwnChanges.{OwnSwapsFull, OwnSwapsEmpty, OwnS
 ghost use Rattle.local_parts.specs.States.{HasReached};
 
 use crate::own_changes::{change_own, push_own, swap_empty_own, swap_fresh_own, swap_full_own};
-use arena_tree::{ChangeFault, SwapEmptyFault, SwapFreshFault, SwapFullFault};
+use arena_tree::{ChangeFault, FreshFault, PartFault};
 use deed_core::{Deed, Segment};
+use magazine_layer::{EmptyFault, FullFault};
 use std::alloc::Global;
 use std::marker::Model;
 use stock::{OwnCache, Stock};
@@ -92,7 +93,7 @@ impl<D: Deed> CpuCaches<D> {
         stock: &mut Stock<D>,
         arena: usize,
         cache: usize,
-    ) -> Result<(), SwapFullFault>
+    ) -> Result<(), PartFault<FullFault>>
         requires { HasReached (record { spaces = stock.old; cpu = self.old }) arena cache }
         ensures { OnOwn arena cache (OwnSwapsFull result stock.old stock.new)
             self.old self.new }
@@ -108,7 +109,7 @@ impl<D: Deed> CpuCaches<D> {
         stock: &mut Stock<D>,
         arena: usize,
         cache: usize,
-    ) -> Result<(), SwapEmptyFault>
+    ) -> Result<(), PartFault<EmptyFault>>
         requires { HasReached (record { spaces = stock.old; cpu = self.old }) arena cache }
         ensures { OnOwn arena cache (OwnSwapsEmpty result stock.old stock.new)
             self.old self.new }
@@ -125,7 +126,7 @@ impl<D: Deed> CpuCaches<D> {
         stock: &mut Stock<D>,
         arena: usize,
         cache: usize,
-    ) -> Result<(), SwapFreshFault>
+    ) -> Result<(), PartFault<FreshFault>>
         requires { HasReached (record { spaces = stock.old; cpu = self.old }) arena cache }
         ensures { OnOwn arena cache (OwnSwapsFresh result stock.old stock.new)
             self.old self.new }

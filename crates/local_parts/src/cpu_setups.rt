@@ -35,7 +35,7 @@ impl<D: Deed> CpuCaches<D> {
         }
     }
 
-    // Adds a row for each arena. Out of memory, the rows added so far are left, all of them empty.
+    /// Adds a row for each arena. Out of memory, the rows added so far are left, all of them empty.
     fn fill(&mut self, alloc: Global, stock: &Stock<D>, size: usize) -> Result<(), AllocError>
         requires none { self.old ≡ [] }
         requires size { IsSize size }
@@ -93,7 +93,7 @@ impl<D: Deed> CpuCaches<D> {
 }
 
 impl<D: Deed> ArenaCaches<D> {
-    // Those of one arena of the stock.
+    /// Those of one arena of the stock.
     fn new(
         alloc: Global,
         stock: &Stock<D>,
@@ -146,7 +146,7 @@ impl<D: Deed> ArenaCaches<D> {
         Ok(())
     }
 
-    // The units of their rounds, or the greatest number where they are more.
+    /// The units of their rounds, or the greatest number where they are more.
     fn units(&self) -> u128
         ensures { result ≡ min (units_tagged (all_own_rounds self.now)) (2 ^ 128 - 1) }
     {
@@ -157,7 +157,7 @@ impl<D: Deed> ArenaCaches<D> {
         total
     }
 
-    // Whether they have no round.
+    /// Whether they have no round.
     fn is_empty(&self) -> bool
         ensures { IsTrue result ↔ All HasNoRound self.now }
     {

@@ -18,14 +18,11 @@
 //! them, goes over all of them.
 #![tactic(auto)]
 
-mod arena_events;
-mod cache_events;
 mod cpu_caches;
 mod cpu_setups;
 mod laws;
 mod locals;
 mod own_changes;
-mod own_events;
 
 pub use cpu_caches::CpuCaches;
 pub use laws::{empty_cpu_law, local_laws, pop_law};

@@ -1,21 +1,19 @@
 //! What one thread can reach.
-ghost use Rattle.std.specs.Prelude.{◌≡◌, length};
+ghost use Rattle.std.specs.Prelude.{◌≡◌, ℕ, ◌+◌, IfSome, IfNone, length};
 ghost use Rattle.stock.specs.Spaces.{plans_of};
 ghost use Rattle.local_parts.specs.Cpus.{cpu_rounds};
-ghost use Rattle.local_parts.specs.States.{tree_of};
+ghost use Rattle.stock.specs.OwnCaches.{OwnCacheState};
+ghost use Rattle.local_parts.specs.States.{IsReached, HasReached, tree_of};
 ghost use Rattle.local_parts.specs.Steps.{LocalStep};
 
-use crate::arena_events::{carve_of, free_of, import_of};
-use crate::cache_events::{add_of, depot_reap_of, put_of, reap_of, take_of};
 use crate::cpu_caches::CpuCaches;
-use crate::own_events::{change_of, pop_of, push_of, swap_empty_of, swap_fresh_of, swap_full_of};
-use arena_tree::{
-    AddCarveFault, CarveFault, ChangeFault, FreeFault, Parts, PushFault, SlabAddFault,
-    SlabPutFault, Stopped, SwapEmptyFault, SwapFreshFault, SwapFullFault, Tree,
-};
+use arena_tree::{ChangeFault, FreshFault, GivenFault, PartFault, Parts, Stopped, Tree};
 use deed_core::{Deed, Request, Segment};
+use magazine_layer::{EmptyFault, FullFault};
+use slab_layer::{AddFault, PutFault};
 use std::alloc::Global;
 use stock::Stock;
+use tag_arena::{ArenaFault, SpanFault};
 
 /// A stock and one CPU's caches, both lent, as the parts that one thread can reach.
 #[derive(Drop)]
@@ -28,6 +26,23 @@ pub struct Local<'a, D: Deed> {
     pub alloc: Global,
     /// How many events of shared parts there were.
     pub steps: u64,
+}
+
+/// The index of the CPU's cache that serves the arena's cache of chunks of so many quanta.
+fn served<D: Deed>(stock: &Stock<D>, cpu: &CpuCaches<D>, arena: u32, cache: u8) -> Option<usize>
+    ensures some { IfSome result (λ j. (cache ≡ j + 1)
+        × HasReached (record { spaces = stock.now; cpu = cpu.now }) arena j) }
+    ensures none { IfNone result ((j : ℕ) (o : OwnCacheState) → cache ≡ j + 1
+        → ¬ IsReached (record { spaces = stock.now; cpu = cpu.now }) arena j o) }
+{
+    let Some(index) = stock.cache_at(arena, cache) else {
+        return None;
+    };
+    let quantum = stock.quantum(arena as usize);
+    if !cpu.is_at(arena as usize, index, quantum) {
+        return None;
+    }
+    Some(index)
 }
 
 impl<D: Deed> Parts<Segment<D>> for Local<'_, D> {
@@ -46,14 +61,28 @@ impl<D: Deed> Parts<Segment<D>> for Local<'_, D> {
         self.steps
     }
 
-    fn carve(&mut self, arena: u32, request: &Request) -> Result<Segment<D>, CarveFault> {
+    fn carve(
+        &mut self,
+        arena: u32,
+        request: &Request,
+    ) -> Result<Segment<D>, PartFault<ArenaFault>> {
         self.steps = self.steps.saturating_add(1);
-        carve_of(self.stock, arena, request)
+        // For its clause, here and below: what is always so of a stock.
+        let _ = self.stock.count();
+        let carved = self.stock.carve(arena as usize, request);
+        let _ = self.stock.count();
+        PartFault::wrap(carved)
     }
 
-    fn free(&mut self, segment: Segment<D>) -> Result<Option<Segment<D>>, FreeFault<Segment<D>>> {
+    fn free(
+        &mut self,
+        segment: Segment<D>,
+    ) -> Result<Option<Segment<D>>, GivenFault<Segment<D>, Segment<D>>> {
         self.steps = self.steps.saturating_add(1);
-        free_of(self.stock, segment)
+        let _ = self.stock.count();
+        let freed = self.stock.free(segment);
+        let _ = self.stock.count();
+        GivenFault::wrap(freed)
     }
 
     fn add_carve(
@@ -61,19 +90,37 @@ impl<D: Deed> Parts<Segment<D>> for Local<'_, D> {
         child: u32,
         segment: Segment<D>,
         size: u64,
-    ) -> Result<Segment<D>, AddCarveFault<Segment<D>>> {
+    ) -> Result<Segment<D>, GivenFault<SpanFault<Segment<D>>, Segment<D>>> {
         self.steps = self.steps.saturating_add(1);
-        import_of(self.stock, child, segment, size)
+        let _ = self.stock.count();
+        // For its clause: what is always so of a range.
+        let _ = segment.range();
+        let request = Request::plain(size);
+        let imported = self.stock.add_carve(child as usize, segment, &request);
+        let _ = self.stock.count();
+        GivenFault::wrap(imported)
     }
 
     fn slab_take(&mut self, arena: u32, cache: u8) -> Result<Option<Segment<D>>, Stopped> {
         self.steps = self.steps.saturating_add(1);
-        take_of(self.stock, arena, cache)
+        let _ = self.stock.count();
+        let Some(index) = self.stock.cache_at(arena, cache) else {
+            return Ok(None);
+        };
+        let taken = self.stock.slab_take(arena as usize, index);
+        let _ = self.stock.count();
+        Ok(taken)
     }
 
-    fn slab_put(&mut self, segment: Segment<D>) -> Result<(), SlabPutFault<Segment<D>>> {
+    fn slab_put(
+        &mut self,
+        segment: Segment<D>,
+    ) -> Result<(), GivenFault<PutFault<Segment<D>>, Segment<D>>> {
         self.steps = self.steps.saturating_add(1);
-        put_of(self.stock, segment)
+        let _ = self.stock.count();
+        let done = self.stock.slab_put(segment);
+        let _ = self.stock.count();
+        GivenFault::wrap(done)
     }
 
     fn slab_add(
@@ -81,40 +128,75 @@ impl<D: Deed> Parts<Segment<D>> for Local<'_, D> {
         arena: u32,
         cache: u8,
         segment: Segment<D>,
-    ) -> Result<Segment<D>, SlabAddFault<Segment<D>>> {
+    ) -> Result<Segment<D>, GivenFault<AddFault<Segment<D>>, Segment<D>>> {
         self.steps = self.steps.saturating_add(1);
-        add_of(self.stock, arena, cache, segment)
+        let _ = self.stock.count();
+        let Some(index) = self.stock.cache_at(arena, cache) else {
+            return Err(GivenFault::Refused(AddFault::WrongSize(segment)));
+        };
+        let added = self.stock.slab_add(arena as usize, index, segment);
+        let _ = self.stock.count();
+        GivenFault::wrap(added)
     }
 
     fn slab_reap(&mut self, arena: u32, cache: u8) -> Result<Option<Segment<D>>, Stopped> {
         self.steps = self.steps.saturating_add(1);
-        reap_of(self.stock, arena, cache)
+        let _ = self.stock.count();
+        let Some(index) = self.stock.cache_at(arena, cache) else {
+            return Ok(None);
+        };
+        let reaped = self.stock.slab_reap(arena as usize, index);
+        let _ = self.stock.count();
+        Ok(reaped)
     }
 
-    fn swap_full(&mut self, arena: u32, cache: u8) -> Result<(), SwapFullFault> {
+    fn swap_full(&mut self, arena: u32, cache: u8) -> Result<(), PartFault<FullFault>> {
         self.steps = self.steps.saturating_add(1);
-        swap_full_of(self.stock, self.cpu, arena, cache)
+        let _ = self.stock.count();
+        let Some(index) = served(self.stock, self.cpu, arena, cache) else {
+            return Err(PartFault::Refused(FullFault::NoneFull));
+        };
+        self.cpu.swap_full_at(self.stock, arena as usize, index)
     }
 
-    fn swap_empty(&mut self, arena: u32, cache: u8) -> Result<(), SwapEmptyFault> {
+    fn swap_empty(&mut self, arena: u32, cache: u8) -> Result<(), PartFault<EmptyFault>> {
         self.steps = self.steps.saturating_add(1);
-        swap_empty_of(self.stock, self.cpu, arena, cache)
+        let _ = self.stock.count();
+        let Some(index) = served(self.stock, self.cpu, arena, cache) else {
+            return Err(PartFault::Refused(EmptyFault::NoneEmpty));
+        };
+        self.cpu.swap_empty_at(self.stock, arena as usize, index)
     }
 
-    fn swap_fresh(&mut self, arena: u32, cache: u8) -> Result<(), SwapFreshFault> {
+    fn swap_fresh(&mut self, arena: u32, cache: u8) -> Result<(), PartFault<FreshFault>> {
         self.steps = self.steps.saturating_add(1);
-        swap_fresh_of(self.alloc, self.stock, self.cpu, arena, cache)
+        let _ = self.stock.count();
+        let Some(index) = served(self.stock, self.cpu, arena, cache) else {
+            return Err(PartFault::Refused(FreshFault::NotFull));
+        };
+        self.cpu
+            .swap_fresh_at(self.alloc, self.stock, arena as usize, index)
     }
 
     fn depot_reap(&mut self, arena: u32, cache: u8) -> Result<Option<Segment<D>>, Stopped> {
         self.steps = self.steps.saturating_add(1);
-        depot_reap_of(self.stock, arena, cache)
+        let _ = self.stock.count();
+        let Some(index) = self.stock.cache_at(arena, cache) else {
+            return Ok(None);
+        };
+        let reaped = self.stock.depot_reap(arena as usize, index);
+        let _ = self.stock.count();
+        Ok(reaped)
     }
 
     fn pop(&mut self, arena: u32, cache: u8) -> Result<Option<Segment<D>>, Stopped> {
-        // For its range, which the count of steps has to keep.
+        // For its range, which the count of steps has to keep; here and below.
         let _steps = self.steps;
-        pop_of(self.stock, self.cpu, arena, cache)
+        let _ = self.stock.count();
+        let Some(index) = served(self.stock, self.cpu, arena, cache) else {
+            return Ok(None);
+        };
+        Ok(self.cpu.pop_at(arena as usize, index))
     }
 
     fn push(
@@ -122,13 +204,25 @@ impl<D: Deed> Parts<Segment<D>> for Local<'_, D> {
         arena: u32,
         cache: u8,
         segment: Segment<D>,
-    ) -> Result<(), PushFault<Segment<D>>> {
+    ) -> Result<(), GivenFault<Segment<D>, Segment<D>>> {
         let _steps = self.steps;
-        push_of(self.stock, self.cpu, arena, cache, segment)
+        let _ = self.stock.count();
+        let Some(index) = served(self.stock, self.cpu, arena, cache) else {
+            return Err(GivenFault::Refused(segment));
+        };
+        match self.cpu.push_at(arena as usize, index, segment) {
+            Ok(()) => Ok(()),
+            Err(segment) => Err(GivenFault::Refused(segment)),
+        }
     }
 
-    fn change(&mut self, arena: u32, cache: u8, size: usize) -> Result<(), ChangeFault> {
+    fn change(&mut self, arena: u32, cache: u8, size: usize) -> Result<(), PartFault<ChangeFault>> {
         let _steps = self.steps;
-        change_of(self.alloc, self.stock, self.cpu, arena, cache, size)
+        let _ = self.stock.count();
+        let Some(index) = served(self.stock, self.cpu, arena, cache) else {
+            return Err(PartFault::Refused(ChangeFault::NotGreater));
+        };
+        let changed = self.cpu.change_at(self.alloc, arena as usize, index, size);
+        PartFault::wrap(changed)
     }
 }

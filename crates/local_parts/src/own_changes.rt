@@ -2,11 +2,12 @@
 ghost use Rattle.std.specs.Prelude.{◌≡◌, []};
 ghost use Rattle.stock.specs.Spaces.{HasCache};
 ghost use Rattle.stock.specs.Steps.{HasQuantum};
-ghost use Rattle.local_parts.specs.Words.{wording_of, full_word, empty_word, fresh_word};
+ghost use Rattle.arena_tree.specs.Tags.{wording_of};
+ghost use Rattle.local_parts.specs.OwnSteps.{fresh_word};
 ghost use Rattle.local_parts.specs.OwnChanges.{OwnPushes, OwnChanges, EndsEmpty};
 ghost use Rattle.local_parts.specs.OwnChanges.{OwnSwapsFull, OwnSwapsEmpty, OwnSwapsFresh};
 
-use arena_tree::{ChangeFault, SwapEmptyFault, SwapFreshFault, SwapFullFault};
+use arena_tree::{ChangeFault, FreshFault, PartFault};
 use deed_core::{Deed, Segment};
 use magazine_layer::{EmptyFault, FullFault, Magazine, PutFullFault, is_magazine_size, two_empty};
 use std::alloc::Global;
@@ -44,80 +45,60 @@ pub(crate) fn change_own<D: Deed>(
 pub(crate) fn swap_full_own<D: Deed>(
     stock: &mut Stock<D>,
     own: &mut OwnCache<D>,
-) -> Result<(), SwapFullFault>
+) -> Result<(), PartFault<FullFault>>
     requires has { HasCache stock.old own.old.arena own.old.cache }
     requires quantum { HasQuantum stock.old own.old.arena own.old.quantum }
     ensures { OwnSwapsFull result stock.old stock.new own.old own.new }
 {
     if !own.is_empty() {
-        return Err(SwapFullFault::NoneFull);
+        return Err(PartFault::Refused(FullFault::NoneFull));
     }
     let swapped = own.swap_full(stock);
     // For its clause, here and below: what is always so of a stock.
     let _ = stock.count();
-    full_in_words(swapped)
-}
-
-fn full_in_words(swapped: Result<(), FullFault>) -> Result<(), SwapFullFault>
-    ensures { result ≡ wording_of full_word swapped }
-{
-    match swapped {
-        Ok(()) => Ok(()),
-        Err(FullFault::OldSize(size)) => Err(SwapFullFault::OldSize(size)),
-        Err(FullFault::NoneFull) => Err(SwapFullFault::NoneFull),
-    }
+    PartFault::wrap(swapped)
 }
 
 pub(crate) fn swap_empty_own<D: Deed>(
     stock: &mut Stock<D>,
     own: &mut OwnCache<D>,
-) -> Result<(), SwapEmptyFault>
+) -> Result<(), PartFault<EmptyFault>>
     requires has { HasCache stock.old own.old.arena own.old.cache }
     requires quantum { HasQuantum stock.old own.old.arena own.old.quantum }
     ensures { OwnSwapsEmpty result stock.old stock.new own.old own.new }
 {
     if !own.is_full() {
-        return Err(SwapEmptyFault::NoneEmpty);
+        return Err(PartFault::Refused(EmptyFault::NoneEmpty));
     }
     let swapped = own.swap_empty(stock);
     let _ = stock.count();
-    empty_in_words(swapped)
-}
-
-fn empty_in_words(swapped: Result<(), EmptyFault>) -> Result<(), SwapEmptyFault>
-    ensures { result ≡ wording_of empty_word swapped }
-{
-    match swapped {
-        Ok(()) => Ok(()),
-        Err(EmptyFault::OldSize(size)) => Err(SwapEmptyFault::OldSize(size)),
-        Err(EmptyFault::NoneEmpty) => Err(SwapEmptyFault::NoneEmpty),
-    }
+    PartFault::wrap(swapped)
 }
 
 pub(crate) fn swap_fresh_own<D: Deed>(
     alloc: Global,
     stock: &mut Stock<D>,
     own: &mut OwnCache<D>,
-) -> Result<(), SwapFreshFault>
+) -> Result<(), PartFault<FreshFault>>
     requires has { HasCache stock.old own.old.arena own.old.cache }
     requires quantum { HasQuantum stock.old own.old.arena own.old.quantum }
     ensures { OwnSwapsFresh result stock.old stock.new own.old own.new }
 {
     if !own.is_full() {
-        return Err(SwapFreshFault::NotFull);
+        return Err(PartFault::Refused(FreshFault::NotFull));
     }
     let Ok(magazine) = Magazine::new(alloc, own.size()) else {
-        return Err(SwapFreshFault::NoMemory);
+        return Err(PartFault::Refused(FreshFault::NoMemory));
     };
     let swapped = own.swap_fresh(stock, magazine);
     let _ = stock.count();
     fresh_in_words(swapped)
 }
 
-// The magazine that comes back with a refusal is empty, and ends here.
+/// The magazine that comes back with a refusal is empty, and ends here.
 fn fresh_in_words<D: Deed>(
     swapped: Result<(), PutFullFault<Magazine<D>>>,
-) -> Result<(), SwapFreshFault>
+) -> Result<(), PartFault<FreshFault>>
     requires { EndsEmpty swapped }
     ensures { result ≡ wording_of fresh_word swapped }
 {
@@ -125,11 +106,11 @@ fn fresh_in_words<D: Deed>(
         Ok(()) => Ok(()),
         Err(PutFullFault::OldSize(size, magazine)) => {
             end_empty(magazine);
-            Err(SwapFreshFault::OldSize(size))
+            Err(PartFault::Refused(FreshFault::OldSize(size)))
         }
         Err(PutFullFault::NoMemory(magazine)) => {
             end_empty(magazine);
-            Err(SwapFreshFault::NoMemory)
+            Err(PartFault::Refused(FreshFault::NoMemory))
         }
     }
 }

@@ -7,7 +7,7 @@ use Rattle.deed_core.proofs.LawProofs.{mapped}
 use Rattle.arena_tree.specs.Chains.{quantum_in}
 use Rattle.arena_tree.specs.Trees.{nodes_of}
 use Rattle.arena_tree.specs.declared.trees.TreeArena.{TreeArena}
-use Rattle.locked_parts.specs.Kinds.{KindRoundsState, IsCacheOf, caches_if, count_of_caches, kinds_up_to, kinds_of_first, kinds_of, caches_before}
+use Rattle.locked_parts.specs.Kinds.{OwnCacheState, IsCacheOf, caches_if, count_of_caches, kinds_up_to, kinds_of_first, kinds_of, caches_before}
 use Rattle.locked_parts.specs.declared.kinds.CacheKind.{CacheKind}
 
 -- a quantum cache by its numbers
@@ -82,7 +82,7 @@ own_there arenas kinds k index all is at =
     ∙ ap (λ m. Some (cache k.arena m (quantum_in (nodes_of arenas) k.arena))) number
     ∙ ap (λ q. Some (cache k.arena k.number q)) is.quantum
 
-pub own_found : (arenas : List TreeArena) (caches : List KindRoundsState) (k : CacheKind) (index : ℕ) → map (λ (r : KindRoundsState). r.kind) caches ≡ kinds_of arenas → IsCacheOf arenas k → index + 1 ≡ caches_before arenas k.arena + k.number
-    → (o : KindRoundsState) × (slice_get caches index ≡ Some o) × (k ≡ o.kind)
+pub own_found : (arenas : List TreeArena) (caches : List OwnCacheState) (k : CacheKind) (index : ℕ) → map (λ (r : OwnCacheState). r.kind) caches ≡ kinds_of arenas → IsCacheOf arenas k → index + 1 ≡ caches_before arenas k.arena + k.number
+    → (o : OwnCacheState) × (slice_get caches index ≡ Some o) × (k ≡ o.kind)
 own_found arenas caches k index all is at =
-    mapped (λ (r : KindRoundsState). r.kind) caches index k (own_there arenas (map (λ (r : KindRoundsState). r.kind) caches) k index all is at)
+    mapped (λ (r : OwnCacheState). r.kind) caches index k (own_there arenas (map (λ (r : OwnCacheState). r.kind) caches) k index all is at)

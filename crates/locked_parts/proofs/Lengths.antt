@@ -7,7 +7,7 @@ use Rattle.deed_core.proofs.LawProofs.{sum_set}
 use Rattle.magazine_layer.specs.Magazines.{CpuCacheState, Of_loaded, Of_previous, Pushes, On_loaded, On_previous, cache_rounds}
 use Rattle.magazine_layer.specs.Calls.{PopOf}
 use Rattle.arena_tree.specs.Sound.{PopsRound}
-use Rattle.locked_parts.specs.Kinds.{KindRoundsState, count_of_rounds}
+use Rattle.locked_parts.specs.Kinds.{OwnCacheState, count_of_rounds}
 
 abbrev rounds_of : CpuCacheState → ℕ
 rounds_of c = length (cache_rounds c)
@@ -26,12 +26,12 @@ push_length c d x (On_previous full none is) =
     omega (arith, length-append d.previous d.loaded, length-append c.previous c.loaded, ap length none, ap (λ (z : CpuCacheState). length z.previous) is, ap (λ (z : CpuCacheState). length z.loaded) is)
 
 -- of all caches, after one changed
-pub pops_in : (xs : List KindRoundsState) (i : ℕ) (old new : KindRoundsState) (r : Option Tag) → slice_get xs i ≡ Some old → PopsRound (Ok r) (rounds_of old.cpu) (rounds_of new.cpu) → PopsRound (Ok r) (count_of_rounds xs) (count_of_rounds (set xs i new))
-pops_in xs i old new None at is = omega (arith, is, sum_set (λ (k : KindRoundsState). rounds_of k.cpu) xs i old new at)
-pops_in xs i old new (Some t) at is = omega (arith, is, sum_set (λ (k : KindRoundsState). rounds_of k.cpu) xs i old new at)
+pub pops_in : (xs : List OwnCacheState) (i : ℕ) (old new : OwnCacheState) (r : Option Tag) → slice_get xs i ≡ Some old → PopsRound (Ok r) (rounds_of old.cpu) (rounds_of new.cpu) → PopsRound (Ok r) (count_of_rounds xs) (count_of_rounds (set xs i new))
+pops_in xs i old new None at is = omega (arith, is, sum_set (λ (k : OwnCacheState). rounds_of k.cpu) xs i old new at)
+pops_in xs i old new (Some t) at is = omega (arith, is, sum_set (λ (k : OwnCacheState). rounds_of k.cpu) xs i old new at)
 
-pub pushes_in : (xs : List KindRoundsState) (i : ℕ) (old new : KindRoundsState) → slice_get xs i ≡ Some old → rounds_of new.cpu ≡ rounds_of old.cpu + 1 → count_of_rounds (set xs i new) ≡ count_of_rounds xs + 1
-pushes_in xs i old new at is = omega (arith, is, sum_set (λ (k : KindRoundsState). rounds_of k.cpu) xs i old new at)
+pub pushes_in : (xs : List OwnCacheState) (i : ℕ) (old new : OwnCacheState) → slice_get xs i ≡ Some old → rounds_of new.cpu ≡ rounds_of old.cpu + 1 → count_of_rounds (set xs i new) ≡ count_of_rounds xs + 1
+pushes_in xs i old new at is = omega (arith, is, sum_set (λ (k : OwnCacheState). rounds_of k.cpu) xs i old new at)
 
-pub same_in : (xs : List KindRoundsState) (i : ℕ) (old new : KindRoundsState) → slice_get xs i ≡ Some old → rounds_of new.cpu ≡ rounds_of old.cpu → count_of_rounds (set xs i new) ≡ count_of_rounds xs
-same_in xs i old new at is = omega (arith, is, sum_set (λ (k : KindRoundsState). rounds_of k.cpu) xs i old new at)
+pub same_in : (xs : List OwnCacheState) (i : ℕ) (old new : OwnCacheState) → slice_get xs i ≡ Some old → rounds_of new.cpu ≡ rounds_of old.cpu → count_of_rounds (set xs i new) ≡ count_of_rounds xs
+same_in xs i old new at is = omega (arith, is, sum_set (λ (k : OwnCacheState). rounds_of k.cpu) xs i old new at)

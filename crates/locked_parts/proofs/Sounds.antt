@@ -1,5 +1,5 @@
 -- What the tree says of an arena, and chunks of its caches.
-use Rattle.std.proofs.Common.{◌≡◌, Result, Ok, Err, ℕ, suc, zero, ◌*◌, ◌<◌, List, [], ◌∷◌, false, Option, Some, None, IfSome, IfOk, IfErr, sym, subst, ap, ◌∙◌, refl, arith}
+use Rattle.std.proofs.Common.{◌≡◌, Result, Ok, Err, ℕ, suc, zero, ◌*◌, ◌<◌, List, [], ◌∷◌, Option, Some, None, IfSome, IfOk, IfErr, sym, subst, ap, ◌∙◌, refl, arith}
 use Rattle.std.specs.Prelude.{slice_get}
 use Rattle.std.proofs.Math.Nat.{mul-mod_left}
 use Rattle.deed_core.specs.Tag.{Tag}
@@ -8,10 +8,12 @@ use Rattle.deed_core.specs.declared.segments.Route.TheVariants.{Cached}
 use Rattle.deed_core.proofs.LawProofs.{rounds_once}
 use Rattle.arena_tree.specs.declared.trees.TreeArena.{TreeArena}
 use Rattle.arena_tree.specs.Chains.{Node, IsCachedChunk, quantum_in, source_of}
-use Rattle.arena_tree.specs.Events.{segment_of_slab_add}
-use Rattle.arena_tree.specs.declared.part_faults.SlabAddFault.{SlabAddFault}
-use Rattle.arena_tree.specs.Stops.{refuses_by, slab_stops}
+use Rattle.arena_tree.specs.Events.{SlabAdd, segment_of_slab_add}
+use Rattle.arena_tree.specs.declared.part_faults.GivenFault.TheVariants.{Refused}
+use Rattle.arena_tree.specs.Tags.{wording_of}
+use Rattle.slab_layer.specs.declared.faults.AddFault.{AddFault}
 use Rattle.arena_tree.specs.Trees.{nodes_of}
+use Rattle.locked_parts.specs.Answers.{AnswersSoundly}
 use Rattle.locked_parts.specs.Kinds.{IsOfKind}
 use Rattle.locked_parts.specs.declared.kinds.CacheKind.{CacheKind}
 
@@ -45,7 +47,7 @@ pub cached_given : (nodes : List Node) (arena number : ℕ) (k : CacheKind) (o :
 cached_given nodes arena number k None is chunk = tt
 cached_given nodes arena number k (Some t) is chunk = cached_chunk nodes arena number k t is chunk
 
-pub slab_goes : (nodes : List Node) (arena number : ℕ) (k : CacheKind) (span : Tag) (r : Result Tag (SlabAddFault Tag)) → (k.arena ≡ arena) × (k.number ≡ number) × (0 < k.quantum) × (quantum_in nodes arena ≡ k.quantum) → IfOk r (IsOfKind k)
-    → IfErr r (λ f. (segment_of_slab_add f ≡ span) × (slab_stops f ≡ false)) → (IfOk r (IsCachedChunk nodes arena number) × IfErr r (λ f. segment_of_slab_add f ≡ span)) × (refuses_by slab_stops r ≡ false)
+pub slab_goes : (nodes : List Node) (arena number : ℕ) (k : CacheKind) (span : Tag) (r : Result Tag (AddFault Tag)) → (k.arena ≡ arena) × (k.number ≡ number) × (0 < k.quantum) × (quantum_in nodes arena ≡ k.quantum) → IfOk r (IsOfKind k) → IfErr r (λ f. segment_of_slab_add (Refused f) ≡ span)
+    → AnswersSoundly nodes (SlabAdd arena number span) (wording_of Refused r)
 slab_goes nodes arena number k span (Ok t) is chunk back = ((cached_chunk nodes arena number k t is chunk, tt), refl)
-slab_goes nodes arena number k span (Err f) is chunk back = ((tt, back.0), back.1)
+slab_goes nodes arena number k span (Err f) is chunk back = ((tt, back), refl)

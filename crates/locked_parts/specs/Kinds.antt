@@ -21,12 +21,12 @@ abbrev pub AreSlabsOf : CacheKind → SlabCacheState → Type 0
 AreSlabsOf k c = (c.arena ≡ k.arena) × (c.k ≡ k.number) × (c.quantum ≡ k.quantum)
 
 -- a CPU's magazines for a quantum cache
-pub record KindRoundsState : Type 0 where
+pub record OwnCacheState : Type 0 where
   pub kind : CacheKind
   pub cpu : CpuCacheState
 
 -- all their rounds are chunks of it
-pub record AreKindRounds (r : KindRoundsState) : Type 0 where
+pub record IsOwnCache (r : OwnCacheState) : Type 0 where
   pub some : 0 < r.kind.quantum
   pub rounds : All (IsOfKind r.kind) (cache_rounds r.cpu)
 
@@ -41,11 +41,11 @@ pub record IsKindDepot (d : KindDepotState) : Type 0 where
   pub rounds : All (IsOfKind d.kind) (depot_rounds d.depot)
 
 -- magazines are still for the same quantum caches, in the same order
-abbrev pub AreForSame : (old new : List KindRoundsState) → Type 0
+abbrev pub AreForSame : (old new : List OwnCacheState) → Type 0
 AreForSame old new = map (λ r. r.kind) new ≡ map (λ r. r.kind) old
 
 -- how many rounds a CPU's magazines have
-abbrev pub count_of_rounds : List KindRoundsState → ℕ
+abbrev pub count_of_rounds : List OwnCacheState → ℕ
 count_of_rounds caches = sum_by (λ r. length (cache_rounds r.cpu)) caches
 
 -- how many quantum caches an arena has

@@ -5,4 +5,3 @@ pub mod Swaps
 pub mod Walks
 pub mod States
 pub mod Answers
-pub mod Refusals

@@ -4,17 +4,17 @@ use Rattle.std.specs.Prelude.{◌≡◌, ◌≢◌, ◌⊎◌, ℕ, List, [], So
 use Rattle.std.specs.Prelude.{slice_get, slice_set}
 use Rattle.magazine_layer.specs.Magazines.{CpuCacheState, MagazineState, BothEmpty, BothFull}
 use Rattle.magazine_layer.specs.Depots.{DepotState, SwapsForFull, SwapsForEmpty, PutsFull}
-use Rattle.arena_tree.specs.declared.part_faults.SwapFullFault.{SwapFullFault}
-use Rattle.arena_tree.specs.declared.part_faults.SwapFullFault.TheVariants as fulling
-use Rattle.arena_tree.specs.declared.part_faults.SwapEmptyFault.{SwapEmptyFault}
-use Rattle.arena_tree.specs.declared.part_faults.SwapEmptyFault.TheVariants as emptying
-use Rattle.arena_tree.specs.declared.part_faults.SwapFreshFault.{SwapFreshFault}
-use Rattle.arena_tree.specs.declared.part_faults.SwapFreshFault.TheVariants as freshing
-use Rattle.locked_parts.specs.Kinds.{KindRoundsState, KindDepotState}
+use Rattle.arena_tree.specs.declared.part_faults.FreshFault.{FreshFault}
+use Rattle.magazine_layer.specs.declared.faults.FullFault.{FullFault}
+use Rattle.magazine_layer.specs.declared.faults.EmptyFault.{EmptyFault}
+use Rattle.arena_tree.specs.declared.part_faults.FreshFault.TheVariants as freshing
+use Rattle.magazine_layer.specs.declared.faults.FullFault.TheVariants as fulling
+use Rattle.magazine_layer.specs.declared.faults.EmptyFault.TheVariants as emptying
+use Rattle.locked_parts.specs.Kinds.{OwnCacheState, KindDepotState}
 
 -- both are of one cache, stay so, and changed so
 pub record Exchanges (P : CpuCacheState → DepotState → CpuCacheState → DepotState → Type 0)
-    (c : KindRoundsState) (d : KindDepotState) (c' : KindRoundsState) (d' : KindDepotState)
+    (c : OwnCacheState) (d : KindDepotState) (c' : OwnCacheState) (d' : KindDepotState)
     : Type 0 where
   pub one_cache : c.kind ≡ d.kind
   pub does : P c.cpu d.depot c'.cpu d'.depot
@@ -23,10 +23,10 @@ pub record Exchanges (P : CpuCacheState → DepotState → CpuCacheState → Dep
 
 -- the magazines that a CPU has for this cache of an arena, and no others, changed so with a depot
 pub record ExchangesIn (P : CpuCacheState → DepotState → CpuCacheState → DepotState → Type 0)
-    (arena cache : ℕ) (old new : List KindRoundsState) : Type 0 where
+    (arena cache : ℕ) (old new : List OwnCacheState) : Type 0 where
   pub index : ℕ
-  pub own : KindRoundsState
-  pub after : KindRoundsState
+  pub own : OwnCacheState
+  pub after : OwnCacheState
   pub depot : KindDepotState
   pub depot_after : KindDepotState
   pub stands : slice_get old index ≡ Some own
@@ -35,32 +35,30 @@ pub record ExchangesIn (P : CpuCacheState → DepotState → CpuCacheState → D
   pub rest : new ≡ slice_set old index after
 
 -- neither changed
-abbrev pub NoExchange : KindRoundsState → KindDepotState → KindRoundsState → KindDepotState → Type 0
+abbrev pub NoExchange : OwnCacheState → KindDepotState → OwnCacheState → KindDepotState → Type 0
 NoExchange c d c' d' = (c' ≡ c) × (d' ≡ d)
 
 -- a CPU whose magazines are both empty gets a full one
-abbrev pub GivesFull : KindRoundsState → KindDepotState → Result (Unit {0}) SwapFullFault →
-    KindRoundsState → KindDepotState → Type 0
+abbrev pub GivesFull : OwnCacheState → KindDepotState → Result (Unit {0}) FullFault →
+    OwnCacheState → KindDepotState → Type 0
 GivesFull c d (Ok _) c' d' = BothEmpty c.cpu × Exchanges SwapsForFull c d c' d'
 GivesFull c d (Err (fulling.OldSize size)) c' d' = NoExchange c d c' d'
     × (c.cpu.size ≢ d.depot.size) × (size ≡ d.depot.size)
 GivesFull c d (Err fulling.NoneFull) c' d' = NoExchange c d c' d'
     × (c.kind ≡ d.kind → BothEmpty c.cpu → (c.cpu.size ≡ d.depot.size) × (d.depot.full ≡ []))
-GivesFull c d (Err fulling.Stopped) c' d' = ⊥
 
 -- a CPU whose magazines are both full gets an empty one
-abbrev pub GivesEmpty : KindRoundsState → KindDepotState → Result (Unit {0}) SwapEmptyFault →
-    KindRoundsState → KindDepotState → Type 0
+abbrev pub GivesEmpty : OwnCacheState → KindDepotState → Result (Unit {0}) EmptyFault →
+    OwnCacheState → KindDepotState → Type 0
 GivesEmpty c d (Ok _) c' d' = BothFull c.cpu × Exchanges SwapsForEmpty c d c' d'
 GivesEmpty c d (Err (emptying.OldSize size)) c' d' = NoExchange c d c' d'
     × (c.cpu.size ≢ d.depot.size) × (size ≡ d.depot.size)
 GivesEmpty c d (Err emptying.NoneEmpty) c' d' = NoExchange c d c' d'
     × (c.kind ≡ d.kind → BothFull c.cpu → (c.cpu.size ≡ d.depot.size) × (d.depot.empty ≡ 0))
-GivesEmpty c d (Err emptying.Stopped) c' d' = ⊥
 
 -- the same by the magazine m in place of one that the depot has; out of memory comes last
-abbrev pub TakesFull : MagazineState → KindRoundsState → KindDepotState →
-    Result (Unit {0}) SwapFreshFault → KindRoundsState → KindDepotState → Type 0
+abbrev pub TakesFull : MagazineState → OwnCacheState → KindDepotState →
+    Result (Unit {0}) FreshFault → OwnCacheState → KindDepotState → Type 0
 TakesFull m c d (Ok _) c' d' = BothFull c.cpu × Exchanges (PutsFull m) c d c' d'
 TakesFull m c d (Err (freshing.OldSize size)) c' d' = NoExchange c d c' d'
     × ((c.cpu.size ≢ d.depot.size) ⊎ (m.size ≢ d.depot.size)) × (size ≡ d.depot.size)
@@ -68,4 +66,3 @@ TakesFull m c d (Err freshing.NotFull) c' d' = NoExchange c d c' d'
     × (c.kind ≡ d.kind → ¬ BothFull c.cpu)
 TakesFull m c d (Err freshing.NoMemory) c' d' = NoExchange c d c' d'
     × BothFull c.cpu × (c.cpu.size ≡ d.depot.size) × (m.size ≡ d.depot.size)
-TakesFull m c d (Err freshing.Stopped) c' d' = ⊥

@@ -2,16 +2,16 @@
 //! alone, so that each event looks whether it is the arena that is meant.
 ghost use Rattle.std.specs.Prelude.{◌≡◌, ◌<◌, ◌≤◌, ◌↔◌, List, [], Some, Ok, IsOk, OnErr, IfOk};
 ghost use Rattle.std.specs.Prelude.{IfErr};
-ghost use Rattle.tag_arena.specs.Calls.{IsTagged};
+ghost use Rattle.tag_arena.specs.Calls.{IsTagged, RefusesCarve, RefusesSpan};
 ghost use Rattle.deed_core.specs.Request.{rounding_of, plain_of};
 ghost use Rattle.tag_arena.specs.Outcomes.{CarveOf, ImportOf, FreeOf, RemoveOf};
 ghost use Rattle.std.specs.Option.{option_map};
 ghost use Rattle.arena_tree.specs.Chains.{Node, quantum_in, source_of};
 ghost use Rattle.arena_tree.specs.Events.{Carve, Free, AddCarve};
 ghost use Rattle.locked_parts.specs.Answers.{AnswersSoundly};
-ghost use Rattle.locked_parts.specs.Refusals.{CarvesNone, ImportsNone};
+ghost use Rattle.arena_tree.specs.Tags.{wording_of};
 
-use arena_tree::{AddCarveFault, CarveFault, FreeFault};
+use arena_tree::{GivenFault, PartFault};
 use deed_core::{Request, Route, Segment};
 use deed_table::{Name, Opener, SeatDeed};
 use std::marker::Model;
@@ -49,28 +49,24 @@ impl<N: Name> ArenaPart<N> {
         id: u32,
         quantum: u64,
         request: &Request,
-    ) -> Result<Segment<SeatDeed<N>>, CarveFault>
+    ) -> Result<Segment<SeatDeed<N>>, ArenaFault>
         requires { 0 < quantum }
         ensures sound { (nodes : List Node) → quantum_in nodes id ≡ quantum
-            → AnswersSoundly nodes (Carve id request.now) result }
+            → AnswersSoundly nodes (Carve id request.now)
+            (wording_of PartFault.Refused result) }
         ensures event { IfOk result (λ t.
             CarveOf self.old.arena request.now (Ok t) self.new.arena) }
         ensures refused { IfErr result (λ f. self.old.arena.id ≡ id
-            → self.old.arena.quantum ≡ quantum → CarvesNone self.old.arena request.now f) }
+            → self.old.arena.quantum ≡ quantum → RefusesCarve self.old.arena request.now f) }
         ensures unchanged { OnErr result (self.new ≡ self.old) }
     {
         if !request.is_good(quantum) {
-            return Err(CarveFault::BadRequest);
+            return Err(ArenaFault::BadRequest);
         }
         if self.arena.id() != id || self.arena.quantum() != quantum {
-            return Err(CarveFault::NoMemory);
+            return Err(ArenaFault::NoMemory);
         }
-        match self.arena.xalloc(request) {
-            Ok(segment) => Ok(segment),
-            Err(ArenaFault::NoFit) => Err(CarveFault::NoFit),
-            Err(ArenaFault::NoMemory) => Err(CarveFault::NoMemory),
-            Err(ArenaFault::BadRequest) => unreachable!(),
-        }
+        self.arena.xalloc(request)
     }
 
     /// Frees a segment of the arena, which has this source. Where another stands here, it is
@@ -79,9 +75,9 @@ impl<N: Name> ArenaPart<N> {
         &mut self,
         source: Option<u32>,
         segment: Segment<SeatDeed<N>>,
-    ) -> Result<Option<Segment<SeatDeed<N>>>, FreeFault<Segment<SeatDeed<N>>>>
+    ) -> Result<Option<Segment<SeatDeed<N>>>, Segment<SeatDeed<N>>>
         ensures sound { (nodes : List Node) → source_of nodes segment.arena ≡ source
-            → AnswersSoundly nodes (Free segment) result }
+            → AnswersSoundly nodes (Free segment) (wording_of GivenFault.Refused result) }
         ensures event { IfOk result (λ back.
             FreeOf self.old.arena segment (Ok back) self.new.arena) }
         ensures refused { OnErr result (self.old.source ≡ source
@@ -89,12 +85,9 @@ impl<N: Name> ArenaPart<N> {
         ensures unchanged { OnErr result (self.new ≡ self.old) }
     {
         if self.source != source {
-            return Err(FreeFault::BadFree(segment));
+            return Err(segment);
         }
-        match self.arena.free(segment) {
-            Ok(back) => Ok(back),
-            Err(segment) => Err(FreeFault::BadFree(segment)),
-        }
+        self.arena.free(segment)
     }
 
     /// Adds a span of its source to the arena with this number and quantum, and carves its first
@@ -105,34 +98,30 @@ impl<N: Name> ArenaPart<N> {
         quantum: u64,
         span: Segment<SeatDeed<N>>,
         size: u64,
-    ) -> Result<Segment<SeatDeed<N>>, AddCarveFault<Segment<SeatDeed<N>>>>
+    ) -> Result<Segment<SeatDeed<N>>, SpanFault<Segment<SeatDeed<N>>>>
         requires some { 0 < size }
         requires room { rounding_of quantum size ≤ span.holding.range.len }
         requires direct { span.route ≡ Route.Direct }
         ensures sound { (nodes : List Node) → quantum_in nodes id ≡ quantum
-            → AnswersSoundly nodes (AddCarve id span size) result }
+            → AnswersSoundly nodes (AddCarve id span size)
+            (wording_of GivenFault.Refused result) }
         ensures event { IfOk result (λ t.
             ImportOf self.old.arena span (plain_of size) (Ok t) self.new.arena) }
         ensures refused { IfErr result (λ f. self.old.source ≡ Some span.arena
             → self.old.arena.id ≡ id → self.old.arena.quantum ≡ quantum
-            → ImportsNone self.old.arena span f) }
+            → RefusesSpan self.old.arena span.holding.range span f) }
         ensures unchanged { OnErr result (self.new ≡ self.old) }
     {
         if self.source != Some(span.arena()) {
-            return Err(AddCarveFault::Overlaps(span));
+            return Err(SpanFault::Overlaps(span));
         }
         if self.arena.id() != id || self.arena.quantum() != quantum {
-            return Err(AddCarveFault::Overlaps(span));
+            return Err(SpanFault::Overlaps(span));
         }
         // For its clause: what is always so of a range.
         let _ = span.range();
         let request = Request::plain(size);
-        match self.arena.add_span_and_carve(span, &request) {
-            Ok(segment) => Ok(segment),
-            Err(SpanFault::Overlaps(span)) => Err(AddCarveFault::Overlaps(span)),
-            Err(SpanFault::NotAligned(span)) => Err(AddCarveFault::NotAligned(span)),
-            Err(SpanFault::NoMemory(span)) => Err(AddCarveFault::NoMemory(span)),
-        }
+        self.arena.add_span_and_carve(span, &request)
     }
 
     /// Takes out the lowest owned span that is wholly free.

@@ -1,8 +1,8 @@
 //! How parts are taken from under their locks and ended.
 ghost use Rattle.std.specs.Prelude.{◌≡◌, [], true, vec_len};
 
-use crate::cpu_rounds::FIRST_SIZE;
 use crate::kind_depots::KindDepot;
+use crate::own_caches::FIRST_SIZE;
 use crate::parts::{LockedArena, LockedCache, LockedParts};
 use deed_table::Name;
 use std::alloc::Global;

@@ -1,15 +1,15 @@
 //! A depot as its lock keeps it, and its exchanges with a CPU.
-ghost use Rattle.std.specs.Prelude.{◌≡◌, ◌≢◌, ◌<◌, ◌↔◌, [], Some, Err, IsOk, IfSome, IfErr};
-ghost use Rattle.std.specs.Prelude.{◌≤◌, true, false, None, OnOk};
-ghost use Rattle.magazine_layer.specs.Magazines.{IsSize, BothFull};
+ghost use Rattle.std.specs.Prelude.{◌≡◌, ◌≢◌, ◌<◌, ◌↔◌, [], IsOk, IfSome, IfErr};
+ghost use Rattle.std.specs.Prelude.{◌≤◌, true, false, None};
+ghost use Rattle.magazine_layer.specs.Magazines.{IsSize};
 ghost use Rattle.magazine_layer.specs.Depots.{new_depot, after_tick, after_resize, depot_rounds};
 ghost use Rattle.magazine_layer.specs.Calls.{DepotReapOf, ResizeOf};
 ghost use Rattle.locked_parts.specs.Kinds.{IsOfKind};
 ghost use Rattle.locked_parts.specs.Swaps.{GivesFull, GivesEmpty, TakesFull};
 
-use crate::cpu_rounds::KindRounds;
 use crate::kinds::CacheKind;
-use arena_tree::{SwapEmptyFault, SwapFreshFault, SwapFullFault};
+use crate::own_caches::OwnCache;
+use arena_tree::FreshFault;
 use deed_core::{Deed, Segment};
 use magazine_layer::{Depot, EmptyFault, FullFault, Magazine, NotGreater, PutFullFault};
 use std::alloc::Global;
@@ -54,62 +54,51 @@ impl<D: Deed> KindDepot<D> {
 
     /// Gives a CPU of this cache, whose magazines are both empty, a full one. Another CPU finds
     /// none.
-    pub(crate) fn swap_full(&mut self, cpu: &mut KindRounds<D>) -> Result<(), SwapFullFault>
+    pub(crate) fn swap_full(&mut self, cpu: &mut OwnCache<D>) -> Result<(), FullFault>
         ensures event { GivesFull cpu.old self.old result cpu.new self.new }
         ensures kind { cpu.new.kind ≡ cpu.old.kind }
-        ensures goes { result ≢ Err SwapFullFault.Stopped }
     {
         if !self.kind.is(&cpu.kind) || !cpu.is_empty() {
-            return Err(SwapFullFault::NoneFull);
+            return Err(FullFault::NoneFull);
         }
-        match self.depot.swap_for_full(&mut cpu.cpu) {
-            Ok(()) => Ok(()),
-            Err(FullFault::OldSize(size)) => Err(SwapFullFault::OldSize(size)),
-            Err(FullFault::NoneFull) => Err(SwapFullFault::NoneFull),
-        }
+        self.depot.swap_for_full(&mut cpu.cpu)
     }
 
     /// Gives a CPU of this cache, whose magazines are both full, an empty one. Another CPU finds
     /// none.
-    pub(crate) fn swap_empty(&mut self, cpu: &mut KindRounds<D>) -> Result<(), SwapEmptyFault>
+    pub(crate) fn swap_empty(&mut self, cpu: &mut OwnCache<D>) -> Result<(), EmptyFault>
         ensures event { GivesEmpty cpu.old self.old result cpu.new self.new }
         ensures kind { cpu.new.kind ≡ cpu.old.kind }
-        ensures goes { result ≢ Err SwapEmptyFault.Stopped }
     {
         if !self.kind.is(&cpu.kind) || !cpu.cpu.is_full() {
-            return Err(SwapEmptyFault::NoneEmpty);
+            return Err(EmptyFault::NoneEmpty);
         }
-        match self.depot.swap_for_empty(&mut cpu.cpu) {
-            Ok(()) => Ok(()),
-            Err(EmptyFault::OldSize(size)) => Err(SwapEmptyFault::OldSize(size)),
-            Err(EmptyFault::NoneEmpty) => Err(SwapEmptyFault::NoneEmpty),
-        }
+        self.depot.swap_for_empty(&mut cpu.cpu)
     }
 
     /// The same by this magazine, which is empty, in place of one that it has.
     pub(crate) fn swap_fresh(
         &mut self,
-        cpu: &mut KindRounds<D>,
+        cpu: &mut OwnCache<D>,
         magazine: Magazine<D>,
-    ) -> Result<(), SwapFreshFault>
+    ) -> Result<(), FreshFault>
         requires { magazine.rounds ≡ [] }
         ensures event { TakesFull magazine cpu.old self.old result cpu.new self.new }
         ensures kind { cpu.new.kind ≡ cpu.old.kind }
-        ensures goes { result ≢ Err SwapFreshFault.Stopped }
     {
         if !self.kind.is(&cpu.kind) || !cpu.cpu.is_full() {
             end_empty(magazine);
-            return Err(SwapFreshFault::NotFull);
+            return Err(FreshFault::NotFull);
         }
         match self.depot.put_full(&mut cpu.cpu, magazine) {
             Ok(()) => Ok(()),
             Err(PutFullFault::OldSize(size, magazine)) => {
                 end_empty(magazine);
-                Err(SwapFreshFault::OldSize(size))
+                Err(FreshFault::OldSize(size))
             }
             Err(PutFullFault::NoMemory(magazine)) => {
                 end_empty(magazine);
-                Err(SwapFreshFault::NoMemory)
+                Err(FreshFault::NoMemory)
             }
         }
     }

@@ -7,7 +7,7 @@
 //! (new_arenas, new_caches), and ended by taking them from under the locks (ending).
 //!
 //! `Running` (running) is `arena_tree::Parts` over them for one CPU, which has two magazines for
-//! each quantum cache (cpu_rounds, own_rounds): each event of a shared part takes its lock, and no
+//! each quantum cache (own_caches, own_rounds): each event of a shared part takes its lock, and no
 //! other (locked_events, own_events; a test, one_lock), and asks the gate (gates) before. Intervals
 //! and sizes of magazines are for all depots, one after another: such a walk (depot_walks) is
 //! proved over whatever keeps the depots, and goes over the locks (locked_depots).
@@ -23,7 +23,6 @@
 #![tactic(auto)]
 
 mod arena_parts;
-mod cpu_rounds;
 mod depot_walks;
 mod ending;
 mod gates;
@@ -35,16 +34,17 @@ mod new_arenas;
 mod new_caches;
 #[cfg(test)]
 mod one_lock;
+mod own_caches;
 mod own_events;
 mod own_rounds;
 mod parts;
 mod running;
 mod slab_parts;
 
-pub use cpu_rounds::KindRounds;
 pub use gates::{EventName, Gate, NextStep, OpenGate, Pass, RequestStopped, StepCount};
 pub use kinds::{CacheKind, quantum_of};
 pub use new_arenas::NewArena;
+pub use own_caches::OwnCache;
 pub use own_rounds::{end_rounds, new_rounds};
 pub use parts::{LockedArena, LockedParts};
 pub use running::Running;

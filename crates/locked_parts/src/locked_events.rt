@@ -9,29 +9,31 @@ ghost use Rattle.locked_parts.specs.Answers.{AnswersSoundly};
 
 use crate::kinds::quantum_of;
 use crate::parts::LockedParts;
-use crate::slab_parts::{add_slab, put_chunk, reap_slab, take_chunk};
-use arena_tree::{AddCarveFault, CarveFault, FreeFault, SlabAddFault, SlabPutFault, Stopped, Tree};
+use crate::slab_parts::{add_slab, reap_slab, take_chunk};
+use arena_tree::{GivenFault, PartFault, Stopped, Tree};
 use deed_core::{Request, Route, Segment};
 use deed_table::{Name, SeatDeed};
+use slab_layer::{AddFault, PutFault};
 use std::sync::Wait;
+use tag_arena::{ArenaFault, SpanFault};
 
 pub(crate) fn carve_in<N: Name, R: Wait>(
     parts: &LockedParts<N>,
     rt: &R,
     arena: u32,
     request: &Request,
-) -> Result<Segment<SeatDeed<N>>, CarveFault>
+) -> Result<Segment<SeatDeed<N>>, PartFault<ArenaFault>>
     requires { arena < length parts.now.arenas }
     ensures { AnswersSoundly (nodes_of parts.now.arenas) (Carve arena request.now) result }
 {
     let quantum = quantum_of(parts.tree(), arena);
     let Some(locked) = parts.arenas.get(arena as usize) else {
         if request.is_good(quantum) {
-            return Err(CarveFault::NoMemory);
+            return Err(PartFault::Refused(ArenaFault::NoMemory));
         }
-        return Err(CarveFault::BadRequest);
+        return Err(PartFault::Refused(ArenaFault::BadRequest));
     };
-    locked.part.lock(rt).carve(arena, quantum, request)
+    PartFault::wrap(locked.part.lock(rt).carve(arena, quantum, request))
 }
 
 // The source of an arena.
@@ -46,18 +48,18 @@ pub(crate) fn free_in<N: Name, R: Wait>(
     parts: &LockedParts<N>,
     rt: &R,
     segment: Segment<SeatDeed<N>>,
-) -> Result<Option<Segment<SeatDeed<N>>>, FreeFault<Segment<SeatDeed<N>>>>
+) -> Result<Option<Segment<SeatDeed<N>>>, GivenFault<Segment<SeatDeed<N>>, Segment<SeatDeed<N>>>>
     ensures { AnswersSoundly (nodes_of parts.now.arenas) (Free segment) result }
 {
     let arena = segment.arena();
     if arena as usize >= parts.tree().len() {
-        return Err(FreeFault::BadFree(segment));
+        return Err(GivenFault::Refused(segment));
     }
     let source = source_in(parts.tree(), arena);
     let Some(locked) = parts.arenas.get(arena as usize) else {
-        return Err(FreeFault::BadFree(segment));
+        return Err(GivenFault::Refused(segment));
     };
-    locked.part.lock(rt).free(source, segment)
+    GivenFault::wrap(locked.part.lock(rt).free(source, segment))
 }
 
 pub(crate) fn add_carve_in<N: Name, R: Wait>(
@@ -66,7 +68,7 @@ pub(crate) fn add_carve_in<N: Name, R: Wait>(
     child: u32,
     span: Segment<SeatDeed<N>>,
     size: u64,
-) -> Result<Segment<SeatDeed<N>>, AddCarveFault<Segment<SeatDeed<N>>>>
+) -> Result<Segment<SeatDeed<N>>, GivenFault<SpanFault<Segment<SeatDeed<N>>>, Segment<SeatDeed<N>>>>
     requires child { child < length parts.now.arenas }
     requires some { 0 < size }
     requires room { rounding_of (quantum_in (nodes_of parts.now.arenas) child) size
@@ -76,9 +78,9 @@ pub(crate) fn add_carve_in<N: Name, R: Wait>(
 {
     let quantum = quantum_of(parts.tree(), child);
     let Some(locked) = parts.arenas.get(child as usize) else {
-        return Err(AddCarveFault::Overlaps(span));
+        return Err(GivenFault::Refused(SpanFault::Overlaps(span)));
     };
-    locked.part.lock(rt).add_carve(child, quantum, span, size)
+    GivenFault::wrap(locked.part.lock(rt).add_carve(child, quantum, span, size))
 }
 
 pub(crate) fn slab_take_in<N: Name, R: Wait>(
@@ -103,17 +105,17 @@ pub(crate) fn slab_put_in<N: Name, R: Wait>(
     parts: &LockedParts<N>,
     rt: &R,
     segment: Segment<SeatDeed<N>>,
-) -> Result<(), SlabPutFault<Segment<SeatDeed<N>>>>
+) -> Result<(), GivenFault<PutFault<Segment<SeatDeed<N>>>, Segment<SeatDeed<N>>>>
     ensures { AnswersSoundly (nodes_of parts.now.arenas) (SlabPut segment) result }
 {
     let Route::Cached(number) = segment.route() else {
-        return Err(SlabPutFault::NotMine(segment));
+        return Err(GivenFault::Refused(PutFault::NotMine(segment)));
     };
     let Some(locked) = parts.cache(segment.arena(), number) else {
-        return Err(SlabPutFault::NotMine(segment));
+        return Err(GivenFault::Refused(PutFault::NotMine(segment)));
     };
     let mut slab = locked.slab.lock(rt);
-    put_chunk(&mut slab, segment)
+    GivenFault::wrap(slab.put(segment))
 }
 
 pub(crate) fn slab_add_in<N: Name, R: Wait>(
@@ -122,20 +124,20 @@ pub(crate) fn slab_add_in<N: Name, R: Wait>(
     arena: u32,
     cache: u8,
     span: Segment<SeatDeed<N>>,
-) -> Result<Segment<SeatDeed<N>>, SlabAddFault<Segment<SeatDeed<N>>>>
+) -> Result<Segment<SeatDeed<N>>, GivenFault<AddFault<Segment<SeatDeed<N>>>, Segment<SeatDeed<N>>>>
     requires of_arena { span.arena ≡ arena }
     requires direct { span.route ≡ Route.Direct }
     requires grid { span.holding.range.base % quantum_in (nodes_of parts.now.arenas) arena ≡ 0 }
     ensures { AnswersSoundly (nodes_of parts.now.arenas) (SlabAdd arena cache span) result }
 {
     let Some(kind) = parts.kind(arena, cache) else {
-        return Err(SlabAddFault::WrongSize(span));
+        return Err(GivenFault::Refused(AddFault::WrongSize(span)));
     };
     let Some(locked) = parts.cache(arena, cache) else {
-        return Err(SlabAddFault::WrongSize(span));
+        return Err(GivenFault::Refused(AddFault::WrongSize(span)));
     };
     let mut slab = locked.slab.lock(rt);
-    add_slab(&mut slab, &kind, span)
+    GivenFault::wrap(add_slab(&mut slab, &kind, span))
 }
 
 pub(crate) fn slab_reap_in<N: Name, R: Wait>(

@@ -6,9 +6,9 @@ ghost use Rattle.arena_tree.specs.Trees.{nodes_of};
 ghost use Rattle.locked_parts.specs.Kinds.{count_of_caches, kinds_up_to};
 ghost use Rattle.locked_parts.specs.News.{HasSlabsOf};
 
-use crate::cpu_rounds::FIRST_SIZE;
 use crate::kind_depots::KindDepot;
 use crate::kinds::CacheKind;
+use crate::own_caches::FIRST_SIZE;
 use crate::parts::LockedCache;
 use arena_tree::{Tree, TreeArena};
 use deed_table::{Name, SeatDeed};

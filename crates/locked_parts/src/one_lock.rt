@@ -14,7 +14,7 @@ use crate::new_arenas::NewArena;
 use crate::own_events::{swap_empty_in, swap_fresh_in, swap_full_in};
 use crate::own_rounds::{end_rounds, new_rounds};
 use crate::parts::LockedParts;
-use arena_tree::{AddCarveFault, NewRoot, Setting, Setup};
+use arena_tree::{GivenFault, NewRoot, Setting, Setup};
 use deed_core::{Range, Request, Route, Segment};
 use deed_table::{Ground, Name, SeatDeed, close};
 use lease_terms::ArenaName;
@@ -23,7 +23,7 @@ use std::marker::Brand;
 use std::process::Abort;
 use std::sync::Wait;
 use std::test::Fail;
-use tag_arena::Policy;
+use tag_arena::{Policy, SpanFault};
 
 // Ends the test, with what it held.
 fn stuck<X, R: Abort>(rt: &R, held: X) -> ! {
@@ -109,7 +109,7 @@ fn of_arena<N: Name, R: Abort + Wait>(rt: &R, parts: &LockedParts<N>)
     let _depot = locked.depot.lock(rt);
     let segment = carved(rt, parts);
     match add_carve_in(parts, rt, 0, segment, 16) {
-        Err(AddCarveFault::Overlaps(segment)) => freed(rt, parts, segment),
+        Err(GivenFault::Refused(SpanFault::Overlaps(segment))) => freed(rt, parts, segment),
         held => stuck(rt, held),
     }
 }

@@ -1,5 +1,5 @@
 //! The events of a CPU's own magazines, by themselves and with a depot of the parts.
-ghost use Rattle.std.specs.Prelude.{◌≡◌, ◌≢◌, ◌<◌, Some, Err, IfSome, length, slice_get};
+ghost use Rattle.std.specs.Prelude.{◌≡◌, ◌<◌, Some, IfSome, length, slice_get};
 ghost use Rattle.std.specs.Prelude.{IfNone, map};
 ghost use Rattle.std.specs.Prelude.{OnOk, OnErr};
 ghost use Rattle.arena_tree.specs.Events.{Pop, Push, Change};
@@ -8,27 +8,27 @@ ghost use Rattle.arena_tree.specs.Trees.{nodes_of};
 ghost use Rattle.magazine_layer.specs.Depots.{SwapsForFull, SwapsForEmpty, PutsFull};
 ghost use Rattle.magazine_layer.specs.Magazines.{BothEmpty, BothFull, empty_magazine};
 ghost use Rattle.locked_parts.specs.Answers.{AnswersSoundly};
-ghost use Rattle.locked_parts.specs.Kinds.{KindRoundsState, AreForSame, IsCacheOf};
+ghost use Rattle.locked_parts.specs.Kinds.{OwnCacheState, AreForSame, IsCacheOf};
 ghost use Rattle.locked_parts.specs.Kinds.{count_of_rounds, kinds_of};
 ghost use Rattle.locked_parts.specs.Swaps.{ExchangesIn};
 
-use crate::cpu_rounds::KindRounds;
 use crate::kinds::CacheKind;
+use crate::own_caches::OwnCache;
 use crate::parts::LockedParts;
-use arena_tree::{ChangeFault, PushFault, Stopped, SwapEmptyFault, SwapFreshFault, SwapFullFault};
+use arena_tree::{ChangeFault, FreshFault, GivenFault, PartFault, Stopped};
 use deed_core::Segment;
 use deed_table::{Name, SeatDeed};
-use magazine_layer::Magazine;
+use magazine_layer::{EmptyFault, FullFault, Magazine};
 use std::sync::Wait;
 
 // Where the CPU keeps its magazines for the cache.
 fn own_at<N: Name>(
     parts: &LockedParts<N>,
-    caches: &[KindRounds<SeatDeed<N>>],
+    caches: &[OwnCache<SeatDeed<N>>],
     kind: &CacheKind,
 ) -> Option<usize>
     ensures within { IfSome result (λ index. index < length caches.now) }
-    ensures kind { IfSome result (λ index. (o : KindRoundsState)
+    ensures kind { IfSome result (λ index. (o : OwnCacheState)
         × (slice_get caches.now index ≡ Some o) × (o.kind ≡ kind.now)) }
     ensures none { IfNone result (map (λ o. o.kind) caches.now ≡ kinds_of parts.now.arenas
         → ¬ IsCacheOf parts.now.arenas kind.now) }
@@ -46,7 +46,7 @@ fn own_at<N: Name>(
 
 pub(crate) fn pop_in<N: Name>(
     parts: &LockedParts<N>,
-    caches: &mut Vec<KindRounds<SeatDeed<N>>>,
+    caches: &mut Vec<OwnCache<SeatDeed<N>>>,
     arena: u32,
     cache: u8,
 ) -> Result<Option<Segment<SeatDeed<N>>>, Stopped>
@@ -67,72 +67,71 @@ pub(crate) fn pop_in<N: Name>(
 
 pub(crate) fn push_in<N: Name>(
     parts: &LockedParts<N>,
-    caches: &mut Vec<KindRounds<SeatDeed<N>>>,
+    caches: &mut Vec<OwnCache<SeatDeed<N>>>,
     arena: u32,
     cache: u8,
     segment: Segment<SeatDeed<N>>,
-) -> Result<(), PushFault<Segment<SeatDeed<N>>>>
+) -> Result<(), GivenFault<Segment<SeatDeed<N>>, Segment<SeatDeed<N>>>>
     ensures sound { AnswersSoundly (nodes_of parts.now.arenas) (Push arena cache segment) result }
     ensures moved { PushesRound result (count_of_rounds caches.old.items)
         (count_of_rounds caches.new.items) }
     ensures kinds { AreForSame caches.old.items caches.new.items }
 {
     let Some(kind) = parts.kind(arena, cache) else {
-        return Err(PushFault::NoRoom(segment));
+        return Err(GivenFault::Refused(segment));
     };
     let Some(index) = own_at(parts, caches, &kind) else {
-        return Err(PushFault::NoRoom(segment));
+        return Err(GivenFault::Refused(segment));
     };
     let own = &mut caches[index];
     match own.push(segment) {
         Ok(()) => Ok(()),
-        Err(segment) => Err(PushFault::NoRoom(segment)),
+        Err(segment) => Err(GivenFault::Refused(segment)),
     }
 }
 
 pub(crate) fn change_in<N: Name>(
     parts: &LockedParts<N>,
-    caches: &mut Vec<KindRounds<SeatDeed<N>>>,
+    caches: &mut Vec<OwnCache<SeatDeed<N>>>,
     arena: u32,
     cache: u8,
     size: usize,
-) -> Result<(), ChangeFault>
+) -> Result<(), PartFault<ChangeFault>>
     ensures sound { AnswersSoundly (nodes_of parts.now.arenas) (Change arena cache size) result }
     ensures moved { count_of_rounds caches.new.items ≡ count_of_rounds caches.old.items }
     ensures kinds { AreForSame caches.old.items caches.new.items }
 {
     let Some(kind) = parts.kind(arena, cache) else {
-        return Err(ChangeFault::NotGreater);
+        return Err(PartFault::Refused(ChangeFault::NotGreater));
     };
     let Some(index) = own_at(parts, caches, &kind) else {
-        return Err(ChangeFault::NotGreater);
+        return Err(PartFault::Refused(ChangeFault::NotGreater));
     };
     let own = &mut caches[index];
-    own.change(parts.alloc, size)
+    PartFault::wrap(own.change(parts.alloc, size))
 }
 
 pub(crate) fn swap_full_in<N: Name, R: Wait>(
     parts: &LockedParts<N>,
     rt: &R,
-    caches: &mut Vec<KindRounds<SeatDeed<N>>>,
+    caches: &mut Vec<OwnCache<SeatDeed<N>>>,
     arena: u32,
     cache: u8,
-) -> Result<(), SwapFullFault>
+) -> Result<(), FullFault>
     ensures exchanged { OnOk result (ExchangesIn
         (λ c d c' d'. BothEmpty c × SwapsForFull c d c' d')
         arena cache caches.old.items caches.new.items) }
     ensures unchanged { OnErr result (caches.new.items ≡ caches.old.items) }
-    ensures goes { result ≢ Err SwapFullFault.Stopped }
     ensures kinds { AreForSame caches.old.items caches.new.items }
 {
     let Some(kind) = parts.kind(arena, cache) else {
-        return Err(SwapFullFault::NoneFull);
+        return Err(FullFault::NoneFull);
     };
     let Some(own) = own_at(parts, caches, &kind) else {
-        return Err(SwapFullFault::NoneFull);
+        return Err(FullFault::NoneFull);
     };
     let Some(locked) = parts.cache(arena, cache) else {
-        return Err(SwapFullFault::NoneFull);
+        return Err(FullFault::NoneFull);
     };
     let mut depot = locked.depot.lock(rt);
     depot.swap_full(&mut caches[own])
@@ -141,25 +140,24 @@ pub(crate) fn swap_full_in<N: Name, R: Wait>(
 pub(crate) fn swap_empty_in<N: Name, R: Wait>(
     parts: &LockedParts<N>,
     rt: &R,
-    caches: &mut Vec<KindRounds<SeatDeed<N>>>,
+    caches: &mut Vec<OwnCache<SeatDeed<N>>>,
     arena: u32,
     cache: u8,
-) -> Result<(), SwapEmptyFault>
+) -> Result<(), EmptyFault>
     ensures exchanged { OnOk result (ExchangesIn
         (λ c d c' d'. BothFull c × SwapsForEmpty c d c' d')
         arena cache caches.old.items caches.new.items) }
     ensures unchanged { OnErr result (caches.new.items ≡ caches.old.items) }
-    ensures goes { result ≢ Err SwapEmptyFault.Stopped }
     ensures kinds { AreForSame caches.old.items caches.new.items }
 {
     let Some(kind) = parts.kind(arena, cache) else {
-        return Err(SwapEmptyFault::NoneEmpty);
+        return Err(EmptyFault::NoneEmpty);
     };
     let Some(own) = own_at(parts, caches, &kind) else {
-        return Err(SwapEmptyFault::NoneEmpty);
+        return Err(EmptyFault::NoneEmpty);
     };
     let Some(locked) = parts.cache(arena, cache) else {
-        return Err(SwapEmptyFault::NoneEmpty);
+        return Err(EmptyFault::NoneEmpty);
     };
     let mut depot = locked.depot.lock(rt);
     depot.swap_empty(&mut caches[own])
@@ -168,29 +166,28 @@ pub(crate) fn swap_empty_in<N: Name, R: Wait>(
 pub(crate) fn swap_fresh_in<N: Name, R: Wait>(
     parts: &LockedParts<N>,
     rt: &R,
-    caches: &mut Vec<KindRounds<SeatDeed<N>>>,
+    caches: &mut Vec<OwnCache<SeatDeed<N>>>,
     arena: u32,
     cache: u8,
-) -> Result<(), SwapFreshFault>
+) -> Result<(), FreshFault>
     ensures exchanged { OnOk result (ExchangesIn
         (λ c d c' d'. BothFull c × PutsFull (empty_magazine c.size) c d c' d')
         arena cache caches.old.items caches.new.items) }
     ensures unchanged { OnErr result (caches.new.items ≡ caches.old.items) }
-    ensures goes { result ≢ Err SwapFreshFault.Stopped }
     ensures kinds { AreForSame caches.old.items caches.new.items }
 {
     let Some(kind) = parts.kind(arena, cache) else {
-        return Err(SwapFreshFault::NotFull);
+        return Err(FreshFault::NotFull);
     };
     let Some(own) = own_at(parts, caches, &kind) else {
-        return Err(SwapFreshFault::NotFull);
+        return Err(FreshFault::NotFull);
     };
     let Some(locked) = parts.cache(arena, cache) else {
-        return Err(SwapFreshFault::NotFull);
+        return Err(FreshFault::NotFull);
     };
     let size = caches[own].size();
     let Ok(magazine) = Magazine::new(parts.alloc, size) else {
-        return Err(SwapFreshFault::NoMemory);
+        return Err(FreshFault::NoMemory);
     };
     let mut depot = locked.depot.lock(rt);
     depot.swap_fresh(&mut caches[own], magazine)

@@ -5,8 +5,8 @@ ghost use Rattle.arena_tree.specs.Trees.{nodes_of};
 ghost use Rattle.magazine_layer.specs.Magazines.{BothEmpty};
 ghost use Rattle.locked_parts.specs.Kinds.{kinds_of, kinds_up_to, count_of_caches};
 
-use crate::cpu_rounds::KindRounds;
 use crate::kinds::{CacheKind, cache_count, quantum_of};
+use crate::own_caches::OwnCache;
 use arena_tree::Tree;
 use deed_table::{Name, SeatDeed};
 use std::alloc::{AllocError, Global};
@@ -15,7 +15,7 @@ use std::alloc::{AllocError, Global};
 pub fn new_rounds<N: Name>(
     alloc: Global,
     tree: &Tree,
-) -> Result<Vec<KindRounds<SeatDeed<N>>>, AllocError>
+) -> Result<Vec<OwnCache<SeatDeed<N>>>, AllocError>
     ensures empty { IfOk result (λ caches. All (λ r. BothEmpty r.cpu) caches.items) }
     ensures kinds { IfOk result (λ caches. map (λ r. r.kind) caches.items ≡ kinds_of tree.now) }
 {
@@ -33,7 +33,7 @@ pub fn new_rounds<N: Name>(
 fn fill<N: Name>(
     alloc: Global,
     tree: &Tree,
-    caches: &mut Vec<KindRounds<SeatDeed<N>>>,
+    caches: &mut Vec<OwnCache<SeatDeed<N>>>,
 ) -> Result<(), AllocError>
     requires { All (λ r. BothEmpty r.cpu) caches.old.items }
     ensures empty { All (λ r. BothEmpty r.cpu) caches.new.items }
@@ -50,7 +50,7 @@ fn fill_arena<N: Name>(
     alloc: Global,
     tree: &Tree,
     arena: u32,
-    caches: &mut Vec<KindRounds<SeatDeed<N>>>,
+    caches: &mut Vec<OwnCache<SeatDeed<N>>>,
 ) -> Result<(), AllocError>
     requires within { arena < length tree.now }
     requires empty { All (λ r. BothEmpty r.cpu) caches.old.items }
@@ -63,7 +63,7 @@ fn fill_arena<N: Name>(
     let quantum = quantum_of(tree, arena);
     for before in 0..cache_count(tree, arena) {
         caches.reserve(1)?;
-        let own = KindRounds::new(
+        let own = OwnCache::new(
             alloc,
             CacheKind {
                 arena,
@@ -77,7 +77,7 @@ fn fill_arena<N: Name>(
 }
 
 /// Ends magazines that have no round.
-pub fn end_rounds<N: Name>(mut caches: Vec<KindRounds<SeatDeed<N>>>)
+pub fn end_rounds<N: Name>(mut caches: Vec<OwnCache<SeatDeed<N>>>)
     requires { All (λ r. BothEmpty r.cpu) caches.items }
 {
     while let Some(own) = caches.pop() {

@@ -7,21 +7,21 @@ ghost use Rattle.arena_tree.specs.Trees.{nodes_of};
 ghost use Rattle.locked_parts.specs.Gates.{NotesStops};
 ghost use Rattle.locked_parts.specs.Kinds.{AreForSame, count_of_rounds};
 
-use crate::cpu_rounds::KindRounds;
 use crate::gates::{EventName, Gate, StepCount};
 use crate::locked_events::{
     add_carve_in, carve_in, depot_reap_in, free_in, slab_add_in, slab_put_in, slab_reap_in,
     slab_take_in,
 };
+use crate::own_caches::OwnCache;
 use crate::own_events::{change_in, pop_in, push_in, swap_empty_in, swap_fresh_in, swap_full_in};
 use crate::parts::LockedParts;
-use arena_tree::{
-    AddCarveFault, CarveFault, ChangeFault, FreeFault, Parts, PushFault, SlabAddFault,
-    SlabPutFault, Stopped, SwapEmptyFault, SwapFreshFault, SwapFullFault,
-};
+use arena_tree::{ChangeFault, FreshFault, GivenFault, PartFault, Parts, Stopped};
 use deed_core::{Request, Segment};
 use deed_table::{Name, SeatDeed};
+use magazine_layer::{EmptyFault, FullFault};
+use slab_layer::{AddFault, PutFault};
 use std::sync::Wait;
+use tag_arena::{ArenaFault, SpanFault};
 
 /// The parts, the runtime, a gate and the magazines of one CPU, all lent.
 #[derive(Drop)]
@@ -29,7 +29,7 @@ pub struct Running<'a, N: Name, R: Wait, G: Gate> {
     pub parts: &'a LockedParts<N>,
     pub rt: &'a R,
     pub gate: &'a G,
-    pub caches: &'a mut Vec<KindRounds<SeatDeed<N>>>,
+    pub caches: &'a mut Vec<OwnCache<SeatDeed<N>>>,
     pub steps: StepCount,
     /// How many events of shared parts there were.
     pub count: u64,
@@ -52,9 +52,13 @@ impl<N: Name, R: Wait, G: Gate> Parts<Segment<SeatDeed<N>>> for Running<'_, N, R
         self.count
     }
 
-    fn carve(&mut self, arena: u32, request: &Request) -> Result<Segment<SeatDeed<N>>, CarveFault> {
+    fn carve(
+        &mut self,
+        arena: u32,
+        request: &Request,
+    ) -> Result<Segment<SeatDeed<N>>, PartFault<ArenaFault>> {
         if self.steps.stops(self.gate, EventName::Carve) {
-            return Err(CarveFault::Stopped);
+            return Err(PartFault::Stopped);
         }
         self.count = self.count.saturating_add(1);
         carve_in(self.parts, self.rt, arena, request)
@@ -63,9 +67,12 @@ impl<N: Name, R: Wait, G: Gate> Parts<Segment<SeatDeed<N>>> for Running<'_, N, R
     fn free(
         &mut self,
         segment: Segment<SeatDeed<N>>,
-    ) -> Result<Option<Segment<SeatDeed<N>>>, FreeFault<Segment<SeatDeed<N>>>> {
+    ) -> Result<
+        Option<Segment<SeatDeed<N>>>,
+        GivenFault<Segment<SeatDeed<N>>, Segment<SeatDeed<N>>>,
+    > {
         if self.steps.stops(self.gate, EventName::Free) {
-            return Err(FreeFault::Stopped(segment));
+            return Err(GivenFault::Stopped(segment));
         }
         self.count = self.count.saturating_add(1);
         free_in(self.parts, self.rt, segment)
@@ -76,9 +83,12 @@ impl<N: Name, R: Wait, G: Gate> Parts<Segment<SeatDeed<N>>> for Running<'_, N, R
         child: u32,
         segment: Segment<SeatDeed<N>>,
         size: u64,
-    ) -> Result<Segment<SeatDeed<N>>, AddCarveFault<Segment<SeatDeed<N>>>> {
+    ) -> Result<
+        Segment<SeatDeed<N>>,
+        GivenFault<SpanFault<Segment<SeatDeed<N>>>, Segment<SeatDeed<N>>>,
+    > {
         if self.steps.stops(self.gate, EventName::AddCarve) {
-            return Err(AddCarveFault::Stopped(segment));
+            return Err(GivenFault::Stopped(segment));
         }
         self.count = self.count.saturating_add(1);
         add_carve_in(self.parts, self.rt, child, segment, size)
@@ -99,9 +109,9 @@ impl<N: Name, R: Wait, G: Gate> Parts<Segment<SeatDeed<N>>> for Running<'_, N, R
     fn slab_put(
         &mut self,
         segment: Segment<SeatDeed<N>>,
-    ) -> Result<(), SlabPutFault<Segment<SeatDeed<N>>>> {
+    ) -> Result<(), GivenFault<PutFault<Segment<SeatDeed<N>>>, Segment<SeatDeed<N>>>> {
         if self.steps.stops(self.gate, EventName::SlabPut) {
-            return Err(SlabPutFault::Stopped(segment));
+            return Err(GivenFault::Stopped(segment));
         }
         self.count = self.count.saturating_add(1);
         slab_put_in(self.parts, self.rt, segment)
@@ -112,9 +122,12 @@ impl<N: Name, R: Wait, G: Gate> Parts<Segment<SeatDeed<N>>> for Running<'_, N, R
         arena: u32,
         cache: u8,
         segment: Segment<SeatDeed<N>>,
-    ) -> Result<Segment<SeatDeed<N>>, SlabAddFault<Segment<SeatDeed<N>>>> {
+    ) -> Result<
+        Segment<SeatDeed<N>>,
+        GivenFault<AddFault<Segment<SeatDeed<N>>>, Segment<SeatDeed<N>>>,
+    > {
         if self.steps.stops(self.gate, EventName::SlabAdd) {
-            return Err(SlabAddFault::Stopped(segment));
+            return Err(GivenFault::Stopped(segment));
         }
         self.count = self.count.saturating_add(1);
         slab_add_in(self.parts, self.rt, arena, cache, segment)
@@ -132,28 +145,28 @@ impl<N: Name, R: Wait, G: Gate> Parts<Segment<SeatDeed<N>>> for Running<'_, N, R
         slab_reap_in(self.parts, self.rt, arena, cache)
     }
 
-    fn swap_full(&mut self, arena: u32, cache: u8) -> Result<(), SwapFullFault> {
+    fn swap_full(&mut self, arena: u32, cache: u8) -> Result<(), PartFault<FullFault>> {
         if self.steps.stops(self.gate, EventName::SwapFull) {
-            return Err(SwapFullFault::Stopped);
+            return Err(PartFault::Stopped);
         }
         self.count = self.count.saturating_add(1);
-        swap_full_in(self.parts, self.rt, self.caches, arena, cache)
+        PartFault::wrap(swap_full_in(self.parts, self.rt, self.caches, arena, cache))
     }
 
-    fn swap_empty(&mut self, arena: u32, cache: u8) -> Result<(), SwapEmptyFault> {
+    fn swap_empty(&mut self, arena: u32, cache: u8) -> Result<(), PartFault<EmptyFault>> {
         if self.steps.stops(self.gate, EventName::SwapEmpty) {
-            return Err(SwapEmptyFault::Stopped);
+            return Err(PartFault::Stopped);
         }
         self.count = self.count.saturating_add(1);
-        swap_empty_in(self.parts, self.rt, self.caches, arena, cache)
+        PartFault::wrap(swap_empty_in(self.parts, self.rt, self.caches, arena, cache))
     }
 
-    fn swap_fresh(&mut self, arena: u32, cache: u8) -> Result<(), SwapFreshFault> {
+    fn swap_fresh(&mut self, arena: u32, cache: u8) -> Result<(), PartFault<FreshFault>> {
         if self.steps.stops(self.gate, EventName::SwapEmpty) {
-            return Err(SwapFreshFault::Stopped);
+            return Err(PartFault::Stopped);
         }
         self.count = self.count.saturating_add(1);
-        swap_fresh_in(self.parts, self.rt, self.caches, arena, cache)
+        PartFault::wrap(swap_fresh_in(self.parts, self.rt, self.caches, arena, cache))
     }
 
     fn depot_reap(
@@ -182,17 +195,17 @@ impl<N: Name, R: Wait, G: Gate> Parts<Segment<SeatDeed<N>>> for Running<'_, N, R
         arena: u32,
         cache: u8,
         segment: Segment<SeatDeed<N>>,
-    ) -> Result<(), PushFault<Segment<SeatDeed<N>>>> {
+    ) -> Result<(), GivenFault<Segment<SeatDeed<N>>, Segment<SeatDeed<N>>>> {
         if self.steps.stops(self.gate, EventName::Push) {
-            return Err(PushFault::Stopped(segment));
+            return Err(GivenFault::Stopped(segment));
         }
         let _count = self.count;
         push_in(self.parts, self.caches, arena, cache, segment)
     }
 
-    fn change(&mut self, arena: u32, cache: u8, size: usize) -> Result<(), ChangeFault> {
+    fn change(&mut self, arena: u32, cache: u8, size: usize) -> Result<(), PartFault<ChangeFault>> {
         if self.steps.stops(self.gate, EventName::Change) {
-            return Err(ChangeFault::Stopped);
+            return Err(PartFault::Stopped);
         }
         let _count = self.count;
         change_in(self.parts, self.caches, arena, cache, size)

@@ -1,20 +1,18 @@
 //! The events of a slab cache under its lock. Each looks whether it is the cache that is meant;
 //! what is put back tells that by itself.
-ghost use Rattle.std.specs.Prelude.{◌≡◌, ◌↔◌, All, IsTrue, false, IfSome, IfOk, IfErr, Ok, Some};
+ghost use Rattle.std.specs.Prelude.{◌≡◌, ◌↔◌, All, IsTrue, IfSome, IfOk, IfErr, Ok, Err, Some};
 ghost use Rattle.std.specs.Prelude.{OnErr};
 ghost use Rattle.std.specs.Prelude.{IfNone};
-ghost use Rattle.slab_layer.specs.Calls.{TakeOf, PutOf, AddOf, ReapOf};
+ghost use Rattle.slab_layer.specs.Calls.{TakeOf, AddOf, ReapOf};
 ghost use Rattle.slab_layer.specs.Slab.{IsAllOut, IsComplete};
-ghost use Rattle.arena_tree.specs.Events.{segment_of_put, segment_of_slab_add};
+ghost use Rattle.arena_tree.specs.Events.{segment_of_slab_add};
 ghost use Rattle.locked_parts.specs.Answers.{IsSpanOfKind};
 ghost use Rattle.locked_parts.specs.Kinds.{IsOfKind, AreSlabsOf};
-ghost use Rattle.locked_parts.specs.Refusals.{PutsNone, AddsNone};
-ghost use Rattle.arena_tree.specs.Stops.{put_stops, slab_stops};
 
 use crate::kinds::CacheKind;
-use arena_tree::{SlabAddFault, SlabPutFault};
+use arena_tree::GivenFault;
 use deed_core::{Deed, Segment};
-use slab_layer::{AddFault, PutFault, SlabCache};
+use slab_layer::{AddFault, SlabCache};
 
 // Whether the cache is that.
 fn is_kind<D: Deed>(slab: &SlabCache<D>, kind: &CacheKind) -> bool
@@ -36,47 +34,24 @@ pub(crate) fn take_chunk<D: Deed>(slab: &mut SlabCache<D>, kind: &CacheKind) -> 
     slab.take()
 }
 
-/// Takes a chunk back.
-pub(crate) fn put_chunk<D: Deed>(
-    slab: &mut SlabCache<D>,
-    segment: Segment<D>,
-) -> Result<(), SlabPutFault<Segment<D>>>
-    ensures event { IfOk result (λ u. PutOf slab.old segment (Ok u) slab.new) }
-    ensures refused { IfErr result (λ f. PutsNone slab.old segment f slab.new) }
-    ensures handed_back { IfErr result (λ f. (segment_of_put f ≡ segment) × (put_stops f ≡ false)) }
-    ensures unchanged { OnErr result (slab.new ≡ slab.old) }
-{
-    match slab.put(segment) {
-        Ok(()) => Ok(()),
-        Err(PutFault::NotMine(segment)) => Err(SlabPutFault::NotMine(segment)),
-        Err(PutFault::AtHome(segment)) => Err(SlabPutFault::AtHome(segment)),
-    }
-}
-
 /// Makes a slab of a span, and takes its first chunk.
 pub(crate) fn add_slab<D: Deed>(
     slab: &mut SlabCache<D>,
     kind: &CacheKind,
     span: Segment<D>,
-) -> Result<Segment<D>, SlabAddFault<Segment<D>>>
+) -> Result<Segment<D>, AddFault<Segment<D>>>
     requires { IsSpanOfKind kind.now span }
     ensures chunk { IfOk result (IsOfKind kind.now) }
     ensures event { IfOk result (λ t. AddOf slab.old span (Ok t) slab.new) }
     ensures refused { IfErr result (λ f. AreSlabsOf kind.now slab.old
-        → AddsNone slab.old span f slab.new) }
-    ensures handed_back { IfErr result (λ f. (segment_of_slab_add f ≡ span)
-        × (slab_stops f ≡ false)) }
+        → AddOf slab.old span (Err f) slab.new) }
+    ensures handed_back { IfErr result (λ f. segment_of_slab_add (GivenFault.Refused f) ≡ span) }
     ensures unchanged { OnErr result (slab.new ≡ slab.old) }
 {
     if !is_kind(slab, kind) {
-        return Err(SlabAddFault::WrongSize(span));
+        return Err(AddFault::WrongSize(span));
     }
-    match slab.add(span) {
-        Ok(chunk) => Ok(chunk),
-        Err(AddFault::WrongSize(span)) => Err(SlabAddFault::WrongSize(span)),
-        Err(AddFault::Overlaps(span)) => Err(SlabAddFault::Overlaps(span)),
-        Err(AddFault::NoMemory(span)) => Err(SlabAddFault::NoMemory(span)),
-    }
+    slab.add(span)
 }
 
 /// Takes the span of a slab of which no chunk is out, if there is one.

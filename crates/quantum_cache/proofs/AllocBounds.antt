@@ -4,10 +4,15 @@ use Rattle.deed_core.specs.Tag.{Tag}
 use Rattle.arena_tree.specs.declared.limits.TheConstants.{LONGEST_CHAIN}
 use Rattle.arena_tree.specs.declared.levels.Level.{Level}
 use Rattle.arena_tree.specs.declared.part_faults.ClimbFault.TheVariants as climbing
-use Rattle.arena_tree.specs.declared.part_faults.SwapFullFault.{SwapFullFault}
-use Rattle.arena_tree.specs.declared.part_faults.SwapFullFault.TheVariants as fulling
-use Rattle.arena_tree.specs.declared.part_faults.SlabAddFault.{SlabAddFault}
-use Rattle.arena_tree.specs.declared.part_faults.SlabAddFault.TheVariants as slabbing
+use Rattle.arena_tree.specs.declared.part_faults.PartFault.{PartFault}
+use Rattle.arena_tree.specs.declared.part_faults.GivenFault.{GivenFault}
+use Rattle.slab_layer.specs.declared.faults.AddFault.{AddFault}
+use Rattle.magazine_layer.specs.declared.faults.FullFault.{FullFault}
+use Rattle.arena_tree.specs.declared.part_faults.PartFault.TheVariants as asking
+use Rattle.arena_tree.specs.declared.part_faults.GivenFault.TheVariants as giving
+use Rattle.tag_arena.specs.declared.faults.ArenaFault.TheVariants as carving
+use Rattle.slab_layer.specs.declared.faults.AddFault.TheVariants as slabbing
+use Rattle.magazine_layer.specs.declared.faults.FullFault.TheVariants as fulling
 use Rattle.arena_tree.specs.Plans.{Plan, Done, then, or_else, Within}
 use Rattle.arena_tree.specs.Climbs.{ClimbEnd, climb_plan, memory_refusal, climb_most}
 use Rattle.arena_tree.proofs.LawProofs.{within_then, within_refused, within_climb}
@@ -33,11 +38,11 @@ within_depot : (arena cache n : ℕ) → Within (λ (s : Stage). n + 1) (take_fr
 unfolding take_from_depot take_round change_over
 within_depot arena cache n = swapped
   where
-    swapped : (x : Result (Unit {0}) SwapFullFault) → Within (λ (s : Stage). n + 1) (on_swap_full arena cache x) (n + 1)
+    swapped : (x : Result (Unit {0}) (PartFault FullFault)) → Within (λ (s : Stage). n + 1) (on_swap_full arena cache x) (n + 1)
     swapped (Ok u) = λ x. omega arith
-    swapped (Err (fulling.OldSize m)) = λ x. omega arith
-    swapped (Err fulling.NoneFull) = omega arith
-    swapped (Err fulling.Stopped) = omega arith
+    swapped (Err (asking.Refused (fulling.OldSize m))) = λ x. omega arith
+    swapped (Err (asking.Refused fulling.NoneFull)) = omega arith
+    swapped (Err asking.Stopped) = omega arith
 
 within_chunk : (arena cache n : ℕ) → Within (λ (s : Stage). n + 1) (take_chunk arena cache) n
 unfolding take_chunk
@@ -48,21 +53,21 @@ abbrev slab_most : ℕ → ℕ → Stage → ℕ
 slab_most n depth None = n + depth
 slab_most n depth (Some r) = n + 3 * depth
 
-slab_within : (most : ClimbEnd → ℕ) (chain : List Level) (x : Result Tag (SlabAddFault Tag)) (n : ℕ) → ((r : ClimbEnd) → n + length chain ≤ most r) → Within most (on_slab_add chain x) n
+slab_within : (most : ClimbEnd → ℕ) (chain : List Level) (x : Result Tag (GivenFault (AddFault Tag) Tag)) (n : ℕ) → ((r : ClimbEnd) → n + length chain ≤ most r) → Within most (on_slab_add chain x) n
 slab_within most chain (Ok t) n le = let h = le (Ok t) in omega arith
-slab_within most chain (Err (slabbing.WrongSize t)) n le = let h = le (Err (climbing.Stuck t)) in omega arith
-slab_within most chain (Err (slabbing.Overlaps t)) n le = let h = le (Err (climbing.Stuck t)) in omega arith
-slab_within most chain (Err (slabbing.Stopped t)) n le = let h = le (Err (climbing.Stopped (Some t))) in omega arith
-slab_within most chain (Err (slabbing.NoMemory t)) n le = within_refused most chain t n (λ r. le (memory_refusal r))
+slab_within most chain (Err (giving.Refused (slabbing.WrongSize t))) n le = let h = le (Err (climbing.Stuck t)) in omega arith
+slab_within most chain (Err (giving.Refused (slabbing.Overlaps t))) n le = let h = le (Err (climbing.Stuck t)) in omega arith
+slab_within most chain (Err (giving.Stopped t)) n le = let h = le (Err (climbing.Stopped (Some t))) in omega arith
+slab_within most chain (Err (giving.Refused (slabbing.NoMemory t))) n le = within_refused most chain t n (λ r. le (memory_refusal r))
 
 -- after the climb
 within_climbed : (chain : List Level) (arena cache n : ℕ) (x : ClimbEnd) (m : ℕ) → 1 ≤ length chain → m ≤ n + climb_most (length chain) x → Within (slab_most n (length chain)) (on_slab_climb chain arena cache x) m
 unfolding make_slab
 within_climbed chain arena cache n (Ok span) m some low =
     within_then (λ (r : ClimbEnd). n + 3 * length chain) (slab_most n (length chain)) (make_slab chain arena cache span) (λ r. Done (Some r)) m (λ x. slab_within (λ (r : ClimbEnd). n + 3 * length chain) chain x (m + 1) (λ r. omega arith)) (λ r k le. le)
-within_climbed chain arena cache n (Err climbing.BadRequest) m some low = omega arith
-within_climbed chain arena cache n (Err climbing.NoFit) m some low = omega arith
-within_climbed chain arena cache n (Err climbing.NoMemory) m some low = omega arith
+within_climbed chain arena cache n (Err (climbing.Refused carving.BadRequest)) m some low = omega arith
+within_climbed chain arena cache n (Err (climbing.Refused carving.NoFit)) m some low = omega arith
+within_climbed chain arena cache n (Err (climbing.Refused carving.NoMemory)) m some low = omega arith
 within_climbed chain arena cache n (Err (climbing.Stuck t)) m some low = omega arith
 within_climbed chain arena cache n (Err (climbing.Stopped o)) m some low = omega arith
 
@@ -78,9 +83,9 @@ climb_after chain size n most some le = within_climb (λ (r : ClimbEnd). most) c
   where
     fits : (r : ClimbEnd) → n + climb_most (length chain) r ≤ most
     fits (Ok t) = omega arith
-    fits (Err climbing.BadRequest) = omega arith
-    fits (Err climbing.NoFit) = omega arith
-    fits (Err climbing.NoMemory) = omega arith
+    fits (Err (climbing.Refused carving.BadRequest)) = omega arith
+    fits (Err (climbing.Refused carving.NoFit)) = omega arith
+    fits (Err (climbing.Refused carving.NoMemory)) = omega arith
     fits (Err (climbing.Stuck t)) = omega arith
     fits (Err (climbing.Stopped o)) = omega arith
 

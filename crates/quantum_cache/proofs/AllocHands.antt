@@ -2,14 +2,18 @@
 use Rattle.std.proofs.Common.{◌≡◌, ℕ, List, [], ◌∷◌, Option, Some, None, Result, Ok, Err, refl}
 use Rattle.deed_core.specs.Tag.{Tag}
 use Rattle.arena_tree.specs.declared.levels.Level.{Level}
-use Rattle.arena_tree.specs.declared.part_faults.CarveFault.{CarveFault}
+use Rattle.arena_tree.specs.declared.part_faults.PartFault.{PartFault}
+use Rattle.arena_tree.specs.declared.part_faults.GivenFault.{GivenFault}
 use Rattle.arena_tree.specs.declared.part_faults.ChangeFault.{ChangeFault}
-use Rattle.arena_tree.specs.declared.part_faults.ChangeFault.TheVariants as changing
+use Rattle.tag_arena.specs.declared.faults.ArenaFault.{ArenaFault}
+use Rattle.slab_layer.specs.declared.faults.AddFault.{AddFault}
+use Rattle.magazine_layer.specs.declared.faults.FullFault.{FullFault}
+use Rattle.arena_tree.specs.declared.part_faults.PartFault.TheVariants as asking
+use Rattle.arena_tree.specs.declared.part_faults.GivenFault.TheVariants as giving
+use Rattle.tag_arena.specs.declared.faults.ArenaFault.TheVariants as carving
+use Rattle.slab_layer.specs.declared.faults.AddFault.TheVariants as slabbing
+use Rattle.magazine_layer.specs.declared.faults.FullFault.TheVariants as fulling
 use Rattle.arena_tree.specs.declared.part_faults.ClimbFault.TheVariants as climbing
-use Rattle.arena_tree.specs.declared.part_faults.SwapFullFault.{SwapFullFault}
-use Rattle.arena_tree.specs.declared.part_faults.SwapFullFault.TheVariants as fulling
-use Rattle.arena_tree.specs.declared.part_faults.SlabAddFault.{SlabAddFault}
-use Rattle.arena_tree.specs.declared.part_faults.SlabAddFault.TheVariants as slabbing
 use Rattle.arena_tree.specs.declared.part_faults.Stopped.{Stopped}
 use Rattle.arena_tree.specs.Events.{hand_left, hand_of_answer, segment_of_slab_add}
 use Rattle.arena_tree.specs.Plans.{Plan, Done, then, or_else, Handles}
@@ -44,39 +48,38 @@ handles_over : (arena cache size : ℕ) → Handles stage_left (change_over aren
 unfolding change_over
 handles_over arena cache size = (tt, changed)
   where
-    changed : (a : Result (Unit {0}) ChangeFault) → None ≡ stage_left (on_change_over a)
+    changed : (a : Result (Unit {0}) (PartFault ChangeFault)) → None ≡ stage_left (on_change_over a)
     changed (Ok u) = refl
-    changed (Err changing.NoMemory) = refl
-    changed (Err changing.NotGreater) = refl
-    changed (Err changing.Stopped) = refl
+    changed (Err (asking.Refused f)) = refl
+    changed (Err asking.Stopped) = refl
 
 handles_depot : (arena cache : ℕ) → Handles stage_left (take_from_depot arena cache) None
 unfolding take_from_depot
 handles_depot arena cache = (tt, swapped)
   where
-    swapped : (x : Result (Unit {0}) SwapFullFault) → Handles stage_left (on_swap_full arena cache x) None
+    swapped : (x : Result (Unit {0}) (PartFault FullFault)) → Handles stage_left (on_swap_full arena cache x) None
     swapped (Ok u) = handles_round arena cache
-    swapped (Err (fulling.OldSize m)) = handles_over arena cache m
-    swapped (Err fulling.NoneFull) = refl
-    swapped (Err fulling.Stopped) = refl
+    swapped (Err (asking.Refused (fulling.OldSize m))) = handles_over arena cache m
+    swapped (Err (asking.Refused fulling.NoneFull)) = refl
+    swapped (Err asking.Stopped) = refl
 
 handles_chunk : (arena cache : ℕ) → Handles stage_left (take_chunk arena cache) None
 unfolding take_chunk
 handles_chunk arena cache = (refl, handles_take)
 
-handles_slab : (chain : List Level) (x : Result Tag (SlabAddFault Tag)) → Handles climb_left (on_slab_add chain x) (hand_left (λ f. Some (segment_of_slab_add f)) x)
+handles_slab : (chain : List Level) (x : Result Tag (GivenFault (AddFault Tag) Tag)) → Handles climb_left (on_slab_add chain x) (hand_left (λ f. Some (segment_of_slab_add f)) x)
 handles_slab chain (Ok t) = refl
-handles_slab chain (Err (slabbing.WrongSize t)) = refl
-handles_slab chain (Err (slabbing.Overlaps t)) = refl
-handles_slab chain (Err (slabbing.Stopped t)) = refl
-handles_slab chain (Err (slabbing.NoMemory t)) = handles_refused chain t
+handles_slab chain (Err (giving.Refused (slabbing.WrongSize t))) = refl
+handles_slab chain (Err (giving.Refused (slabbing.Overlaps t))) = refl
+handles_slab chain (Err (giving.Stopped t)) = refl
+handles_slab chain (Err (giving.Refused (slabbing.NoMemory t))) = handles_refused chain t
 
 handles_climbed : (chain : List Level) (arena cache : ℕ) (x : ClimbEnd) → Handles stage_left (on_slab_climb chain arena cache x) (climb_left x)
 unfolding make_slab
 handles_climbed chain arena cache (Ok span) = handles_then climb_left stage_left (make_slab chain arena cache span) (λ r. Done (Some r)) (Some span) (refl, handles_slab chain) (λ r. refl)
-handles_climbed chain arena cache (Err climbing.BadRequest) = refl
-handles_climbed chain arena cache (Err climbing.NoFit) = refl
-handles_climbed chain arena cache (Err climbing.NoMemory) = refl
+handles_climbed chain arena cache (Err (climbing.Refused carving.BadRequest)) = refl
+handles_climbed chain arena cache (Err (climbing.Refused carving.NoFit)) = refl
+handles_climbed chain arena cache (Err (climbing.Refused carving.NoMemory)) = refl
 handles_climbed chain arena cache (Err (climbing.Stuck t)) = refl
 handles_climbed chain arena cache (Err (climbing.Stopped o)) = refl
 
@@ -100,6 +103,6 @@ alloc_handles (l ∷ up) size = handles_by (cache_for l size) (l ∷ up) l size
 pub xalloc_handles : XallocHandles
 xalloc_handles arena request = (refl, carved)
   where
-    carved : (a : Result Tag CarveFault) → hand_left (λ _. None) a ≡ carve_left a
+    carved : (a : Result Tag (PartFault ArenaFault)) → hand_left (λ _. None) a ≡ carve_left a
     carved (Ok t) = refl
     carved (Err e) = refl

@@ -2,14 +2,18 @@
 use Rattle.std.proofs.Common.{◌≡◌, ℕ, true, List, [], ◌∷◌, Option, Some, None, Result, Ok, Err, refl, sym, ap, subst, inl, inr, ◌∙◌}
 use Rattle.deed_core.specs.Tag.{Tag}
 use Rattle.arena_tree.specs.declared.levels.Level.{Level}
+use Rattle.arena_tree.specs.declared.part_faults.PartFault.{PartFault}
+use Rattle.arena_tree.specs.declared.part_faults.GivenFault.{GivenFault}
 use Rattle.arena_tree.specs.declared.part_faults.ChangeFault.{ChangeFault}
-use Rattle.arena_tree.specs.declared.part_faults.ChangeFault.TheVariants as changing
+use Rattle.slab_layer.specs.declared.faults.AddFault.{AddFault}
+use Rattle.magazine_layer.specs.declared.faults.FullFault.{FullFault}
+use Rattle.arena_tree.specs.declared.part_faults.PartFault.TheVariants as asking
+use Rattle.arena_tree.specs.declared.part_faults.GivenFault.TheVariants as giving
+use Rattle.tag_arena.specs.declared.faults.ArenaFault.TheVariants as carving
+use Rattle.slab_layer.specs.declared.faults.AddFault.TheVariants as slabbing
+use Rattle.magazine_layer.specs.declared.faults.FullFault.TheVariants as fulling
 use Rattle.arena_tree.specs.declared.part_faults.ClimbFault.TheVariants as climbing
 use Rattle.arena_tree.specs.declared.part_faults.ReturnFault.TheVariants as returning
-use Rattle.arena_tree.specs.declared.part_faults.SwapFullFault.{SwapFullFault}
-use Rattle.arena_tree.specs.declared.part_faults.SwapFullFault.TheVariants as fulling
-use Rattle.arena_tree.specs.declared.part_faults.SlabAddFault.{SlabAddFault}
-use Rattle.arena_tree.specs.declared.part_faults.SlabAddFault.TheVariants as slabbing
 use Rattle.arena_tree.specs.declared.part_faults.Stopped.{Stopped}
 use Rattle.arena_tree.specs.Chains.{Node, IsChain, IsCachedChunk, first_id}
 use Rattle.arena_tree.specs.Events.{SlabTake, SlabAdd, SwapFull, Pop, Change}
@@ -34,9 +38,9 @@ told_climb nodes l up size told is =
   where
     so : (now : List AnsweredEvent) (r : ClimbEnd) → After (ClimbTold nodes (l ∷ up) size) told now r × IfNone (l ∷ up) size told now r → AllocTold nodes (l ∷ up) size now r
     so now (Ok t) w = let g = w.0.2 in record { of_arena = g.of_arena; by = inl g.direct; fits = g.fits }
-    so now (Err climbing.BadRequest) w = inl w.0.2
-    so now (Err climbing.NoFit) w = (told, w.1 refl)
-    so now (Err climbing.NoMemory) w = ran_out_after w.0.0 told now w.0.1 w.0.2
+    so now (Err (climbing.Refused carving.BadRequest)) w = inl w.0.2
+    so now (Err (climbing.Refused carving.NoFit)) w = (told, w.1 refl)
+    so now (Err (climbing.Refused carving.NoMemory)) w = ran_out_after w.0.0 told now w.0.1 w.0.2
     so now (Err (climbing.Stuck t)) w = just_refused t w.0.0 told now w.0.1 w.0.2
     so now (Err (climbing.Stopped o)) w = stopped_after w.0.0 told now w.0.1 w.0.2
 
@@ -68,21 +72,20 @@ module _ (nodes : List Node) (l : Level) (up : List Level) (size cache : ℕ) (i
   unfolding change_over
   told_over m told = λ x s. changed x
     where
-      changed : (x : Result (Unit {0}) ChangeFault) → IfTold (answered (Change l.id cache m) x ∷ told) (on_change_over x)
+      changed : (x : Result (Unit {0}) (PartFault ChangeFault)) → IfTold (answered (Change l.id cache m) x ∷ told) (on_change_over x)
       changed (Ok u) = tt
-      changed (Err changing.NoMemory) = tt
-      changed (Err changing.NotGreater) = tt
-      changed (Err changing.Stopped) = refl
+      changed (Err (asking.Refused f)) = tt
+      changed (Err asking.Stopped) = refl
 
   told_depot : (told : List AnsweredEvent) → Tells nodes IfTold (take_from_depot l.id cache) told
   unfolding take_from_depot
   told_depot told = λ x s. swapped x
     where
-      swapped : (x : Result (Unit {0}) SwapFullFault) → Tells nodes IfTold (on_swap_full l.id cache x) (answered (SwapFull l.id cache) x ∷ told)
+      swapped : (x : Result (Unit {0}) (PartFault FullFault)) → Tells nodes IfTold (on_swap_full l.id cache x) (answered (SwapFull l.id cache) x ∷ told)
       swapped (Ok u) = told_round (answered (SwapFull l.id cache) (Ok u) ∷ told)
-      swapped (Err (fulling.OldSize m)) = told_over m (answered (SwapFull l.id cache) (Err (fulling.OldSize m)) ∷ told)
-      swapped (Err fulling.NoneFull) = tt
-      swapped (Err fulling.Stopped) = refl
+      swapped (Err (asking.Refused (fulling.OldSize m))) = told_over m (answered (SwapFull l.id cache) (Err (asking.Refused (fulling.OldSize m))) ∷ told)
+      swapped (Err (asking.Refused fulling.NoneFull)) = tt
+      swapped (Err asking.Stopped) = refl
 
   told_chunk : (told : List AnsweredEvent) → Tells nodes IfTold (take_chunk l.id cache) told
   unfolding take_chunk
@@ -96,21 +99,21 @@ module _ (nodes : List Node) (l : Level) (up : List Level) (size cache : ℕ) (i
       ends (Err (returning.Stuck x)) now w = just_refused x w.0 told now w.1 w.2
       ends (Err (returning.Stopped x)) now w = stopped_after w.0 told now w.1 w.2
 
-  told_slab : (span : Tag) (told : List AnsweredEvent) → span.arena ≡ l.id → (x : Result Tag (SlabAddFault Tag)) → Sound nodes (SlabAdd l.id cache span) x → Tells nodes (AllocTold nodes (l ∷ up) size) (on_slab_add (l ∷ up) x) (answered (SlabAdd l.id cache span) x ∷ told)
+  told_slab : (span : Tag) (told : List AnsweredEvent) → span.arena ≡ l.id → (x : Result Tag (GivenFault (AddFault Tag) Tag)) → Sound nodes (SlabAdd l.id cache span) x → Tells nodes (AllocTold nodes (l ∷ up) size) (on_slab_add (l ∷ up) x) (answered (SlabAdd l.id cache span) x ∷ told)
   told_slab span told here (Ok t) s = chunk t s.0
-  told_slab span told here (Err (slabbing.WrongSize t)) s = refl
-  told_slab span told here (Err (slabbing.Overlaps t)) s = refl
-  told_slab span told here (Err (slabbing.Stopped t)) s = refl
-  told_slab span told here (Err (slabbing.NoMemory t)) s =
-      told_back t (answered (SlabAdd l.id cache span) (Err (slabbing.NoMemory t)) ∷ told) (ap Some (sym (ap (λ (z : Tag). z.arena) s.1 ∙ here))) (inl (ap (λ (z : Tag). Err (slabbing.NoMemory z)) s.1))
+  told_slab span told here (Err (giving.Refused (slabbing.WrongSize t))) s = refl
+  told_slab span told here (Err (giving.Refused (slabbing.Overlaps t))) s = refl
+  told_slab span told here (Err (giving.Stopped t)) s = refl
+  told_slab span told here (Err (giving.Refused (slabbing.NoMemory t))) s =
+      told_back t (answered (SlabAdd l.id cache span) (Err (giving.Refused (slabbing.NoMemory t))) ∷ told) (ap Some (sym (ap (λ (z : Tag). z.arena) s.1 ∙ here))) (inl (ap (λ (z : Tag). Err (giving.Refused (slabbing.NoMemory z))) s.1))
 
   told_climbed : (x : ClimbEnd) (before now : List AnsweredEvent) → After (ClimbTold nodes (l ∷ up) l.slab_size) before now x → Tells nodes IfTold (on_slab_climb (l ∷ up) l.id cache x) now
   unfolding make_slab
   told_climbed (Ok span) before now w =
       tells_then nodes (AllocTold nodes (l ∷ up) size) IfTold (make_slab (l ∷ up) l.id cache span) (λ r. Done (Some r)) now (λ x s. told_slab span now (w.2).of_arena x s) (λ r told e. e)
-  told_climbed (Err climbing.BadRequest) before now w = inr (w.2, (cache, for))
-  told_climbed (Err climbing.NoFit) before now w = tt
-  told_climbed (Err climbing.NoMemory) before now w = ran_out_after w.0 before now w.1 w.2
+  told_climbed (Err (climbing.Refused carving.BadRequest)) before now w = inr (w.2, (cache, for))
+  told_climbed (Err (climbing.Refused carving.NoFit)) before now w = tt
+  told_climbed (Err (climbing.Refused carving.NoMemory)) before now w = ran_out_after w.0 before now w.1 w.2
   told_climbed (Err (climbing.Stuck t)) before now w = just_refused t w.0 before now w.1 w.2
   told_climbed (Err (climbing.Stopped o)) before now w = stopped_after w.0 before now w.1 w.2
 

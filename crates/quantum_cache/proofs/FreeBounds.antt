@@ -4,12 +4,13 @@ use Rattle.deed_core.specs.Tag.{Tag}
 use Rattle.deed_core.specs.declared.segments.Route.{Route}
 use Rattle.deed_core.specs.declared.segments.Route.TheVariants.{Direct, Cached}
 use Rattle.arena_tree.specs.declared.levels.Level.{Level}
+use Rattle.arena_tree.specs.declared.part_faults.PartFault.{PartFault}
+use Rattle.arena_tree.specs.declared.part_faults.FreshFault.{FreshFault}
 use Rattle.arena_tree.specs.declared.part_faults.ChangeFault.{ChangeFault}
-use Rattle.arena_tree.specs.declared.part_faults.ChangeFault.TheVariants as changing
-use Rattle.arena_tree.specs.declared.part_faults.SwapEmptyFault.{SwapEmptyFault}
-use Rattle.arena_tree.specs.declared.part_faults.SwapEmptyFault.TheVariants as emptying
-use Rattle.arena_tree.specs.declared.part_faults.SwapFreshFault.{SwapFreshFault}
-use Rattle.arena_tree.specs.declared.part_faults.SwapFreshFault.TheVariants as freshing
+use Rattle.magazine_layer.specs.declared.faults.EmptyFault.{EmptyFault}
+use Rattle.arena_tree.specs.declared.part_faults.PartFault.TheVariants as asking
+use Rattle.arena_tree.specs.declared.part_faults.FreshFault.TheVariants as freshing
+use Rattle.magazine_layer.specs.declared.faults.EmptyFault.TheVariants as emptying
 use Rattle.arena_tree.specs.Plans.{Plan, then, Within}
 use Rattle.arena_tree.specs.Climbs.{ReturnEnd}
 use Rattle.arena_tree.proofs.LawProofs.{within_then, within_return}
@@ -34,32 +35,31 @@ within_changed : (arena cache m : ℕ) (t : Tag) (n most : ℕ) → n ≤ most �
 unfolding push_changed
 within_changed arena cache m t n most le = changed
   where
-    changed : (x : Result (Unit {0}) ChangeFault) → Within (λ (p : Placing Tag). most) (on_change arena cache t x) (n + 0)
+    changed : (x : Result (Unit {0}) (PartFault ChangeFault)) → Within (λ (p : Placing Tag). most) (on_change arena cache t x) (n + 0)
     changed (Ok u) = within_push arena cache t (n + 0) most (omega (arith, le))
-    changed (Err changing.NoMemory) = omega (arith, le)
-    changed (Err changing.NotGreater) = omega (arith, le)
-    changed (Err changing.Stopped) = omega (arith, le)
+    changed (Err (asking.Refused f)) = omega (arith, le)
+    changed (Err asking.Stopped) = omega (arith, le)
 
 within_fresh : (arena cache : ℕ) (t : Tag) (n most : ℕ) → n + 1 ≤ most → Within (λ (p : Placing Tag). most) (push_fresh arena cache t) n
 unfolding push_fresh
 within_fresh arena cache t n most le = swapped
   where
-    swapped : (x : Result (Unit {0}) SwapFreshFault) → Within (λ (p : Placing Tag). most) (on_swap_fresh arena cache t x) (n + 1)
+    swapped : (x : Result (Unit {0}) (PartFault FreshFault)) → Within (λ (p : Placing Tag). most) (on_swap_fresh arena cache t x) (n + 1)
     swapped (Ok u) = within_push arena cache t (n + 1) most le
-    swapped (Err (freshing.OldSize m)) = within_changed arena cache m t (n + 1) most le
-    swapped (Err freshing.NotFull) = le
-    swapped (Err freshing.NoMemory) = le
-    swapped (Err freshing.Stopped) = le
+    swapped (Err (asking.Refused (freshing.OldSize m))) = within_changed arena cache m t (n + 1) most le
+    swapped (Err (asking.Refused freshing.NotFull)) = le
+    swapped (Err (asking.Refused freshing.NoMemory)) = le
+    swapped (Err asking.Stopped) = le
 
 within_exchanged : (arena cache : ℕ) (t : Tag) (n most : ℕ) → n + 2 ≤ most → Within (λ (p : Placing Tag). most) (push_exchanged arena cache t) n
 unfolding push_exchanged
 within_exchanged arena cache t n most le = swapped
   where
-    swapped : (x : Result (Unit {0}) SwapEmptyFault) → Within (λ (p : Placing Tag). most) (on_swap_empty arena cache t x) (n + 1)
+    swapped : (x : Result (Unit {0}) (PartFault EmptyFault)) → Within (λ (p : Placing Tag). most) (on_swap_empty arena cache t x) (n + 1)
     swapped (Ok u) = within_push arena cache t (n + 1) most (omega (arith, le))
-    swapped (Err emptying.NoneEmpty) = within_fresh arena cache t (n + 1) most (omega (arith, le))
-    swapped (Err (emptying.OldSize m)) = within_changed arena cache m t (n + 1) most (omega (arith, le))
-    swapped (Err emptying.Stopped) = omega (arith, le)
+    swapped (Err (asking.Refused emptying.NoneEmpty)) = within_fresh arena cache t (n + 1) most (omega (arith, le))
+    swapped (Err (asking.Refused (emptying.OldSize m))) = within_changed arena cache m t (n + 1) most (omega (arith, le))
+    swapped (Err asking.Stopped) = omega (arith, le)
 
 within_or_next : (p : Plan (Placing Tag)) (q : Tag → Plan ReturnEnd) (n stage : ℕ) → Within (λ (a : Placing Tag). stage) p n → stage ≤ 3 → ((t : Tag) (m : ℕ) → m ≤ stage → Within (λ (r : ReturnEnd). 3) (q t) m) → Within (λ (r : ReturnEnd). 3) (then p (or_next q)) n
 within_or_next p q n stage w le next = within_then (λ (a : Placing Tag). stage) (λ (r : ReturnEnd). 3) p (or_next q) n w go

@@ -4,16 +4,17 @@ use Rattle.deed_core.specs.Tag.{Tag}
 use Rattle.deed_core.specs.declared.segments.Route.{Route}
 use Rattle.deed_core.specs.declared.segments.Route.TheVariants.{Direct, Cached}
 use Rattle.arena_tree.specs.declared.levels.Level.{Level}
+use Rattle.arena_tree.specs.declared.part_faults.PartFault.{PartFault}
+use Rattle.arena_tree.specs.declared.part_faults.GivenFault.{GivenFault}
+use Rattle.arena_tree.specs.declared.part_faults.FreshFault.{FreshFault}
 use Rattle.arena_tree.specs.declared.part_faults.ChangeFault.{ChangeFault}
-use Rattle.arena_tree.specs.declared.part_faults.ChangeFault.TheVariants as changing
-use Rattle.arena_tree.specs.declared.part_faults.PushFault.{PushFault}
-use Rattle.arena_tree.specs.declared.part_faults.PushFault.TheVariants as pushing
-use Rattle.arena_tree.specs.declared.part_faults.SlabPutFault.{SlabPutFault}
-use Rattle.arena_tree.specs.declared.part_faults.SlabPutFault.TheVariants as putting
-use Rattle.arena_tree.specs.declared.part_faults.SwapEmptyFault.{SwapEmptyFault}
-use Rattle.arena_tree.specs.declared.part_faults.SwapEmptyFault.TheVariants as emptying
-use Rattle.arena_tree.specs.declared.part_faults.SwapFreshFault.{SwapFreshFault}
-use Rattle.arena_tree.specs.declared.part_faults.SwapFreshFault.TheVariants as freshing
+use Rattle.slab_layer.specs.declared.faults.PutFault.{PutFault}
+use Rattle.magazine_layer.specs.declared.faults.EmptyFault.{EmptyFault}
+use Rattle.arena_tree.specs.declared.part_faults.PartFault.TheVariants as asking
+use Rattle.arena_tree.specs.declared.part_faults.GivenFault.TheVariants as giving
+use Rattle.arena_tree.specs.declared.part_faults.FreshFault.TheVariants as freshing
+use Rattle.slab_layer.specs.declared.faults.PutFault.TheVariants as putting
+use Rattle.magazine_layer.specs.declared.faults.EmptyFault.TheVariants as emptying
 use Rattle.arena_tree.specs.Events.{hand_of_fault, segment_of_push, segment_of_put}
 use Rattle.arena_tree.specs.Plans.{Plan, then, Handles}
 use Rattle.arena_tree.specs.Climbs.{ReturnEnd, return_left}
@@ -40,51 +41,50 @@ handles_push : (arena cache : ℕ) (t : Tag) → Handles placing_left (push_roun
 unfolding push_round
 handles_push arena cache t = (refl, done)
   where
-    done : (x : Result (Unit {0}) (PushFault Tag)) → hand_of_fault (λ f. Some (segment_of_push f)) x ≡ placing_left (on_push x)
+    done : (x : Result (Unit {0}) (GivenFault Tag Tag)) → hand_of_fault (λ f. Some (segment_of_push f)) x ≡ placing_left (on_push x)
     done (Ok u) = refl
-    done (Err (pushing.NoRoom x)) = refl
-    done (Err (pushing.Stopped x)) = refl
+    done (Err (giving.Refused x)) = refl
+    done (Err (giving.Stopped x)) = refl
 
 handles_changed : (arena cache m : ℕ) (t : Tag) → Handles placing_left (push_changed arena cache m t) (Some t)
 unfolding push_changed
 handles_changed arena cache m t = (tt, done)
   where
-    done : (x : Result (Unit {0}) ChangeFault) → Handles placing_left (on_change arena cache t x) (Some t)
+    done : (x : Result (Unit {0}) (PartFault ChangeFault)) → Handles placing_left (on_change arena cache t x) (Some t)
     done (Ok u) = handles_push arena cache t
-    done (Err changing.NoMemory) = refl
-    done (Err changing.NotGreater) = refl
-    done (Err changing.Stopped) = refl
+    done (Err (asking.Refused f)) = refl
+    done (Err asking.Stopped) = refl
 
 handles_fresh : (arena cache : ℕ) (t : Tag) → Handles placing_left (push_fresh arena cache t) (Some t)
 unfolding push_fresh
 handles_fresh arena cache t = (tt, done)
   where
-    done : (x : Result (Unit {0}) SwapFreshFault) → Handles placing_left (on_swap_fresh arena cache t x) (Some t)
+    done : (x : Result (Unit {0}) (PartFault FreshFault)) → Handles placing_left (on_swap_fresh arena cache t x) (Some t)
     done (Ok u) = handles_push arena cache t
-    done (Err (freshing.OldSize m)) = handles_changed arena cache m t
-    done (Err freshing.NotFull) = refl
-    done (Err freshing.NoMemory) = refl
-    done (Err freshing.Stopped) = refl
+    done (Err (asking.Refused (freshing.OldSize m))) = handles_changed arena cache m t
+    done (Err (asking.Refused freshing.NotFull)) = refl
+    done (Err (asking.Refused freshing.NoMemory)) = refl
+    done (Err asking.Stopped) = refl
 
 handles_exchanged : (arena cache : ℕ) (t : Tag) → Handles placing_left (push_exchanged arena cache t) (Some t)
 unfolding push_exchanged
 handles_exchanged arena cache t = (tt, done)
   where
-    done : (x : Result (Unit {0}) SwapEmptyFault) → Handles placing_left (on_swap_empty arena cache t x) (Some t)
+    done : (x : Result (Unit {0}) (PartFault EmptyFault)) → Handles placing_left (on_swap_empty arena cache t x) (Some t)
     done (Ok u) = handles_push arena cache t
-    done (Err emptying.NoneEmpty) = handles_fresh arena cache t
-    done (Err (emptying.OldSize m)) = handles_changed arena cache m t
-    done (Err emptying.Stopped) = refl
+    done (Err (asking.Refused emptying.NoneEmpty)) = handles_fresh arena cache t
+    done (Err (asking.Refused (emptying.OldSize m))) = handles_changed arena cache m t
+    done (Err asking.Stopped) = refl
 
 pub handles_put : (t : Tag) → Handles return_left (put_chunk t) (Some t)
 unfolding put_chunk
 handles_put t = (refl, done)
   where
-    done : (x : Result (Unit {0}) (SlabPutFault Tag)) → hand_of_fault (λ f. Some (segment_of_put f)) x ≡ return_left (on_slab_put x)
+    done : (x : Result (Unit {0}) (GivenFault (PutFault Tag) Tag)) → hand_of_fault (λ f. Some (segment_of_put f)) x ≡ return_left (on_slab_put x)
     done (Ok u) = refl
-    done (Err (putting.NotMine x)) = refl
-    done (Err (putting.AtHome x)) = refl
-    done (Err (putting.Stopped x)) = refl
+    done (Err (giving.Refused (putting.NotMine x))) = refl
+    done (Err (giving.Refused (putting.AtHome x))) = refl
+    done (Err (giving.Stopped x)) = refl
 
 handles_by : (route : Route) (chain : List Level) (t : Tag) → Handles return_left (free_steps route chain t) (Some t)
 unfolding free_cached

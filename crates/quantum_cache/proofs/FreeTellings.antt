@@ -5,16 +5,17 @@ use Rattle.deed_core.specs.declared.segments.Route.{Route}
 use Rattle.deed_core.specs.declared.segments.Route.TheVariants.{Direct, Cached}
 use Rattle.arena_tree.specs.declared.levels.Level.{Level}
 use Rattle.arena_tree.specs.declared.part_faults.ReturnFault.TheVariants as returning
+use Rattle.arena_tree.specs.declared.part_faults.PartFault.{PartFault}
+use Rattle.arena_tree.specs.declared.part_faults.GivenFault.{GivenFault}
+use Rattle.arena_tree.specs.declared.part_faults.FreshFault.{FreshFault}
 use Rattle.arena_tree.specs.declared.part_faults.ChangeFault.{ChangeFault}
-use Rattle.arena_tree.specs.declared.part_faults.ChangeFault.TheVariants as changing
-use Rattle.arena_tree.specs.declared.part_faults.PushFault.{PushFault}
-use Rattle.arena_tree.specs.declared.part_faults.PushFault.TheVariants as pushing
-use Rattle.arena_tree.specs.declared.part_faults.SwapEmptyFault.{SwapEmptyFault}
-use Rattle.arena_tree.specs.declared.part_faults.SwapEmptyFault.TheVariants as emptying
-use Rattle.arena_tree.specs.declared.part_faults.SwapFreshFault.{SwapFreshFault}
-use Rattle.arena_tree.specs.declared.part_faults.SwapFreshFault.TheVariants as freshing
-use Rattle.arena_tree.specs.declared.part_faults.SlabPutFault.{SlabPutFault}
-use Rattle.arena_tree.specs.declared.part_faults.SlabPutFault.TheVariants as putting
+use Rattle.slab_layer.specs.declared.faults.PutFault.{PutFault}
+use Rattle.magazine_layer.specs.declared.faults.EmptyFault.{EmptyFault}
+use Rattle.arena_tree.specs.declared.part_faults.PartFault.TheVariants as asking
+use Rattle.arena_tree.specs.declared.part_faults.GivenFault.TheVariants as giving
+use Rattle.arena_tree.specs.declared.part_faults.FreshFault.TheVariants as freshing
+use Rattle.slab_layer.specs.declared.faults.PutFault.TheVariants as putting
+use Rattle.magazine_layer.specs.declared.faults.EmptyFault.TheVariants as emptying
 use Rattle.arena_tree.specs.Chains.{Node, IsChain, first_id}
 use Rattle.arena_tree.specs.Events.{SlabPut, SwapEmpty, SwapFresh, Push, Change}
 use Rattle.arena_tree.specs.Plans.{Plan, then}
@@ -31,11 +32,11 @@ pub told_put : (nodes : List Node) (t : Tag) (told : List AnsweredEvent) → Tel
 unfolding put_chunk
 told_put nodes t told = λ x s. ends x
   where
-    ends : (x : Result (Unit {0}) (SlabPutFault Tag)) → FreeTold (answered (SlabPut t) x ∷ told) (on_slab_put x)
+    ends : (x : Result (Unit {0}) (GivenFault (PutFault Tag) Tag)) → FreeTold (answered (SlabPut t) x ∷ told) (on_slab_put x)
     ends (Ok u) = refl
-    ends (Err (putting.NotMine b)) = refl
-    ends (Err (putting.AtHome b)) = refl
-    ends (Err (putting.Stopped b)) = refl
+    ends (Err (giving.Refused (putting.NotMine b))) = refl
+    ends (Err (giving.Refused (putting.AtHome b))) = refl
+    ends (Err (giving.Stopped b)) = refl
 
 pub told_return : (nodes : List Node) (chain : List Level) (t : Tag) (told : List AnsweredEvent) → IsChain nodes chain → first_id chain ≡ Some t.arena → Tells nodes FreeTold (return_plan chain t) told
 told_return nodes chain t told is first = tells_so nodes (After ReturnTold told) FreeTold (return_plan chain t) told ends (tells_after nodes ReturnTold told (return_plan chain t) [] (return_tells nodes chain t is first))
@@ -55,41 +56,40 @@ told_push : (nodes : List Node) (arena cache : ℕ) (t : Tag) (told : List Answe
 unfolding push_round
 told_push nodes arena cache t told = λ x s. pushed x
   where
-    pushed : (x : Result (Unit {0}) (PushFault Tag)) → PlacingTold (answered (Push arena cache t) x ∷ told) (on_push x)
+    pushed : (x : Result (Unit {0}) (GivenFault Tag Tag)) → PlacingTold (answered (Push arena cache t) x ∷ told) (on_push x)
     pushed (Ok u) = refl
-    pushed (Err (pushing.NoRoom b)) = tt
-    pushed (Err (pushing.Stopped b)) = refl
+    pushed (Err (giving.Refused b)) = tt
+    pushed (Err (giving.Stopped b)) = refl
 
 told_changed : (nodes : List Node) (arena cache m : ℕ) (t : Tag) (told : List AnsweredEvent) → Tells nodes PlacingTold (push_changed arena cache m t) told
 unfolding push_changed
 told_changed nodes arena cache m t told = λ x s. done x
   where
-    done : (x : Result (Unit {0}) ChangeFault) → Tells nodes PlacingTold (on_change arena cache t x) (answered (Change arena cache m) x ∷ told)
+    done : (x : Result (Unit {0}) (PartFault ChangeFault)) → Tells nodes PlacingTold (on_change arena cache t x) (answered (Change arena cache m) x ∷ told)
     done (Ok u) = told_push nodes arena cache t (answered (Change arena cache m) (Ok u) ∷ told)
-    done (Err changing.NoMemory) = tt
-    done (Err changing.NotGreater) = tt
-    done (Err changing.Stopped) = refl
+    done (Err (asking.Refused f)) = tt
+    done (Err asking.Stopped) = refl
 
 told_fresh : (nodes : List Node) (arena cache : ℕ) (t : Tag) (told : List AnsweredEvent) → Tells nodes PlacingTold (push_fresh arena cache t) told
 unfolding push_fresh
 told_fresh nodes arena cache t told = λ x s. done x
   where
-    done : (x : Result (Unit {0}) SwapFreshFault) → Tells nodes PlacingTold (on_swap_fresh arena cache t x) (answered (SwapFresh arena cache) x ∷ told)
+    done : (x : Result (Unit {0}) (PartFault FreshFault)) → Tells nodes PlacingTold (on_swap_fresh arena cache t x) (answered (SwapFresh arena cache) x ∷ told)
     done (Ok u) = told_push nodes arena cache t (answered (SwapFresh arena cache) (Ok u) ∷ told)
-    done (Err (freshing.OldSize m)) = told_changed nodes arena cache m t (answered (SwapFresh arena cache) (Err (freshing.OldSize m)) ∷ told)
-    done (Err freshing.NotFull) = tt
-    done (Err freshing.NoMemory) = tt
-    done (Err freshing.Stopped) = refl
+    done (Err (asking.Refused (freshing.OldSize m))) = told_changed nodes arena cache m t (answered (SwapFresh arena cache) (Err (asking.Refused (freshing.OldSize m))) ∷ told)
+    done (Err (asking.Refused freshing.NotFull)) = tt
+    done (Err (asking.Refused freshing.NoMemory)) = tt
+    done (Err asking.Stopped) = refl
 
 told_exchanged : (nodes : List Node) (arena cache : ℕ) (t : Tag) (told : List AnsweredEvent) → Tells nodes PlacingTold (push_exchanged arena cache t) told
 unfolding push_exchanged
 told_exchanged nodes arena cache t told = λ x s. done x
   where
-    done : (x : Result (Unit {0}) SwapEmptyFault) → Tells nodes PlacingTold (on_swap_empty arena cache t x) (answered (SwapEmpty arena cache) x ∷ told)
+    done : (x : Result (Unit {0}) (PartFault EmptyFault)) → Tells nodes PlacingTold (on_swap_empty arena cache t x) (answered (SwapEmpty arena cache) x ∷ told)
     done (Ok u) = told_push nodes arena cache t (answered (SwapEmpty arena cache) (Ok u) ∷ told)
-    done (Err emptying.NoneEmpty) = told_fresh nodes arena cache t (answered (SwapEmpty arena cache) (Err emptying.NoneEmpty) ∷ told)
-    done (Err (emptying.OldSize m)) = told_changed nodes arena cache m t (answered (SwapEmpty arena cache) (Err (emptying.OldSize m)) ∷ told)
-    done (Err emptying.Stopped) = refl
+    done (Err (asking.Refused emptying.NoneEmpty)) = told_fresh nodes arena cache t (answered (SwapEmpty arena cache) (Err (asking.Refused emptying.NoneEmpty)) ∷ told)
+    done (Err (asking.Refused (emptying.OldSize m))) = told_changed nodes arena cache m t (answered (SwapEmpty arena cache) (Err (asking.Refused (emptying.OldSize m))) ∷ told)
+    done (Err asking.Stopped) = refl
 
 told_or_next : (nodes : List Node) (p : Plan (Placing Tag)) (q : Tag → Plan ReturnEnd) (told : List AnsweredEvent) → Tells nodes PlacingTold p told → ((t : Tag) (now : List AnsweredEvent) → Tells nodes FreeTold (q t) now) → Tells nodes FreeTold (then p (or_next q)) told
 told_or_next nodes p q told stage next = tells_then nodes PlacingTold FreeTold p (or_next q) told stage go

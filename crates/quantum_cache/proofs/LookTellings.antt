@@ -3,8 +3,8 @@ use Rattle.std.proofs.Common.{◌≢◌, ℕ, ◌+◌, ◌-◌, ◌<◌, ◌≤�
 use Rattle.std.proofs.lemmas.Bool.{cases_eq}
 use Rattle.deed_core.specs.Tag.{Tag}
 use Rattle.arena_tree.specs.declared.levels.Level.{Level}
-use Rattle.arena_tree.specs.declared.part_faults.FreeFault.{FreeFault}
-use Rattle.arena_tree.specs.declared.part_faults.FreeFault.TheVariants as freeing
+use Rattle.arena_tree.specs.declared.part_faults.GivenFault.{GivenFault}
+use Rattle.arena_tree.specs.declared.part_faults.GivenFault.TheVariants as giving
 use Rattle.arena_tree.specs.declared.part_faults.Stopped.{Stopped}
 use Rattle.arena_tree.specs.Chains.{Node}
 use Rattle.arena_tree.specs.Climbs.{return_plan, on_free}
@@ -40,11 +40,11 @@ pub avoids_return : (e : Event) → ((t : Tag) → Free t ≢ e) → (chain : Li
 avoids_return e never [] t = tt
 avoids_return e never (l ∷ up) t = (never t, freed (avoids_return e never up))
   where
-    freed : ((w : Tag) → Avoids e (return_plan up w)) → (x : Result (Option Tag) (FreeFault Tag)) → Avoids e (on_free (return_plan up) x)
+    freed : ((w : Tag) → Avoids e (return_plan up w)) → (x : Result (Option Tag) (GivenFault Tag Tag)) → Avoids e (on_free (return_plan up) x)
     freed again (Ok None) = tt
     freed again (Ok (Some w)) = again w
-    freed again (Err (freeing.BadFree b)) = tt
-    freed again (Err (freeing.Stopped b)) = tt
+    freed again (Err (giving.Refused b)) = tt
+    freed again (Err (giving.Stopped b)) = tt
 
 pub avoids_put : (e : Event) → ((t : Tag) → SlabPut t ≢ e) → (t : Tag) → Avoids e (put_chunk t)
 unfolding put_chunk

@@ -3,10 +3,14 @@ use Rattle.std.proofs.Common.{◌≡◌, ℕ, List, [], ◌∷◌, ◌++◌, Res
 use Rattle.deed_core.specs.Request.{plain_of}
 use Rattle.deed_core.specs.Tag.{Tag}
 use Rattle.arena_tree.specs.declared.levels.Level.{Level}
-use Rattle.arena_tree.specs.declared.part_faults.AddCarveFault.{AddCarveFault}
-use Rattle.arena_tree.specs.declared.part_faults.AddCarveFault.TheVariants as adding
-use Rattle.arena_tree.specs.declared.part_faults.CarveFault.{CarveFault}
-use Rattle.arena_tree.specs.declared.part_faults.CarveFault.TheVariants as carving
+use Rattle.arena_tree.specs.declared.part_faults.PartFault.{PartFault}
+use Rattle.arena_tree.specs.declared.part_faults.GivenFault.{GivenFault}
+use Rattle.tag_arena.specs.declared.faults.ArenaFault.{ArenaFault}
+use Rattle.tag_arena.specs.declared.faults.SpanFault.{SpanFault}
+use Rattle.arena_tree.specs.declared.part_faults.PartFault.TheVariants as asking
+use Rattle.arena_tree.specs.declared.part_faults.GivenFault.TheVariants as giving
+use Rattle.tag_arena.specs.declared.faults.ArenaFault.TheVariants as carving
+use Rattle.tag_arena.specs.declared.faults.SpanFault.TheVariants as adding
 use Rattle.arena_tree.specs.declared.part_faults.ClimbFault.TheVariants as climbing
 use Rattle.arena_tree.specs.declared.part_faults.ReturnFault.TheVariants as returning
 use Rattle.arena_tree.specs.Chains.{Node, amount_of}
@@ -76,7 +80,7 @@ ran_out_after news before now is w = subst RanOut (sym is) (ran_out_more news be
 
 -- a climb ends with NoFit only so
 abbrev pub IfNone : List Level → ℕ → List AnsweredEvent → List AnsweredEvent → ClimbEnd → Type 0
-IfNone chain n before now r = r ≡ Err climbing.NoFit → now ≡ none_fitted chain n before
+IfNone chain n before now r = r ≡ Err (climbing.Refused carving.NoFit) → now ≡ none_fitted chain n before
 
 never_refused : (nodes : List Node) (chain up : List Level) (n : ℕ) (t : Tag) (before told : List AnsweredEvent) → Tells nodes (IfNone chain n before) (then (return_plan up t) (λ r. Done (memory_refusal r))) told
 never_refused nodes chain up n t before told = tells_then nodes (λ now (r : ReturnEnd). Unit {0}) (IfNone chain n before) (return_plan up t) (λ r. Done (memory_refusal r)) told (tells_any nodes (return_plan up t) told) ends
@@ -86,26 +90,26 @@ never_refused nodes chain up n t before told = tells_then nodes (λ now (r : Ret
     ends (Err (returning.Stuck x)) now _ = λ e. absurd cc
     ends (Err (returning.Stopped x)) now _ = λ e. absurd cc
 
-never_added : (nodes : List Node) (chain up : List Level) (n : ℕ) (before told : List AnsweredEvent) (x : Result Tag (AddCarveFault Tag)) → Tells nodes (IfNone chain n before) (on_add up x) told
+never_added : (nodes : List Node) (chain up : List Level) (n : ℕ) (before told : List AnsweredEvent) (x : Result Tag (GivenFault (SpanFault Tag) Tag)) → Tells nodes (IfNone chain n before) (on_add up x) told
 never_added nodes chain up n before told (Ok t) = λ e. absurd cc
-never_added nodes chain up n before told (Err (adding.NoMemory t)) = never_refused nodes chain up n t before told
-never_added nodes chain up n before told (Err (adding.Overlaps t)) = λ e. absurd cc
-never_added nodes chain up n before told (Err (adding.NotAligned t)) = λ e. absurd cc
-never_added nodes chain up n before told (Err (adding.Stopped t)) = λ e. absurd cc
+never_added nodes chain up n before told (Err (giving.Refused (adding.NoMemory t))) = never_refused nodes chain up n t before told
+never_added nodes chain up n before told (Err (giving.Refused (adding.Overlaps t))) = λ e. absurd cc
+never_added nodes chain up n before told (Err (giving.Refused (adding.NotAligned t))) = λ e. absurd cc
+never_added nodes chain up n before told (Err (giving.Stopped t)) = λ e. absurd cc
 
 pub climb_none : (nodes : List Node) (chain : List Level) (n : ℕ) (before : List AnsweredEvent) → Tells nodes (IfNone chain n before) (climb_plan chain n) before
 climb_none nodes [] n before = λ e. refl
 climb_none nodes (l ∷ up) n before = λ x s. carved (λ told. climb_none nodes up (amount_of l up n) told) x
   where
-    imported : (r : ClimbEnd) (now : List AnsweredEvent) → IfNone up (amount_of l up n) (answered (Carve l.id (plain_of n)) (Err carving.NoFit) ∷ before) now r → Tells nodes (IfNone (l ∷ up) n before) (on_import up l.id n r) now
+    imported : (r : ClimbEnd) (now : List AnsweredEvent) → IfNone up (amount_of l up n) (answered (Carve l.id (plain_of n)) (Err (asking.Refused carving.NoFit)) ∷ before) now r → Tells nodes (IfNone (l ∷ up) n before) (on_import up l.id n r) now
     imported (Ok span) now w = λ x s. never_added nodes (l ∷ up) up n before (answered (AddCarve l.id span n) x ∷ now) x
     imported (Err f) now w = w
 
-    carved : ((told : List AnsweredEvent) → Tells nodes (IfNone up (amount_of l up n) told) (climb_plan up (amount_of l up n)) told) → (x : Result Tag CarveFault) → Tells nodes (IfNone (l ∷ up) n before) (on_carve (climb_plan up (amount_of l up n)) up l.id n x) (answered (Carve l.id (plain_of n)) x ∷ before)
+    carved : ((told : List AnsweredEvent) → Tells nodes (IfNone up (amount_of l up n) told) (climb_plan up (amount_of l up n)) told) → (x : Result Tag (PartFault ArenaFault)) → Tells nodes (IfNone (l ∷ up) n before) (on_carve (climb_plan up (amount_of l up n)) up l.id n x) (answered (Carve l.id (plain_of n)) x ∷ before)
     carved again (Ok t) = λ e. absurd cc
-    carved again (Err carving.BadRequest) = λ e. absurd cc
-    carved again (Err carving.NoMemory) = λ e. absurd cc
-    carved again (Err carving.Stopped) = λ e. absurd cc
-    carved again (Err carving.NoFit) =
-        let first : AnsweredEvent = answered (Carve l.id (plain_of n)) (Err carving.NoFit) in
+    carved again (Err (asking.Refused carving.BadRequest)) = λ e. absurd cc
+    carved again (Err (asking.Refused carving.NoMemory)) = λ e. absurd cc
+    carved again (Err asking.Stopped) = λ e. absurd cc
+    carved again (Err (asking.Refused carving.NoFit)) =
+        let first : AnsweredEvent = answered (Carve l.id (plain_of n)) (Err (asking.Refused carving.NoFit)) in
         tells_then nodes (IfNone up (amount_of l up n) (first ∷ before)) (IfNone (l ∷ up) n before) (climb_plan up (amount_of l up n)) (on_import up l.id n) (first ∷ before) (again (first ∷ before)) imported

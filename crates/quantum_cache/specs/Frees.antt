@@ -4,17 +4,18 @@ use Rattle.deed_core.specs.Tag.{Tag}
 use Rattle.deed_core.specs.declared.segments.Route.{Route}
 use Rattle.deed_core.specs.declared.segments.Route.TheVariants.{Direct, Cached}
 use Rattle.arena_tree.specs.declared.levels.Level.{Level}
+use Rattle.arena_tree.specs.declared.part_faults.PartFault.{PartFault}
+use Rattle.arena_tree.specs.declared.part_faults.GivenFault.{GivenFault}
+use Rattle.arena_tree.specs.declared.part_faults.FreshFault.{FreshFault}
 use Rattle.arena_tree.specs.declared.part_faults.ChangeFault.{ChangeFault}
-use Rattle.arena_tree.specs.declared.part_faults.ChangeFault.TheVariants as changing
-use Rattle.arena_tree.specs.declared.part_faults.PushFault.{PushFault}
-use Rattle.arena_tree.specs.declared.part_faults.PushFault.TheVariants as pushing
+use Rattle.slab_layer.specs.declared.faults.PutFault.{PutFault}
+use Rattle.magazine_layer.specs.declared.faults.EmptyFault.{EmptyFault}
+use Rattle.arena_tree.specs.declared.part_faults.PartFault.TheVariants as asking
+use Rattle.arena_tree.specs.declared.part_faults.GivenFault.TheVariants as giving
+use Rattle.arena_tree.specs.declared.part_faults.FreshFault.TheVariants as freshing
+use Rattle.slab_layer.specs.declared.faults.PutFault.TheVariants as putting
+use Rattle.magazine_layer.specs.declared.faults.EmptyFault.TheVariants as emptying
 use Rattle.arena_tree.specs.declared.part_faults.ReturnFault.TheVariants as returning
-use Rattle.arena_tree.specs.declared.part_faults.SlabPutFault.{SlabPutFault}
-use Rattle.arena_tree.specs.declared.part_faults.SlabPutFault.TheVariants as putting
-use Rattle.arena_tree.specs.declared.part_faults.SwapEmptyFault.{SwapEmptyFault}
-use Rattle.arena_tree.specs.declared.part_faults.SwapEmptyFault.TheVariants as emptying
-use Rattle.arena_tree.specs.declared.part_faults.SwapFreshFault.{SwapFreshFault}
-use Rattle.arena_tree.specs.declared.part_faults.SwapFreshFault.TheVariants as freshing
 use Rattle.arena_tree.specs.Events.{SlabPut, SwapEmpty, SwapFresh, Push, Change}
 use Rattle.arena_tree.specs.Plans.{Plan, Done, Ask, then}
 use Rattle.arena_tree.specs.Climbs.{ReturnEnd, return_plan}
@@ -38,52 +39,55 @@ first_that_takes [] last t = last t
 first_that_takes (p ∷ ps) last t = then (p t) (or_next (first_that_takes ps last))
 
 -- 1. push
-abbrev pub on_push : Result (Unit {0}) (PushFault Tag) → Placing Tag
+abbrev pub on_push : Result (Unit {0}) (GivenFault Tag Tag) → Placing Tag
 on_push (Ok u) = Placed
-on_push (Err (pushing.NoRoom t)) = Left t
-on_push (Err (pushing.Stopped t)) = Stopped t
+on_push (Err (giving.Refused t)) = Left t
+on_push (Err (giving.Stopped t)) = Stopped t
 
 unfoldable pub push_round : ℕ → ℕ → Tag → Plan (Placing Tag)
 push_round arena cache t = Ask (Push arena cache t) (λ a. Done (on_push a))
 
 -- on OldSize two magazines are made, changed to, and pushed into; where that can't be, the next
 -- stage is tried
-abbrev pub on_change : ℕ → ℕ → Tag → Result (Unit {0}) ChangeFault → Plan (Placing Tag)
+abbrev pub on_change : ℕ → ℕ → Tag → Result (Unit {0}) (PartFault ChangeFault)
+    → Plan (Placing Tag)
 on_change arena cache t (Ok u) = push_round arena cache t
-on_change arena cache t (Err changing.NoMemory) = Done (Left t)
-on_change arena cache t (Err changing.NotGreater) = Done (Left t)
-on_change arena cache t (Err changing.Stopped) = Done (Stopped t)
+on_change arena cache t (Err (asking.Refused f)) = Done (Left t)
+on_change arena cache t (Err asking.Stopped) = Done (Stopped t)
 
 unfoldable pub push_changed : ℕ → ℕ → ℕ → Tag → Plan (Placing Tag)
 push_changed arena cache size t = Ask (Change arena cache size) (on_change arena cache t)
 
 -- on NoneEmpty a magazine is made, the full one is put for it, and it is pushed into
-abbrev pub on_swap_fresh : ℕ → ℕ → Tag → Result (Unit {0}) SwapFreshFault → Plan (Placing Tag)
+abbrev pub on_swap_fresh : ℕ → ℕ → Tag → Result (Unit {0}) (PartFault FreshFault)
+    → Plan (Placing Tag)
 on_swap_fresh arena cache t (Ok u) = push_round arena cache t
-on_swap_fresh arena cache t (Err (freshing.OldSize size)) = push_changed arena cache size t
-on_swap_fresh arena cache t (Err freshing.NotFull) = Done (Left t)
-on_swap_fresh arena cache t (Err freshing.NoMemory) = Done (Left t)
-on_swap_fresh arena cache t (Err freshing.Stopped) = Done (Stopped t)
+on_swap_fresh arena cache t (Err (asking.Refused (freshing.OldSize size))) =
+    push_changed arena cache size t
+on_swap_fresh arena cache t (Err (asking.Refused f)) = Done (Left t)
+on_swap_fresh arena cache t (Err asking.Stopped) = Done (Stopped t)
 
 unfoldable pub push_fresh : ℕ → ℕ → Tag → Plan (Placing Tag)
 push_fresh arena cache t = Ask (SwapFresh arena cache) (on_swap_fresh arena cache t)
 
 -- 2. swap_empty, then push
-abbrev pub on_swap_empty : ℕ → ℕ → Tag → Result (Unit {0}) SwapEmptyFault → Plan (Placing Tag)
+abbrev pub on_swap_empty : ℕ → ℕ → Tag → Result (Unit {0}) (PartFault EmptyFault)
+    → Plan (Placing Tag)
 on_swap_empty arena cache t (Ok u) = push_round arena cache t
-on_swap_empty arena cache t (Err emptying.NoneEmpty) = push_fresh arena cache t
-on_swap_empty arena cache t (Err (emptying.OldSize size)) = push_changed arena cache size t
-on_swap_empty arena cache t (Err emptying.Stopped) = Done (Stopped t)
+on_swap_empty arena cache t (Err (asking.Refused emptying.NoneEmpty)) = push_fresh arena cache t
+on_swap_empty arena cache t (Err (asking.Refused (emptying.OldSize size))) =
+    push_changed arena cache size t
+on_swap_empty arena cache t (Err asking.Stopped) = Done (Stopped t)
 
 unfoldable pub push_exchanged : ℕ → ℕ → Tag → Plan (Placing Tag)
 push_exchanged arena cache t = Ask (SwapEmpty arena cache) (on_swap_empty arena cache t)
 
 -- 3. slab_put
-abbrev pub on_slab_put : Result (Unit {0}) (SlabPutFault Tag) → ReturnEnd
+abbrev pub on_slab_put : Result (Unit {0}) (GivenFault (PutFault Tag) Tag) → ReturnEnd
 on_slab_put (Ok u) = Ok tt
-on_slab_put (Err (putting.NotMine t)) = Err (returning.Stuck t)
-on_slab_put (Err (putting.AtHome t)) = Err (returning.Stuck t)
-on_slab_put (Err (putting.Stopped t)) = Err (returning.Stopped t)
+on_slab_put (Err (giving.Refused (putting.NotMine t))) = Err (returning.Stuck t)
+on_slab_put (Err (giving.Refused (putting.AtHome t))) = Err (returning.Stuck t)
+on_slab_put (Err (giving.Stopped t)) = Err (returning.Stopped t)
 
 unfoldable pub put_chunk : Tag → Plan ReturnEnd
 put_chunk t = Ask (SlabPut t) (λ a. Done (on_slab_put a))

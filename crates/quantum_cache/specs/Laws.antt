@@ -8,7 +8,8 @@ use Rattle.deed_core.specs.declared.segments.Route.{Route}
 use Rattle.deed_core.specs.declared.segments.Route.TheVariants.{Direct, Cached}
 use Rattle.arena_tree.specs.declared.levels.Level.{Level}
 use Rattle.arena_tree.specs.declared.limits.TheConstants.{LONGEST_CHAIN}
-use Rattle.arena_tree.specs.declared.part_faults.CarveFault.{CarveFault}
+use Rattle.arena_tree.specs.declared.part_faults.PartFault.{PartFault}
+use Rattle.tag_arena.specs.declared.faults.ArenaFault.{ArenaFault}
 use Rattle.arena_tree.specs.declared.trees.TreeArena.{TreeArena}
 use Rattle.arena_tree.specs.Climbs.{ClimbEnd, ReturnEnd, climb_left, return_left}
 use Rattle.arena_tree.specs.Plans.{Within, Handles}
@@ -21,7 +22,7 @@ use Rattle.quantum_cache.specs.Frees.{free_plan}
 use Rattle.quantum_cache.specs.Reaps.{ReapEnd, reap_arena_plan, reap_plan}
 
 -- the hand after a carve, after what empties, and after a reaping
-abbrev pub carve_left : Result Tag CarveFault → Option Tag
+abbrev pub carve_left : Result Tag (PartFault ArenaFault) → Option Tag
 carve_left (Ok t) = Some t
 carve_left (Err e) = None
 

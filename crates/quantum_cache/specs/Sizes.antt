@@ -1,7 +1,8 @@
 -- Which cache serves a size, and how many caches an arena has.
-use Rattle.std.specs.Prelude.{ℕ, ◌/◌, ◌&&◌, min, nat_lt, nat_le, Bool, Option, Some, None}
+use Rattle.std.specs.Prelude.{ℕ, ◌/◌, ◌&&◌, nat_lt, nat_le, Bool, Option, Some, None}
 use Rattle.std.specs.Prelude.{if◌then◌else◌}
 use Rattle.deed_core.specs.Request.{rounding_of}
+use Rattle.arena_tree.specs.Trees.{caches_up_to}
 use Rattle.arena_tree.specs.declared.levels.Level.{Level}
 
 -- how many quanta a size takes
@@ -18,7 +19,6 @@ is_cached l size = nat_lt 0 size && nat_le (rounding_of l.quantum size) l.qcache
 abbrev pub cache_for : Level → ℕ → Option ℕ
 cache_for l size = if is_cached l size then Some (quanta_for l size) else None
 
--- how many caches an arena has: one for each number of quanta up to the greatest size that it
--- caches
+-- how many caches an arena has
 abbrev pub caches_in : Level → ℕ
-caches_in l = min (l.qcache_max / l.quantum) 255
+caches_in l = caches_up_to l.quantum l.qcache_max

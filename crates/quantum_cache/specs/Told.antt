@@ -3,13 +3,16 @@ use Rattle.std.specs.Prelude.{◌≡◌, ℕ, List, [], ◌∷◌, Some, Result,
 use Rattle.deed_core.specs.Tag.{Tag}
 use Rattle.deed_core.specs.Request.{plain_of}
 use Rattle.arena_tree.specs.declared.levels.Level.{Level}
-use Rattle.arena_tree.specs.declared.part_faults.CarveFault.TheVariants as carving
+use Rattle.arena_tree.specs.declared.part_faults.GivenFault.{GivenFault}
+use Rattle.slab_layer.specs.declared.faults.PutFault.{PutFault}
+use Rattle.slab_layer.specs.declared.faults.AddFault.{AddFault}
+use Rattle.arena_tree.specs.declared.part_faults.PartFault.TheVariants as asking
+use Rattle.arena_tree.specs.declared.part_faults.GivenFault.TheVariants as giving
+use Rattle.tag_arena.specs.declared.faults.ArenaFault.TheVariants as carving
+use Rattle.slab_layer.specs.declared.faults.PutFault.TheVariants as putting
+use Rattle.slab_layer.specs.declared.faults.AddFault.TheVariants as slabbing
 use Rattle.arena_tree.specs.declared.part_faults.ClimbFault.TheVariants as climbing
 use Rattle.arena_tree.specs.declared.part_faults.ReturnFault.TheVariants as returning
-use Rattle.arena_tree.specs.declared.part_faults.SlabAddFault.{SlabAddFault}
-use Rattle.arena_tree.specs.declared.part_faults.SlabAddFault.TheVariants as slabbing
-use Rattle.arena_tree.specs.declared.part_faults.SlabPutFault.{SlabPutFault}
-use Rattle.arena_tree.specs.declared.part_faults.SlabPutFault.TheVariants as putting
 use Rattle.arena_tree.specs.Chains.{Node, IsChain, amount_of, first_id}
 use Rattle.arena_tree.specs.Climbs.{ClimbEnd, ReturnEnd}
 use Rattle.arena_tree.specs.Events.{Event, AnswerTo, Carve, Free, AddCarve, SlabPut, SlabAdd}
@@ -19,18 +22,18 @@ use Rattle.quantum_cache.specs.Frees.{free_plan}
 use Rattle.quantum_cache.specs.Served.{IsServed, AsksForNone}
 
 -- a slab cache refused the segment, for another reason than memory or a stop
-abbrev pub RefusesInPut : Tag → Result (Unit {0}) (SlabPutFault Tag) → Type 0
+abbrev pub RefusesInPut : Tag → Result (Unit {0}) (GivenFault (PutFault Tag) Tag) → Type 0
 RefusesInPut t (Ok u) = ⊥
-RefusesInPut t (Err (putting.NotMine back)) = back ≡ t
-RefusesInPut t (Err (putting.AtHome back)) = back ≡ t
-RefusesInPut t (Err (putting.Stopped back)) = ⊥
+RefusesInPut t (Err (giving.Refused (putting.NotMine back))) = back ≡ t
+RefusesInPut t (Err (giving.Refused (putting.AtHome back))) = back ≡ t
+RefusesInPut t (Err (giving.Stopped back)) = ⊥
 
-abbrev pub RefusesInSlab : Tag → Result Tag (SlabAddFault Tag) → Type 0
+abbrev pub RefusesInSlab : Tag → Result Tag (GivenFault (AddFault Tag) Tag) → Type 0
 RefusesInSlab t (Ok first) = ⊥
-RefusesInSlab t (Err (slabbing.WrongSize back)) = back ≡ t
-RefusesInSlab t (Err (slabbing.Overlaps back)) = back ≡ t
-RefusesInSlab t (Err (slabbing.NoMemory back)) = ⊥
-RefusesInSlab t (Err (slabbing.Stopped back)) = ⊥
+RefusesInSlab t (Err (giving.Refused (slabbing.WrongSize back))) = back ≡ t
+RefusesInSlab t (Err (giving.Refused (slabbing.Overlaps back))) = back ≡ t
+RefusesInSlab t (Err (giving.Refused (slabbing.NoMemory back))) = ⊥
+RefusesInSlab t (Err (giving.Stopped back)) = ⊥
 
 -- a part did
 abbrev pub PartRefuses : Tag → (e : Event) → AnswerTo e → Type 0
@@ -51,7 +54,8 @@ JustRefused t (last ∷ told) = PartRefuses t last.event last.answer
 abbrev pub none_fitted : List Level → ℕ → List AnsweredEvent → List AnsweredEvent
 none_fitted [] n before = before
 none_fitted (l ∷ up) n before = none_fitted up (amount_of l up n)
-    (record { event = Carve l.id (plain_of n); answer = Err carving.NoFit } ∷ before)
+    (record { event = Carve l.id (plain_of n); answer = Err (asking.Refused carving.NoFit) }
+    ∷ before)
 
 -- these were the last answers
 abbrev pub NoneFitted : List Level → ℕ → List AnsweredEvent → Type 0
@@ -64,9 +68,9 @@ NoneFitted chain n told = (before : List AnsweredEvent) × (told ≡ none_fitted
 -- it; stopped where a part has just said so
 abbrev pub AllocTold : List Node → List Level → ℕ → List AnsweredEvent → ClimbEnd → Type 0
 AllocTold nodes chain size told (Ok t) = IsServed nodes chain size t
-AllocTold nodes chain size told (Err climbing.BadRequest) = AsksForNone chain size
-AllocTold nodes chain size told (Err climbing.NoFit) = NoneFitted chain size told
-AllocTold nodes chain size told (Err climbing.NoMemory) = RanOut told
+AllocTold nodes chain size told (Err (climbing.Refused carving.BadRequest)) = AsksForNone chain size
+AllocTold nodes chain size told (Err (climbing.Refused carving.NoFit)) = NoneFitted chain size told
+AllocTold nodes chain size told (Err (climbing.Refused carving.NoMemory)) = RanOut told
 AllocTold nodes chain size told (Err (climbing.Stuck t)) = JustRefused t told
 AllocTold nodes chain size told (Err (climbing.Stopped o)) = WasStopped told
 

@@ -7,10 +7,12 @@ ghost use Rattle.quantum_cache.specs.Allocs.{tag_stage, on_no_slab, take_round, 
 ghost use Rattle.quantum_cache.specs.Allocs.{change_over, take_chunk, make_slab, take_from_slab};
 
 use arena_tree::{
-    ChangeFault, ClimbFault, Level, Parts, ReturnFault, SlabAddFault, SwapFullFault, climb_alloc,
-    climb_free,
+    ClimbFault, GivenFault, Level, PartFault, Parts, ReturnFault, climb_alloc, climb_free,
 };
 use deed_core::{Held, Route};
+use magazine_layer::FullFault;
+use slab_layer::AddFault;
+use tag_arena::ArenaFault;
 
 /// What a stage ends with: None where the next one is tried.
 pub(crate) type Stage<S> = Option<Result<S, ClimbFault<S>>>;
@@ -38,9 +40,8 @@ fn change_over<S: Held, P: Parts<S>>(parts: &mut P, arena: u32, cache: u8, size:
 {
     match parts.change(arena, cache, size) {
         Ok(()) => None,
-        Err(ChangeFault::NoMemory) => None,
-        Err(ChangeFault::NotGreater) => None,
-        Err(ChangeFault::Stopped) => Some(Err(ClimbFault::Stopped(None))),
+        Err(PartFault::Refused(_)) => None,
+        Err(PartFault::Stopped) => Some(Err(ClimbFault::Stopped(None))),
     }
 }
 
@@ -53,9 +54,9 @@ pub(crate) fn depot_round<S: Held, P: Parts<S>>(parts: &mut P, arena: u32, cache
 {
     match parts.swap_full(arena, cache) {
         Ok(()) => round(parts, arena, cache),
-        Err(SwapFullFault::OldSize(size)) => change_over(parts, arena, cache, size),
-        Err(SwapFullFault::NoneFull) => None,
-        Err(SwapFullFault::Stopped) => Some(Err(ClimbFault::Stopped(None))),
+        Err(PartFault::Refused(FullFault::OldSize(size))) => change_over(parts, arena, cache, size),
+        Err(PartFault::Refused(FullFault::NoneFull)) => None,
+        Err(PartFault::Stopped) => Some(Err(ClimbFault::Stopped(None))),
     }
 }
 
@@ -94,11 +95,11 @@ fn make_slab<S: Held, P: Parts<S>>(
 {
     match parts.slab_add(arena, cache, span) {
         Ok(segment) => Ok(segment),
-        Err(SlabAddFault::WrongSize(same)) => Err(ClimbFault::Stuck(same)),
-        Err(SlabAddFault::Overlaps(same)) => Err(ClimbFault::Stuck(same)),
-        Err(SlabAddFault::Stopped(same)) => Err(ClimbFault::Stopped(Some(same))),
-        Err(SlabAddFault::NoMemory(same)) => match climb_free(parts, chain, same) {
-            Ok(()) => Err(ClimbFault::NoMemory),
+        Err(GivenFault::Refused(AddFault::WrongSize(same))) => Err(ClimbFault::Stuck(same)),
+        Err(GivenFault::Refused(AddFault::Overlaps(same))) => Err(ClimbFault::Stuck(same)),
+        Err(GivenFault::Stopped(same)) => Err(ClimbFault::Stopped(Some(same))),
+        Err(GivenFault::Refused(AddFault::NoMemory(same))) => match climb_free(parts, chain, same) {
+            Ok(()) => Err(ClimbFault::Refused(ArenaFault::NoMemory)),
             Err(ReturnFault::Stuck(same)) => Err(ClimbFault::Stuck(same)),
             Err(ReturnFault::Stopped(same)) => Err(ClimbFault::Stopped(Some(same))),
         },
@@ -110,11 +111,8 @@ fn unless_no_fit<S: Held>(fault: ClimbFault<S>) -> Stage<S>
     ensures { tag_stage S.tag result ≡ on_no_slab (tag_climb_fault S.tag fault) }
 {
     match fault {
-        ClimbFault::NoFit => None,
-        ClimbFault::BadRequest => Some(Err(ClimbFault::BadRequest)),
-        ClimbFault::NoMemory => Some(Err(ClimbFault::NoMemory)),
-        ClimbFault::Stuck(segment) => Some(Err(ClimbFault::Stuck(segment))),
-        ClimbFault::Stopped(hand) => Some(Err(ClimbFault::Stopped(hand))),
+        ClimbFault::Refused(ArenaFault::NoFit) => None,
+        fault => Some(Err(fault)),
     }
 }
 

@@ -11,8 +11,9 @@ ghost use Rattle.quantum_cache.specs.Served.{IsServed, AsksForNone};
 
 use crate::alloc_stages::{chunk, depot_round, round, slab_chunk};
 use crate::sizes::cache_of;
-use arena_tree::{CarveFault, ClimbFault, Level, Parts, climb_alloc};
+use arena_tree::{ClimbFault, Level, PartFault, Parts, climb_alloc};
 use deed_core::{Held, Request};
+use tag_arena::ArenaFault;
 
 // The first stage that gives a segment; else one that is carved for it.
 fn cached<S: Held, P: Parts<S>>(
@@ -59,7 +60,7 @@ fn serve<S: Held, P: Parts<S>>(
     ensures tree { P.tree parts.new ≡ P.tree parts.old }
 {
     let Some((level, _)) = chain.split_first() else {
-        return Err(ClimbFault::NoFit);
+        return Err(ClimbFault::Refused(ArenaFault::NoFit));
     };
     match cache_of(level, size) {
         Some(cache) => cached(parts, chain, level, cache, size),
@@ -79,7 +80,8 @@ pub fn alloc<S: Held, P: Parts<S>>(
     ensures ran { Ran P.step P.tree P.count P.rounds (alloc_plan chain.now size)
         parts.old parts.new (tag_climb S.tag result) }
     ensures granted { IfOk result (λ s. IsServed (P.tree parts.old) chain.now size (S.tag s)) }
-    ensures bad { result ≡ Err ClimbFault.BadRequest → AsksForNone chain.now size }
+    ensures bad { result ≡ Err (ClimbFault.Refused ArenaFault.BadRequest)
+        → AsksForNone chain.now size }
     ensures few { P.count parts.new ≤ P.count parts.old + (8 + 2 * length chain.now) }
     ensures tree { P.tree parts.new ≡ P.tree parts.old }
 {
@@ -92,7 +94,7 @@ pub fn xalloc<S: Held, P: Parts<S>>(
     parts: &mut P,
     arena: u32,
     request: &Request,
-) -> Result<S, CarveFault>
+) -> Result<S, PartFault<ArenaFault>>
     requires arena { arena < length (P.tree parts.old) }
     ensures ran { Ran P.step P.tree P.count P.rounds (xalloc_plan arena request.now)
         parts.old parts.new (tag_ok S.tag result) }

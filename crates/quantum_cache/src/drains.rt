@@ -4,12 +4,10 @@ ghost use Rattle.arena_tree.specs.Plans.{Ran};
 ghost use Rattle.quantum_cache.specs.Caches.{over_caches, over_arenas, chain_in};
 ghost use Rattle.quantum_cache.specs.Drains.{tag_turn, drain_turn, drain_end, tag_emptying};
 ghost use Rattle.quantum_cache.specs.Drains.{drain_cache_plan, drain_arena_plan, drain_plan};
-ghost use Rattle.quantum_cache.specs.Sizes.{caches_in};
 
 use crate::emptying_faults::EmptyingFault;
 use crate::frees::put_back;
-use crate::sizes::cache_count;
-use arena_tree::{Level, Parts, ReturnFault, Tree};
+use arena_tree::{Level, Parts, ReturnFault, Tree, cache_count};
 use deed_core::Held;
 
 // A round goes to its slab. None where there may be more.
@@ -121,7 +119,7 @@ fn drain_chain<S: Held, P: Parts<S>>(parts: &mut P, chain: &[Level]) -> Result<(
     let Some((level, _)) = chain.split_first() else {
         return Ok(());
     };
-    let caches = cache_count(level);
+    let caches = cache_count(level.quantum, level.qcache_max);
     drain_caches(parts, level.id, caches, caches)
 }
 

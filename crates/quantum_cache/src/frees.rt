@@ -8,11 +8,10 @@ ghost use Rattle.quantum_cache.specs.Frees.{push_exchanged, put_chunk, free_cach
 ghost use Rattle.quantum_cache.specs.Laws.{free_most};
 
 use crate::placings::Placing;
-use arena_tree::{
-    ChangeFault, Level, Parts, PushFault, ReturnFault, SlabPutFault, SwapEmptyFault,
-    SwapFreshFault, climb_free,
-};
+use arena_tree::{FreshFault, GivenFault, Level, PartFault, Parts, ReturnFault, climb_free};
 use deed_core::{Held, Route};
+use magazine_layer::EmptyFault;
+use slab_layer::PutFault;
 
 // Into the CPU's own magazines.
 #[tactic(auto, using(crate::proofs::Runs::asks), unfolding(crate::specs::Frees::push_round))]
@@ -23,8 +22,8 @@ fn push<S: Held, P: Parts<S>>(parts: &mut P, arena: u32, cache: u8, segment: S) 
 {
     match parts.push(arena, cache, segment) {
         Ok(()) => Placing::Placed,
-        Err(PushFault::NoRoom(same)) => Placing::Left(same),
-        Err(PushFault::Stopped(same)) => Placing::Stopped(same),
+        Err(GivenFault::Refused(same)) => Placing::Left(same),
+        Err(GivenFault::Stopped(same)) => Placing::Stopped(same),
     }
 }
 
@@ -44,9 +43,8 @@ fn change_and_push<S: Held, P: Parts<S>>(
 {
     match parts.change(arena, cache, size) {
         Ok(()) => push(parts, arena, cache, segment),
-        Err(ChangeFault::NoMemory) => Placing::Left(segment),
-        Err(ChangeFault::NotGreater) => Placing::Left(segment),
-        Err(ChangeFault::Stopped) => Placing::Stopped(segment),
+        Err(PartFault::Refused(_)) => Placing::Left(segment),
+        Err(PartFault::Stopped) => Placing::Stopped(segment),
     }
 }
 
@@ -64,10 +62,11 @@ fn freshen_and_push<S: Held, P: Parts<S>>(
 {
     match parts.swap_fresh(arena, cache) {
         Ok(()) => push(parts, arena, cache, segment),
-        Err(SwapFreshFault::OldSize(size)) => change_and_push(parts, arena, cache, size, segment),
-        Err(SwapFreshFault::NotFull) => Placing::Left(segment),
-        Err(SwapFreshFault::NoMemory) => Placing::Left(segment),
-        Err(SwapFreshFault::Stopped) => Placing::Stopped(segment),
+        Err(PartFault::Refused(FreshFault::OldSize(size))) => {
+            change_and_push(parts, arena, cache, size, segment)
+        }
+        Err(PartFault::Refused(_)) => Placing::Left(segment),
+        Err(PartFault::Stopped) => Placing::Stopped(segment),
     }
 }
 
@@ -85,9 +84,13 @@ fn exchange_and_push<S: Held, P: Parts<S>>(
 {
     match parts.swap_empty(arena, cache) {
         Ok(()) => push(parts, arena, cache, segment),
-        Err(SwapEmptyFault::NoneEmpty) => freshen_and_push(parts, arena, cache, segment),
-        Err(SwapEmptyFault::OldSize(size)) => change_and_push(parts, arena, cache, size, segment),
-        Err(SwapEmptyFault::Stopped) => Placing::Stopped(segment),
+        Err(PartFault::Refused(EmptyFault::NoneEmpty)) => {
+            freshen_and_push(parts, arena, cache, segment)
+        }
+        Err(PartFault::Refused(EmptyFault::OldSize(size))) => {
+            change_and_push(parts, arena, cache, size, segment)
+        }
+        Err(PartFault::Stopped) => Placing::Stopped(segment),
     }
 }
 
@@ -104,9 +107,9 @@ pub(crate) fn put_back<S: Held, P: Parts<S>>(
 {
     match parts.slab_put(segment) {
         Ok(()) => Ok(()),
-        Err(SlabPutFault::NotMine(same)) => Err(ReturnFault::Stuck(same)),
-        Err(SlabPutFault::AtHome(same)) => Err(ReturnFault::Stuck(same)),
-        Err(SlabPutFault::Stopped(same)) => Err(ReturnFault::Stopped(same)),
+        Err(GivenFault::Refused(PutFault::NotMine(same))) => Err(ReturnFault::Stuck(same)),
+        Err(GivenFault::Refused(PutFault::AtHome(same))) => Err(ReturnFault::Stuck(same)),
+        Err(GivenFault::Stopped(same)) => Err(ReturnFault::Stopped(same)),
     }
 }
 

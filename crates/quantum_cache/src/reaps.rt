@@ -11,8 +11,7 @@ ghost use Rattle.quantum_cache.specs.Reaps.{reap_steps, reap_cache, reap_arena_p
 
 use crate::emptying_faults::EmptyingFault;
 use crate::frees::put_back;
-use crate::sizes::cache_count;
-use arena_tree::{Level, Parts, ReturnFault, Tree, climb_free};
+use arena_tree::{Level, Parts, ReturnFault, Tree, cache_count, climb_free};
 use deed_core::Held;
 
 /// How far a reaping came.
@@ -204,7 +203,7 @@ fn reap_chain<S: Held, P: Parts<S>>(
     let Some((level, _)) = chain.split_first() else {
         return Ok(before);
     };
-    let caches = cache_count(level);
+    let caches = cache_count(level.quantum, level.qcache_max);
     reap_caches(parts, chain, level.id, caches, caches, before)
 }
 

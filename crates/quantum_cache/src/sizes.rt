@@ -1,6 +1,6 @@
-//! Which cache serves a size, and how many an arena has.
-ghost use Rattle.std.specs.Prelude.{◌≡◌, ◌<◌, ◌≤◌};
-ghost use Rattle.quantum_cache.specs.Sizes.{cache_for, caches_in};
+//! Which cache serves a size.
+ghost use Rattle.std.specs.Prelude.{◌≡◌, ◌<◌};
+ghost use Rattle.quantum_cache.specs.Sizes.{cache_for};
 
 use arena_tree::Level;
 use deed_core::Request;
@@ -20,12 +20,4 @@ pub(crate) fn cache_of(level: &Level, size: u64) -> Option<u8>
         return None;
     }
     u8::try_from(units / quantum).ok()
-}
-
-/// How many caches the arena has, numbered from 1 on.
-pub(crate) fn cache_count(level: &Level) -> u8
-    requires { 0 < level.now.quantum }
-    ensures value { result ≡ caches_in level.now }
-{
-    (level.qcache_max / level.quantum).min(255) as u8
 }

@@ -111,7 +111,7 @@ impl<D: Deed> Stock<D> {
         Some(count - 1)
     }
 
-    // The indexes of the arena and the cache that a chunk names.
+    /// The indexes of the arena and the cache that a chunk names.
     fn cache_of(&self, segment: &Segment<D>) -> Option<(usize, usize)>
         ensures some { IfSome result (λ p. (segment.now.arena ≡ p.0)
             × (segment.now.route ≡ Route.Cached (p.1 + 1)) × HasCache self.now p.0 p.1) }

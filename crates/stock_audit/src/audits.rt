@@ -78,7 +78,7 @@ pub fn audit_units<D: Deed>(stock: &Stock<D>, arena: usize, out: UnitsOut) -> Ar
     sums_with(stock, arena, report, out)
 }
 
-// The sums of an arena of which this is the report.
+/// The sums of an arena of which this is the report.
 fn sums_with<D: Deed>(
     stock: &Stock<D>,
     arena: usize,
@@ -105,7 +105,7 @@ fn sums_with<D: Deed>(
     }
 }
 
-// The units that lie in the slabs of an arena's caches.
+/// The units that lie in the slabs of an arena's caches.
 fn slab_units<D: Deed>(stock: &Stock<D>, arena: usize) -> u128
     requires within { arena < length stock.now }
     requires fits { (s : SpaceState) → slice_get stock.now arena ≡ Some s
@@ -121,7 +121,7 @@ fn slab_units<D: Deed>(stock: &Stock<D>, arena: usize) -> u128
     units
 }
 
-// The units of the rounds in their depots.
+/// The units of the rounds in their depots.
 fn depots_units<D: Deed>(stock: &Stock<D>, arena: usize) -> u128
     requires within { arena < length stock.now }
     requires fits { (s : SpaceState) → slice_get stock.now arena ≡ Some s

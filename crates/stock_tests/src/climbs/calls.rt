@@ -1,13 +1,14 @@
 //! One function for each call. Each makes sure that the stock has the tree's arenas, and keeps how
 //! many locked steps it took.
 use super::arrangements::{Walk, is_set_up_as};
-use arena_tree::{CarveFault, ClimbFault, climb_alloc, climb_free};
+use arena_tree::{ClimbFault, PartFault, climb_alloc, climb_free};
 use deed_core::{Deed, Request, Segment};
 use local_parts::Local;
 use magazine_layer::is_magazine_size;
 use quantum_cache::{Reaping, alloc, drain, free, reap, reap_arena, xalloc};
 use std::mem;
 use std::process::Abort;
+use tag_arena::ArenaFault;
 
 /// What an allocation or a climb ended with: a segment, or that nothing fits.
 type Given<D> = Result<Segment<D>, ClimbFault<Segment<D>>>;
@@ -16,7 +17,7 @@ type Given<D> = Result<Segment<D>, ClimbFault<Segment<D>>>;
 fn given<D: Deed>(rt: &impl Abort, answer: Given<D>) -> Option<Segment<D>> {
     match answer {
         Ok(segment) => Some(segment),
-        Err(ClimbFault::NoFit) => None,
+        Err(ClimbFault::Refused(ArenaFault::NoFit)) => None,
         Err(_) => panic!(rt; "refused"),
     }
 }
@@ -61,7 +62,7 @@ pub(super) fn allocate_without_memory<D: Deed>(
     size: u64,
 ) {
     match attempt(rt, walk, arena, size) {
-        Err(ClimbFault::NoMemory) => {}
+        Err(ClimbFault::Refused(ArenaFault::NoMemory)) => {}
         _ => panic!(rt; "memory"),
     }
 }
@@ -87,7 +88,7 @@ pub(super) fn carve<D: Deed>(
     walk: &mut Walk<D>,
     arena: u32,
     request: &Request,
-) -> Result<Segment<D>, CarveFault> {
+) -> Result<Segment<D>, PartFault<ArenaFault>> {
     assert!(rt; is_set_up_as(&walk.stock, &walk.tree));
     assert!(rt; (arena as usize) < walk.tree.len());
     let mut parts = Local {

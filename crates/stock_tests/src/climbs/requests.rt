@@ -2,11 +2,11 @@
 use super::arrangements::{Walk, begin, begin_with, child, end, only_range, root, set};
 use super::calls::{allocate, carve, empty, reap_all, release};
 use super::sums::{free_units, magazine_units};
-use arena_tree::{CarveFault, Setup};
+use arena_tree::{PartFault, Setup};
 use deed_core::{Deed, Request, Route, Segment};
 use refusing_deed::RefusingDeed;
 use std::process::Abort;
-use tag_arena::Policy;
+use tag_arena::{ArenaFault, Policy};
 
 fn hold<D: Deed>(rt: &impl Abort, walk: &mut Walk<D>, segment: Segment<D>) {
     match walk.held.push(segment) {
@@ -21,7 +21,7 @@ fn base_of<D: Deed>(
     walk: &mut Walk<D>,
     arena: u32,
     request: Request,
-) -> Result<u64, CarveFault> {
+) -> Result<u64, PartFault<ArenaFault>> {
     let answer = carve(rt, walk, arena, &request);
     assert_eq!(rt; walk.steps, 1);
     let segment = answer?;
@@ -74,12 +74,12 @@ fn past_the_caches(rt: HostRuntime) {
     assert_eq!(rt; base_of(&rt, &mut walk, 0, after_three(5)), Ok(19));
     assert_eq!(rt;
         base_of(&rt, &mut walk, 0, after_three(6)),
-        Err(CarveFault::NoFit)
+        Err(PartFault::Refused(ArenaFault::NoFit))
     );
     assert_eq!(rt; base_of(&rt, &mut walk, 0, between(5, 30, 35)), Ok(30));
     assert_eq!(rt;
         base_of(&rt, &mut walk, 0, between(5, 30, 35)),
-        Err(CarveFault::NoFit)
+        Err(PartFault::Refused(ArenaFault::NoFit))
     );
     assert_eq!(rt; base_of(&rt, &mut walk, 0, Request::plain(5)), Ok(35));
     assert_eq!(rt; free_units(&rt, &walk, 0), 33);
@@ -121,7 +121,7 @@ fn bad_requests(rt: HostRuntime) {
     for request in bad {
         assert_eq!(rt;
             base_of(&rt, &mut walk, 0, request),
-            Err(CarveFault::BadRequest)
+            Err(PartFault::Refused(ArenaFault::BadRequest))
         );
     }
     assert_eq!(rt; free_units(&rt, &walk, 0), 64);
@@ -137,7 +137,7 @@ fn no_import(rt: HostRuntime) {
     let mut walk = begin(&rt, rt.alloc(), setup);
     assert_eq!(rt;
         base_of(&rt, &mut walk, 1, Request::plain(4)),
-        Err(CarveFault::NoFit)
+        Err(PartFault::Refused(ArenaFault::NoFit))
     );
     assert_eq!(rt; free_units(&rt, &walk, 0), 64);
     let first = allocate(&rt, &mut walk, 1, 4).expect(&rt, "units");
@@ -146,7 +146,7 @@ fn no_import(rt: HostRuntime) {
     assert_eq!(rt; base_of(&rt, &mut walk, 1, between(4, 8, 12)), Ok(8));
     assert_eq!(rt;
         base_of(&rt, &mut walk, 1, Request::plain(8)),
-        Err(CarveFault::NoFit)
+        Err(PartFault::Refused(ArenaFault::NoFit))
     );
     assert_eq!(rt; base_of(&rt, &mut walk, 1, Request::plain(4)), Ok(4));
     assert_eq!(rt; free_units(&rt, &walk, 0), 48);
@@ -168,7 +168,7 @@ fn out_of_memory(rt: HostRuntime) {
     let mut walk = begin_with(&rt, rt.alloc(), setup, deed);
     assert_eq!(rt;
         base_of(&rt, &mut walk, 0, between(4, 2, 8)),
-        Err(CarveFault::NoMemory)
+        Err(PartFault::Refused(ArenaFault::NoMemory))
     );
     assert_eq!(rt; free_units(&rt, &walk, 0), 8);
     assert_eq!(rt; base_of(&rt, &mut walk, 0, between(4, 2, 8)), Ok(2));

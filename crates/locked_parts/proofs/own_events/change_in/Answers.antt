@@ -1,7 +1,7 @@
 use Rattle.std.proofs.Common.{◌≡◌, ◌∙◌, ap, Some}
 use Rattle.std.specs.Prelude.{slice_get}
 use Rattle.deed_core.proofs.LawProofs.{read_is, map_set_same}
-use Rattle.locked_parts.specs.Kinds.{KindRoundsState}
+use Rattle.locked_parts.specs.Kinds.{OwnCacheState}
 use Rattle.locked_parts.proofs.own_events.change_in.Goals as goal
 
 pub returns-clause-kinds : goal.returns-clause-kinds
@@ -9,4 +9,4 @@ returns-clause-kinds g c =
     let h = c.in-Some-own_at.ensures.kind in
     let at : slice_get c.args.caches.now.items c.in-Some-own_at.index ≡ Some h.0 = (let e = c.deref.ensures.value in let there = h.1 in cc) in
     let is = read_is c.args.caches.now.items c.in-Some-own_at.index c.index_mut-own.result.now h.0 c.index_mut-own.ensures.value at in
-    map_set_same (λ (r : KindRoundsState). r.kind) c.args.caches.now.items c.in-Some-own_at.index h.0 c.change.new.self at (c.change.ensures.kind ∙ ap (λ (r : KindRoundsState). r.kind) is)
+    map_set_same (λ (r : OwnCacheState). r.kind) c.args.caches.now.items c.in-Some-own_at.index h.0 c.change.new.self at (c.change.ensures.kind ∙ ap (λ (r : OwnCacheState). r.kind) is)

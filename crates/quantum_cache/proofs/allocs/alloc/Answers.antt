@@ -9,6 +9,7 @@ use Rattle.quantum_cache.specs.Served.{IsServed, AsksForNone}
 use Rattle.quantum_cache.proofs.AllocBounds.{alloc_is_short}
 use Rattle.quantum_cache.proofs.AllocEnds.{alloc_gives, alloc_bad, untagged}
 use Rattle.quantum_cache.proofs.allocs.alloc.Goals as goal
+use Rattle.tag_arena.specs.declared.faults.ArenaFault.TheVariants as carving
 
 pub returns-clause-few : goal.returns-clause-few
 returns-clause-few g c = ran_counts _ _ _ _ (λ (r : ClimbEnd). 8 + 2 * length c.args.chain.now) (alloc_plan c.args.chain.now c.args.size) _ _ _ c.serve.ensures.ran (alloc_is_short c.args.chain.now c.args.size c.requires.short)
@@ -21,4 +22,4 @@ returns-clause-granted g c =
 
 pub returns-clause-bad : goal.returns-clause-bad
 returns-clause-bad g c is =
-    ran_posts _ _ _ _ (λ (r : ClimbEnd). r ≡ Err climbing.BadRequest → AsksForNone c.args.chain.now c.args.size) (alloc_plan c.args.chain.now c.args.size) _ _ _ c.serve.ensures.ran (alloc_bad _ c.args.chain.now c.args.size c.requires.chain) (ap (tag_climb g.S.Held.tag) is)
+    ran_posts _ _ _ _ (λ (r : ClimbEnd). r ≡ Err (climbing.Refused carving.BadRequest) → AsksForNone c.args.chain.now c.args.size) (alloc_plan c.args.chain.now c.args.size) _ _ _ c.serve.ensures.ran (alloc_bad _ c.args.chain.now c.args.size c.requires.chain) (ap (tag_climb g.S.Held.tag) is)

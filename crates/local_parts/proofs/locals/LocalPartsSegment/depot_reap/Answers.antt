@@ -1,8 +1,13 @@
-use Rattle.std.proofs.Common.{refl}
+use Rattle.std.proofs.Common.{None, Ok, refl}
 use Rattle.arena_tree.proofs.LawProofs.{tag_all_same}
+use Rattle.local_parts.proofs.Wholes.{depot_reap_whole, no_depot_reaped}
 use Rattle.local_parts.proofs.PartSteps.{parts_step}
 use Rattle.local_parts.proofs.locals.LocalPartsSegment.depot_reap.Goals as goal
 
 pub returns : goal.returns
 returns g c =
-    parts_step _ (λ s. record { spaces = s.stock.now; cpu = s.cpu.now }) (λ s. s.tree.now) _ (λ s. s.steps) c.args.self.now _ _ c.depot_reap_of.result _ (tag_all_same c.depot_reap_of.result) (c.depot_reap_of.ensures c.args.self.now.cpu.now) (λ d. (d, refl, refl)) refl c.saturating_add-self.ensures
+    parts_step _ (λ s. record { spaces = s.stock.now; cpu = s.cpu.now }) (λ s. s.tree.now) _ (λ s. s.steps) c.args.self.now _ _ (Ok c.depot_reap-reaped.result) _ (tag_all_same (Ok c.depot_reap-reaped.result)) (depot_reap_whole _ _ c.args.self.now.cpu.now c.count-2.ensures.stock c.depot_reap-reaped.ensures.fixed c.count.ensures.stock c.args.arena c.args.cache c.in-Some.index c.in-Some.ensures.some.0 c.depot_reap-reaped.result c.depot_reap-reaped.ensures.reaped c.depot_reap-reaped.ensures.chunk c.depot_reap-reaped.ensures.frame) (λ d. (d, refl, refl)) refl c.saturating_add-self.ensures
+
+pub returns-in_default : goal.returns-in_default
+returns-in_default g c =
+    parts_step _ (λ s. record { spaces = s.stock.now; cpu = s.cpu.now }) (λ s. s.tree.now) _ (λ s. s.steps) c.args.self.now _ _ (Ok None) _ (refl) (no_depot_reaped c.args.self.now.stock.now c.args.self.now.cpu.now c.count.ensures.stock c.args.arena c.args.cache c.in_default.ensures.none) (λ d. (d, refl, refl)) refl c.saturating_add-self.ensures

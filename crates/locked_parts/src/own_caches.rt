@@ -1,5 +1,5 @@
 //! A CPU's magazines for one quantum cache.
-ghost use Rattle.std.specs.Prelude.{◌≡◌, ◌≢◌, ◌<◌, ◌↔◌, IsTrue, Ok, Err, IfOk, IfErr, length};
+ghost use Rattle.std.specs.Prelude.{◌≡◌, ◌<◌, ◌↔◌, IsTrue, Ok, IfOk, IfErr, length};
 ghost use Rattle.std.specs.Prelude.{IfSome, OnOk, OnErr};
 ghost use Rattle.magazine_layer.specs.Magazines.{IsSize, BothEmpty, cache_rounds};
 ghost use Rattle.magazine_layer.specs.Magazines.{after_change};
@@ -20,30 +20,30 @@ pub(crate) const FIRST_SIZE: usize = 3;
 
 /// What a CPU keeps for a quantum cache: all its rounds are chunks of it. It is never copied or
 /// dropped.
-pub struct KindRounds<D: Deed> {
+pub struct OwnCache<D: Deed> {
     pub(crate) kind: CacheKind,
     pub(crate) cpu: CpuCache<D>,
 }
 
-impl<D: Deed> Model for KindRounds<D> {
-    ghost use Rattle.locked_parts.specs.Kinds.{KindRoundsState, AreKindRounds};
+impl<D: Deed> Model for OwnCache<D> {
+    ghost use Rattle.locked_parts.specs.Kinds.{OwnCacheState, IsOwnCache};
 
-    ghost Value = { KindRoundsState };
+    ghost Value = { OwnCacheState };
 
     ghost view = { λ r. record { kind = r.kind; cpu = r.cpu } };
 
-    ghost invariant = { λ r. AreKindRounds (record { kind = r.kind; cpu = r.cpu }) };
+    ghost invariant = { λ r. IsOwnCache (record { kind = r.kind; cpu = r.cpu }) };
 }
 
-impl<D: Deed> KindRounds<D> {
+impl<D: Deed> OwnCache<D> {
     /// Two empty magazines of the first size.
-    pub(crate) fn new(alloc: Global, kind: CacheKind) -> Result<KindRounds<D>, AllocError>
+    pub(crate) fn new(alloc: Global, kind: CacheKind) -> Result<OwnCache<D>, AllocError>
         requires { 0 < kind.quantum }
         ensures kind { IfOk result (λ r. r.kind ≡ kind) }
         ensures empty { IfOk result (λ r. BothEmpty r.cpu) }
     {
         let cpu = CpuCache::new(alloc, FIRST_SIZE)?;
-        Ok(KindRounds { kind, cpu })
+        Ok(OwnCache { kind, cpu })
     }
 
     /// Takes a round.
@@ -78,7 +78,6 @@ impl<D: Deed> KindRounds<D> {
         ensures changed { OnOk result (self.new.cpu ≡ after_change size self.old.cpu) }
         ensures as_many { length (cache_rounds self.new.cpu) ≡ length (cache_rounds self.old.cpu) }
         ensures unchanged { OnErr result (self.new ≡ self.old) }
-        ensures goes { result ≢ Err ChangeFault.Stopped }
         ensures kind { self.new.kind ≡ self.old.kind }
     {
         if !is_magazine_size(size) || size <= self.cpu.size() {
@@ -117,7 +116,7 @@ impl<D: Deed> KindRounds<D> {
     pub(crate) fn end(self)
         requires { BothEmpty self.cpu }
     {
-        let KindRounds { kind: _, cpu } = self;
+        let OwnCache { kind: _, cpu } = self;
         match cpu.close() {
             Ok(()) => {}
             Err(_) => unreachable!(),

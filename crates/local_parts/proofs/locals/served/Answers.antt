@@ -1,5 +1,5 @@
 use Rattle.std.proofs.lemmas.Option.{slice_get_within}
-use Rattle.local_parts.proofs.own_events.served.Goals as goal
+use Rattle.local_parts.proofs.locals.served.Goals as goal
 
 pub returns-in_default-clause-none : goal.returns-in_default-clause-none
 returns-in_default-clause-none g c = λ j o number served. c.in_default.ensures.none j number served.has

@@ -1,7 +1,7 @@
 use Rattle.magazine_layer.specs.Magazines.{cache_rounds}
 use Rattle.locked_parts.specs.Kinds.{IsOfKind}
 use Rattle.locked_parts.proofs.RoundLaws.{among}
-use Rattle.locked_parts.proofs.cpu_rounds.KindRounds.change.Goals as goal
+use Rattle.locked_parts.proofs.own_caches.OwnCache.change.Goals as goal
 
 pub invariant_of-self : goal.invariant_of-self
 invariant_of-self g c =
