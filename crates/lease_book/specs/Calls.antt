@@ -5,6 +5,7 @@ use Rattle.deed_core.specs.Tag.{Tag}
 use Rattle.deed_core.specs.Weights.{Gains, Loses}
 use Rattle.lease_terms.specs.Requests.{RequestId}
 use Rattle.lease_terms.specs.declared.refusals.Refusal.{Refusal}
+use Rattle.lease_terms.specs.declared.refusals.Refusal.TheVariants as refusal
 use Rattle.lease_book.specs.Receipts.{ReceiptState}
 use Rattle.lease_book.specs.Entry.{Settled, Swept, Grant, Return, Refuse, kept_settlement}
 use Rattle.lease_book.specs.Account.{is_lease, lease_of}
@@ -35,6 +36,12 @@ pub record IsRefused (old now : BookState) (id : RequestId) (why : Refusal)
   pub receipt : r ≡ receipt old id (kept_settlement id.number (Refuse why))
   pub entry : Enters (Settled id (Refuse why)) old now
   pub leases : leased_segments now ≡ leased_segments old
+
+-- a refusal that the system finds, and not its book
+abbrev pub IsSystemRefusal : Refusal → Type 0
+IsSystemRefusal refusal.Leases = ⊥
+IsSystemRefusal refusal.NotYours = ⊥
+IsSystemRefusal why = Unit {0}
 
 -- the new request is settled by the release of a lease, which a request with the number `granted`
 -- was granted

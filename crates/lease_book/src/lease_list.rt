@@ -129,7 +129,7 @@ impl<D: Deed> LeaseList<D> {
         Some(self.held.remove(index).into_held())
     }
 
-    // Where the first lease stands that is asked for.
+    /// Where the first lease stands that is asked for.
     fn index_of(&self, which: &Which) -> Option<usize>
         ensures { result ≡ position (is_asked which.now) self.now }
     {

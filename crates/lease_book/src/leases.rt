@@ -201,14 +201,14 @@ impl<D: Deed> Leases<D> {
         self.least < incarnation.get() && self.any_older(incarnation)
     }
 
-    // The same, by a look at each.
+    /// The same, by a look at each.
     fn any_older(&self, incarnation: Ordinal) -> bool
         ensures { result ≡ list_any (is_older incarnation) self.now }
     {
         self.few.has_older(incarnation) || self.places.has_older(incarnation)
     }
 
-    // What no lease's incarnation is below, nor this one.
+    /// What no lease's incarnation is below, nor this one.
     fn least_with(&self, incarnation: Ordinal) -> u64
         ensures own { result ≤ incarnation }
         ensures others { All (λ (l : Lease). result ≤ l.incarnation) self.now }

@@ -178,7 +178,7 @@ impl<D: Deed> Places<D> {
         Ok(())
     }
 
-    // Moves the leases out of places into new ones.
+    /// Moves the leases out of places into new ones.
     fn move_in(&mut self, places: Vec<Place<D>>)
         requires { CHAINS_EACH * (length self.old.places + length (leases_in places.items))
             < length self.old.ends }
@@ -239,7 +239,7 @@ impl<D: Deed> Places<D> {
         mem::replace(self, fresh).close();
     }
 
-    // Where the first lease stands that is asked for.
+    /// Where the first lease stands that is asked for.
     fn place_of(&mut self, which: &Which) -> Option<usize>
         ensures value { result
             ≡ position (λ p. holds (is_asked which.now) p.lease) self.old.places }
@@ -256,7 +256,7 @@ impl<D: Deed> Places<D> {
         }
     }
 
-    // Where the first lease stands. The next search for it, or for an older one, begins there.
+    /// Where the first lease stands. The next search for it, or for an older one, begins there.
     fn first_held(&mut self) -> Option<usize>
         ensures value { result ≡ position (λ p. is_some p.lease) self.old.places }
         ensures unchanged { self.new ≡ self.old }
@@ -266,7 +266,7 @@ impl<D: Deed> Places<D> {
         Some(at)
     }
 
-    // Where the first lease of the request's incarnation with this arena and base stands.
+    /// Where the first lease of the request's incarnation with this arena and base stands.
     fn position(&self, id: RequestId, arena: u32, base: Quantity) -> Option<usize>
         ensures { result ≡ position (λ p. holds (is_lease id.incarnation arena base) p.lease)
             self.now.places }

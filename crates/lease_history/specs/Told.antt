@@ -1,13 +1,19 @@
--- Which replies a book may give.
-use Rattle.std.specs.Prelude.{◌≡◌, ℕ, ◌≤◌, List, Some}
+-- The reply that an answer of a book is, and which replies a book may give.
+use Rattle.std.specs.Prelude.{◌≡◌, ℕ, ◌<◌, ◌≤◌, List, Some}
 use Rattle.lease_terms.specs.Requests.{RequestId}
 use Rattle.lease_proto.specs.declared.replies.Reply.{Reply}
 use Rattle.lease_proto.specs.declared.replies.Reply.TheVariants as replies
+use Rattle.lease_proto.specs.Requests.{again_of, hello_again_of}
+use Rattle.lease_proto.specs.declared.lines.HelloLine.{HelloLine}
 use Rattle.lease_book.specs.declared.receipts.KeptReply.{KeptReply}
 use Rattle.lease_book.specs.declared.receipts.KeptReply.TheVariants as kept
 use Rattle.lease_book.specs.Receipts.{Kept}
-use Rattle.lease_book.specs.Entry.{Entry}
 use Rattle.lease_book.specs.History.{incarnation, outcome_of}
+use Rattle.lease_book.specs.declared.answers.Answer.{Answer}
+use Rattle.lease_book.specs.declared.answers.Answer.TheVariants as answer
+use Rattle.lease_book.specs.declared.answers.HelloFault.{HelloFault}
+use Rattle.lease_book.specs.declared.answers.HelloFault.TheVariants as fault
+use Rattle.lease_book.specs.Entry.{Entry, Settlement, kept_reply_of}
 
 -- the reply to a request, of the book's reply, where arenas have these names
 abbrev pub reply_to : (ℕ → List ℕ) → RequestId → KeptReply → Reply
@@ -15,6 +21,32 @@ reply_to names id (kept.Granted arena base len) =
     replies.Granted (record { id = id; arena = names arena; base = base; len = len })
 reply_to names id kept.Released = replies.Released id
 reply_to names id (kept.Refused why) = replies.Refused (record { id = id; refusal = why })
+
+-- it names no arena, or one of so many
+abbrev pub IsTellable : ℕ → KeptReply → Type 0
+IsTellable count (kept.Granted arena base len) = arena < count
+IsTellable count kept.Released = Unit {0}
+IsTellable count (kept.Refused why) = Unit {0}
+
+-- the reply to a request that is settled so
+abbrev pub reply_of_settled : (ℕ → List ℕ) → RequestId → Settlement → Reply
+reply_of_settled names id s = reply_to names id (kept_reply_of s)
+
+-- the reply to a request that the book answers so
+abbrev pub reply_to_answer : {D : Type 0} → (ℕ → List ℕ) → RequestId → Answer D → Reply
+reply_to_answer names id (answer.Kept v) = reply_to names id v.reply
+reply_to_answer names id (answer.Refused v) = reply_to names id v.reply
+reply_to_answer names id (answer.Old current) =
+    replies.Old (record { client = id.client; current = current })
+reply_to_answer names id (answer.Stale last) = replies.Stale (record { id = id; last = last })
+reply_to_answer names id (answer.Gap last) = replies.Gap (record { id = id; last = last })
+reply_to_answer names id answer.Again = again_of id
+
+-- the reply to a hello that the book doesn't take
+abbrev pub hello_refusal : HelloLine → HelloFault → Reply
+hello_refusal h (fault.Old current) =
+    replies.Old (record { client = h.client; current = current })
+hello_refusal h fault.NoMemory = hello_again_of h
 
 -- the request was settled so
 abbrev pub IsOutcome : (ℕ → List ℕ) → List Entry → RequestId → Reply → Type 0

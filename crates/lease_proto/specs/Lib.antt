@@ -11,3 +11,4 @@ pub mod Operators
 pub mod Reports
 pub mod SetupLines
 pub mod SetupTexts
+pub mod Serving

@@ -1,5 +1,7 @@
--- Whose line it is, and the id of its request; and whose request a reply answers.
+-- Whose line it is, the id of its request and what it asks of an arena; and whose request a reply
+-- answers.
 use Rattle.std.specs.Prelude.{ℕ, ◌==◌, if◌then◌else◌, Option, Some, None}
+use Rattle.deed_core.specs.declared.requests.Request.{Request}
 use Rattle.lease_terms.specs.Requests.{RequestId}
 use Rattle.lease_proto.specs.declared.lines.Line.{Line}
 use Rattle.lease_proto.specs.declared.lines.Line.TheVariants as lines
@@ -7,6 +9,8 @@ use Rattle.lease_proto.specs.declared.lines.Op.{Op}
 use Rattle.lease_proto.specs.declared.replies.Again.{Again}
 use Rattle.lease_proto.specs.declared.replies.Reply.{Reply}
 use Rattle.lease_proto.specs.declared.replies.Reply.TheVariants as replies
+use Rattle.lease_proto.specs.declared.lines.HelloLine.{HelloLine}
+use Rattle.lease_proto.specs.declared.lines.LeaseLine.{LeaseLine}
 
 -- the client that sends a line
 abbrev pub client_of : Line → ℕ
@@ -27,6 +31,17 @@ request_of (lines.Request id op) = Some id
 abbrev pub op_of : Line → Option Op
 op_of (lines.Hello h) = None
 op_of (lines.Request id op) = Some op
+
+-- what a lease asks of its arena
+abbrev pub demand_of : LeaseLine → Request
+demand_of l = record {
+  size = l.size;
+  align = l.options.align;
+  phase = l.options.phase;
+  nocross = l.options.nocross;
+  min = l.options.min;
+  max = l.options.max;
+}
 
 -- the client that a reply names; an `error` names none
 abbrev pub client_named : Reply → Option ℕ
@@ -51,6 +66,16 @@ incarnation_named (replies.Stale r) = Some r.id.incarnation
 incarnation_named (replies.Gap r) = Some r.id.incarnation
 incarnation_named (replies.Again r) = Some r.incarnation
 incarnation_named (replies.Error error) = None
+
+-- the reply by which nothing came of the request
+abbrev pub again_of : RequestId → Reply
+again_of id = replies.Again
+    (record { client = id.client; incarnation = id.incarnation; number = id.number })
+
+-- the reply by which nothing came of the hello
+abbrev pub hello_again_of : HelloLine → Reply
+hello_again_of h = replies.Again
+    (record { client = h.client; incarnation = h.incarnation; number = 0 })
 
 -- the request that an `again` answers; of a hello, its number is 0
 abbrev pub again_request : Again → Option RequestId

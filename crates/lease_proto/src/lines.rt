@@ -1,16 +1,16 @@
 //! The lines of a client.
-ghost use Rattle.std.specs.Prelude.{◌≡◌, ◌++◌, IsOk, OnOk, OnErr, [], ◌∷◌, ◌+◌, ◌*◌, ◌≤◌, ℕ, List};
+ghost use Rattle.std.specs.Prelude.{◌≡◌, ◌++◌, IsOk, OnOk, OnErr, [], ◌+◌, ◌*◌, ◌≤◌};
 ghost use Rattle.std.specs.Prelude.{Some, vec_len};
 ghost use Rattle.lease_proto.specs.Frames.{with_line_feed};
 ghost use Rattle.lease_proto.specs.Grammar.{line_in, line_of, line_of_first, hello_in};
 ghost use Rattle.lease_proto.specs.Grammar.{lease_in, lease_after, release_in};
 ghost use Rattle.lease_proto.specs.Requests.{client_of, incarnation_of, request_of, op_of};
+ghost use Rattle.lease_proto.specs.Requests.{demand_of};
 ghost use Rattle.lease_proto.specs.declared.lines.TheConstants.{OPTIONS_ROOM};
 ghost use Rattle.lease_proto.specs.declared.writing.TheConstants.{NUMBER_ROOM, NAME_ROOM};
 ghost use Rattle.lease_proto.specs.Texts.{text_of, first_word, op_word, hello_words, lease_words};
 ghost use Rattle.lease_proto.specs.Texts.{options_words, release_words, spaced_text, LinesAreTexts};
 ghost use Rattle.lease_proto.specs.Texts.{LineIsRead, WrittenLineIsWhole, AreOptions, IsOp, IsLine};
-ghost use Rattle.std.specs.List.{flat_map};
 ghost use Rattle.std.specs.Vec.{vec_capacity};
 ghost use Rattle.lease_proto.specs.declared.limits.TheConstants.{LINE_ROOM};
 
@@ -21,6 +21,7 @@ use crate::numbers::{client, ordinal, quantity};
 use crate::sentences::{Words, name};
 use crate::taking::{first_fault, option, parts, quantity_or_default};
 use crate::writing::{NUMBER_ROOM, push_id, push_name, push_number, push_option, push_text};
+use deed_core::Request;
 use lease_terms::{ArenaName, ClientId, Ordinal, Quantity, RequestId};
 use std::alloc::AllocError;
 
@@ -116,6 +117,20 @@ pub struct LeaseLine {
 }
 
 impl LeaseLine {
+    /// What it asks of its arena.
+    pub fn demand(&self) -> Request
+        ensures { result ≡ demand_of self.now }
+    {
+        Request {
+            size: self.size.get(),
+            align: self.options.align.get(),
+            phase: self.options.phase.get(),
+            nocross: self.options.nocross.get(),
+            min: self.options.min.get(),
+            max: self.options.max.get(),
+        }
+    }
+
     #[tactic(auto, unfolding(crate::specs::Grammar::lease_in))]
     fn read(words: &mut Words<'_>) -> Result<Line, LineFault>
         ensures { result ≡ lease_in words.old }

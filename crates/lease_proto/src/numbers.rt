@@ -8,7 +8,7 @@ use crate::faults::LineFault;
 use lease_terms::{ClientId, LARGEST, Ordinal, Quantity};
 
 /// The number that a word writes, 0 to 2^62, or `Number` where it writes none.
-pub fn number(word: &[u8]) -> Result<u64, LineFault>
+pub(crate) fn number(word: &[u8]) -> Result<u64, LineFault>
     ensures value { result ≡ quantity_in word.now }
     ensures fits { IfOk result (λ n. n ≤ LARGEST) }
 {
@@ -39,7 +39,7 @@ fn value_of(word: &[u8]) -> Option<u64>
 }
 
 /// The client that a word writes, 1 to `LAST_CLIENT`, or `Number` where it writes none.
-pub fn client(word: &[u8]) -> Result<ClientId, LineFault>
+pub(crate) fn client(word: &[u8]) -> Result<ClientId, LineFault>
     ensures { result ≡ client_in word.now }
 {
     let value = number(word)?;
@@ -51,7 +51,7 @@ pub fn client(word: &[u8]) -> Result<ClientId, LineFault>
 
 /// The incarnation, or the number of a request, that a word writes: 1 to 2^62, or `Number` where it
 /// writes none.
-pub fn ordinal(word: &[u8]) -> Result<Ordinal, LineFault>
+pub(crate) fn ordinal(word: &[u8]) -> Result<Ordinal, LineFault>
     ensures { result ≡ ordinal_in word.now }
 {
     match Ordinal::new(number(word)?) {
@@ -61,7 +61,7 @@ pub fn ordinal(word: &[u8]) -> Result<Ordinal, LineFault>
 }
 
 /// The quantity that a word writes, 0 to 2^62, or `Number` where it writes none.
-pub fn quantity(word: &[u8]) -> Result<Quantity, LineFault>
+pub(crate) fn quantity(word: &[u8]) -> Result<Quantity, LineFault>
     ensures { result ≡ quantity_in word.now }
 {
     match Quantity::new(number(word)?) {

@@ -1,5 +1,5 @@
 //! The replies to a client's lines.
-ghost use Rattle.std.specs.Prelude.{◌≡◌, ◌++◌, IsOk, OnOk, OnErr, ◌∷◌, ◌+◌, ◌*◌, ◌≤◌, ℕ, List};
+ghost use Rattle.std.specs.Prelude.{◌≡◌, ◌++◌, IsOk, OnOk, OnErr, ◌+◌, ◌*◌, ◌≤◌};
 ghost use Rattle.std.specs.Prelude.{vec_len, length};
 ghost use Rattle.lease_proto.specs.Frames.{with_line_feed};
 ghost use Rattle.lease_proto.specs.Replies.{reply_of, reply_text, first_reply_word, welcome_in};
@@ -10,7 +10,7 @@ ghost use Rattle.lease_proto.specs.Replies.{out_of_turn_words, again_words, refu
 ghost use Rattle.lease_proto.specs.Replies.{refusal_word, IsReply, RepliesAreTexts};
 ghost use Rattle.lease_proto.specs.Replies.{WrittenReplyIsWhole};
 ghost use Rattle.lease_proto.specs.Requests.{client_named, incarnation_named, request_named};
-ghost use Rattle.lease_proto.specs.Requests.{again_request};
+ghost use Rattle.lease_proto.specs.Requests.{again_request, again_of, hello_again_of};
 ghost use Rattle.std.specs.Vec.{vec_capacity};
 ghost use Rattle.lease_proto.specs.declared.limits.TheConstants.{LINE_ROOM};
 ghost use Rattle.lease_proto.specs.declared.writing.TheConstants.{NUMBER_ROOM, ID_ROOM, NAME_ROOM};
@@ -19,6 +19,7 @@ ghost use Rattle.lease_proto.specs.Texts.{spaced_text};
 use crate::faults::{ErrorWord, LineFault};
 use crate::ids::IdWords;
 use crate::limits::LINE_ROOM;
+use crate::lines::HelloLine;
 use crate::numbers::{client, ordinal, quantity};
 use crate::sentences::{Words, name};
 use crate::taking::words;
@@ -263,9 +264,7 @@ impl Again {
         push_number(out, self.incarnation.get());
         push_number(out, self.number.get());
     }
-}
 
-impl Again {
     /// The request that it answers; none where that was a hello.
     fn request(&self) -> Option<RequestId>
         ensures { result ≡ again_request self.now }
@@ -369,6 +368,28 @@ impl Reply {
             Reply::Again(_) => b"again",
             Reply::Error(_) => b"error",
         }
+    }
+
+    /// Nothing came of the request: it may be sent once more.
+    pub fn again(id: RequestId) -> Reply
+        ensures { result ≡ again_of id }
+    {
+        Reply::Again(Again {
+            client: id.client,
+            incarnation: id.incarnation,
+            number: id.number.quantity(),
+        })
+    }
+
+    /// Nothing came of the hello: it may be sent once more.
+    pub fn hello_again(hello: &HelloLine) -> Reply
+        ensures { result ≡ hello_again_of hello.now }
+    {
+        Reply::Again(Again {
+            client: hello.client,
+            incarnation: hello.incarnation,
+            number: Quantity::ZERO,
+        })
     }
 
     /// Each of its values is in its range. This does nothing: it is called for its clause.

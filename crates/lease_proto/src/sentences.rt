@@ -11,7 +11,7 @@ use lease_terms::{ArenaName, is_word_byte};
 use std::marker::Model;
 
 /// The name that a word is, or `BadLine` where it is none.
-pub fn name(word: &[u8]) -> Result<ArenaName, LineFault>
+pub(crate) fn name(word: &[u8]) -> Result<ArenaName, LineFault>
     ensures { result ≡ name_in word.now }
 {
     match ArenaName::new(word) {
@@ -23,7 +23,7 @@ pub fn name(word: &[u8]) -> Result<ArenaName, LineFault>
 /// The words of a line that are left to read. A contract sees them as a list. Each is cut when it
 /// is taken: what is left of the line isn't cut yet.
 #[derive(Drop)]
-pub struct Words<'a> {
+pub(crate) struct Words<'a> {
     rest: Option<&'a [u8]>,
 }
 
@@ -42,14 +42,14 @@ impl<'a> Words<'a> {
     }
 
     /// The same words again, to look ahead or to hand on.
-    pub fn ahead(&self) -> Words<'a>
+    pub(crate) fn ahead(&self) -> Words<'a>
         ensures { result ≡ self.now }
     {
         Words { rest: self.rest }
     }
 
     /// The next word.
-    pub fn next(&mut self) -> Option<&'a [u8]>
+    pub(crate) fn next(&mut self) -> Option<&'a [u8]>
         ensures { MatchOption result
             ((self.old ≡ []) × (self.new ≡ []))
             (λ word. self.old ≡ word.now ∷ self.new) }
@@ -68,7 +68,7 @@ impl<'a> Words<'a> {
     }
 
     /// The next word, where the line has to have one: `BadLine` where it has none left.
-    pub fn take(&mut self) -> Result<&'a [u8], LineFault>
+    pub(crate) fn take(&mut self) -> Result<&'a [u8], LineFault>
         ensures { MatchResult result
             (λ word. word_at self.old ≡ Ok (word.now, self.new))
             (λ fault. (word_at self.old ≡ Err fault) × (self.new ≡ self.old)) }
@@ -77,7 +77,7 @@ impl<'a> Words<'a> {
     }
 
     /// Whether the line ends here, where it has to: `BadLine` where a word is left.
-    pub fn end(&self) -> Result<(), LineFault>
+    pub(crate) fn end(&self) -> Result<(), LineFault>
         ensures { result ≡ end_at self.now }
     {
         match self.rest {
@@ -96,7 +96,7 @@ fn first_space(line: &[u8]) -> Option<usize>
 
 /// Whether a line is words with one space between them. It looks at its bytes alone: the words are
 /// found when they are cut.
-pub fn is_sentence(line: &[u8]) -> bool
+pub(crate) fn is_sentence(line: &[u8]) -> bool
     ensures { result ≡ spec.is_sentence line.now }
 {
     let mut inside = false;

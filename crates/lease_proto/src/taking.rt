@@ -12,7 +12,7 @@ use lease_terms::Quantity;
 
 /// The words of a line, given without its line feed: `TooLong` above `LONGEST_LINE` bytes, and
 /// `BadLine` where it is anything but words with one space between them.
-pub fn words(line: &[u8]) -> Result<Words<'_>, LineFault>
+pub(crate) fn words(line: &[u8]) -> Result<Words<'_>, LineFault>
     ensures { result ≡ words_of line.now }
 {
     let parts = parts(line)?;
@@ -24,7 +24,7 @@ pub fn words(line: &[u8]) -> Result<Words<'_>, LineFault>
 
 /// The parts of a line between its spaces, be they words or not: `TooLong` above `LONGEST_LINE`
 /// bytes.
-pub fn parts(line: &[u8]) -> Result<Words<'_>, LineFault>
+pub(crate) fn parts(line: &[u8]) -> Result<Words<'_>, LineFault>
     ensures { result ≡ short_parts line.now }
 {
     if line.len() > LONGEST_LINE {
@@ -35,7 +35,7 @@ pub fn parts(line: &[u8]) -> Result<Words<'_>, LineFault>
 
 /// The first reason to refuse a line whose parts are refused for this one: it may be no words with
 /// one space between them.
-pub fn first_fault(line: &[u8], fault: LineFault) -> LineFault
+pub(crate) fn first_fault(line: &[u8], fault: LineFault) -> LineFault
     ensures { result ≡ first_reason line.now fault }
 {
     if is_sentence(line) {
@@ -46,7 +46,7 @@ pub fn first_fault(line: &[u8], fault: LineFault) -> LineFault
 }
 
 /// The value of an option, where it is the next.
-pub fn option<'a>(words: &mut Words<'a>, key: &[u8]) -> Option<&'a [u8]>
+pub(crate) fn option<'a>(words: &mut Words<'a>, key: &[u8]) -> Option<&'a [u8]>
     ensures { option_at key.now words.old ≡ (option_copied result, words.new) }
 {
     let mut ahead = words.ahead();
@@ -59,7 +59,10 @@ pub fn option<'a>(words: &mut Words<'a>, key: &[u8]) -> Option<&'a [u8]>
 }
 
 /// The quantity that a word writes, or the default where there is none.
-pub fn quantity_or_default(default: Quantity, word: Option<&[u8]>) -> Result<Quantity, LineFault>
+pub(crate) fn quantity_or_default(
+    default: Quantity,
+    word: Option<&[u8]>,
+) -> Result<Quantity, LineFault>
     ensures { result ≡ quantity_or default (option_copied word.entry) }
 {
     match word {

@@ -9,16 +9,16 @@ use itoa::Buffer;
 use lease_terms::{ArenaName, LONGEST_NAME, Quantity, RequestId};
 
 /// Room for a space and a number.
-pub const NUMBER_ROOM: usize = 21;
+pub(crate) const NUMBER_ROOM: usize = 21;
 
 /// Room for the id of a request.
-pub const ID_ROOM: usize = 3 * NUMBER_ROOM;
+pub(crate) const ID_ROOM: usize = 3 * NUMBER_ROOM;
 
 /// Room for a space and a name.
-pub const NAME_ROOM: usize = LONGEST_NAME + 1;
+pub(crate) const NAME_ROOM: usize = LONGEST_NAME + 1;
 
 /// Text, as it is.
-pub fn push_text(out: &mut Vec<u8>, text: &[u8])
+pub(crate) fn push_text(out: &mut Vec<u8>, text: &[u8])
     requires { vec_len out.old + length text.now ≤ vec_capacity out.old }
     ensures text { out.new.items ≡ out.old.items ++ text.now }
     ensures len { vec_len out.new ≡ vec_len out.old + length text.now }
@@ -31,7 +31,7 @@ pub fn push_text(out: &mut Vec<u8>, text: &[u8])
 }
 
 /// A space and a word.
-pub fn push_word(out: &mut Vec<u8>, word: &[u8])
+pub(crate) fn push_word(out: &mut Vec<u8>, word: &[u8])
     requires { vec_len out.old + (length word.now + 1) ≤ vec_capacity out.old }
     ensures text { out.new.items ≡ out.old.items ++ (32 ∷ word.now) }
     ensures len { vec_len out.new ≡ vec_len out.old + (length word.now + 1) }
@@ -42,7 +42,7 @@ pub fn push_word(out: &mut Vec<u8>, word: &[u8])
 }
 
 /// A space and a name.
-pub fn push_name(out: &mut Vec<u8>, name: &ArenaName)
+pub(crate) fn push_name(out: &mut Vec<u8>, name: &ArenaName)
     requires { vec_len out.old + NAME_ROOM ≤ vec_capacity out.old }
     ensures text { out.new.items ≡ out.old.items ++ (32 ∷ name.now) }
     ensures len { vec_len out.new ≤ vec_len out.old + NAME_ROOM }
@@ -52,7 +52,7 @@ pub fn push_name(out: &mut Vec<u8>, name: &ArenaName)
 }
 
 /// A space and a number.
-pub fn push_number(out: &mut Vec<u8>, number: u64)
+pub(crate) fn push_number(out: &mut Vec<u8>, number: u64)
     requires { vec_len out.old + NUMBER_ROOM ≤ vec_capacity out.old }
     ensures text { out.new.items ≡ out.old.items ++ (32 ∷ decimal number) }
     ensures len { vec_len out.new ≤ vec_len out.old + NUMBER_ROOM }
@@ -63,7 +63,7 @@ pub fn push_number(out: &mut Vec<u8>, number: u64)
 }
 
 /// A request's id: a space and a number, three times.
-pub fn push_id(out: &mut Vec<u8>, id: RequestId)
+pub(crate) fn push_id(out: &mut Vec<u8>, id: RequestId)
     requires { vec_len out.old + ID_ROOM ≤ vec_capacity out.old }
     ensures text { out.new.items ≡ out.old.items ++ spaced_text (id_words id) }
     ensures len { vec_len out.new ≤ vec_len out.old + ID_ROOM }
@@ -75,7 +75,7 @@ pub fn push_id(out: &mut Vec<u8>, id: RequestId)
 }
 
 /// An option, which is left out at the value of no constraint.
-pub fn push_option(out: &mut Vec<u8>, key: &[u8], default: Quantity, value: Quantity)
+pub(crate) fn push_option(out: &mut Vec<u8>, key: &[u8], default: Quantity, value: Quantity)
     requires { vec_len out.old + (length key.now + 1 + NUMBER_ROOM) ≤ vec_capacity out.old }
     ensures text { out.new.items
         ≡ out.old.items ++ flat_map (λ word. 32 ∷ word) (option_words key.now default value) }
