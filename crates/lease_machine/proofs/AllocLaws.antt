@@ -5,7 +5,10 @@ use Rattle.arena_tree.specs.Climbs.{ClimbEnd, climb_left, climb_plan, on_carve}
 use Rattle.arena_tree.specs.Plans.{Ask, Done, Gives, Path, Plan}
 use Rattle.arena_tree.specs.Trees.{IsTree, level_of, node_of, nodes_of}
 use Rattle.arena_tree.specs.declared.levels.Level.{Level}
-use Rattle.arena_tree.specs.declared.part_faults.CarveFault.{CarveFault}
+use Rattle.arena_tree.specs.declared.part_faults.PartFault.{PartFault}
+use Rattle.tag_arena.specs.declared.faults.ArenaFault.{ArenaFault}
+use Rattle.arena_tree.specs.declared.part_faults.PartFault.TheVariants as asking
+use Rattle.tag_arena.specs.declared.faults.ArenaFault.TheVariants as carving
 use Rattle.arena_tree.specs.declared.trees.TreeArena.{TreeArena}
 use Rattle.deed_core.proofs.LawProofs.{plain_is_good, plain_is_of_its_size, slice_get_mapped}
 use Rattle.deed_core.specs.Request.{Fits, IsGood, IsPlain, plain_of, rounding_of}
@@ -38,7 +41,6 @@ use Rattle.stock.specs.Spaces.{SpaceState}
 use Rattle.stock.specs.Steps.{OnArena}
 use Rattle.stock.specs.Stocks.{IsStock}
 use Rattle.tag_arena.specs.Outcomes.{CarveOf}
-use Rattle.arena_tree.specs.declared.part_faults.CarveFault.TheVariants as carving
 use Rattle.arena_tree.specs.declared.part_faults.ClimbFault.TheVariants as climbing
 
 pub gives_so : {A : Type 0} (nodes : List Node) (post : A → Type 0) (p : Plan A) → Gives nodes post p → (old new : LocalState) (a : A) → Path (SoundStep nodes) p old new a → post a
@@ -58,18 +60,18 @@ pub quantum_of_index : (tree : List TreeArena) (index : ℕ) (x : TreeArena) →
 quantum_of_index tree index x here = node_quantum (nodes_of tree) index (node_of x) (slice_get_mapped node_of tree index x here)
 
 -- no units are asked for: the first carve says so
-pub none_asked : (arenas : List TreeArena) (l : Level) (up : List Level) (old new : LocalState) (a : ClimbEnd) → IsStock old.spaces → RunsTo arenas (climb_plan (l ∷ up) 0) old new a → a ≡ Err climbing.BadRequest
+pub none_asked : (arenas : List TreeArena) (l : Level) (up : List Level) (old new : LocalState) (a : ClimbEnd) → IsStock old.spaces → RunsTo arenas (climb_plan (l ∷ up) 0) old new a → a ≡ Err (climbing.Refused carving.BadRequest)
 none_asked arenas l up old new a law path = by path.1 (does_carve old.spaces path.0.spaces l.id (plain_of 0) law path.1 path.2.step.does.0) path.2.step.does.0.2 path.3
   where
     zero_bad : (y : SpaceState) → IsGood y.arena.quantum (plain_of 0) → ⊥
     zero_bad y good = omega (arith, good.size)
 
-    by : (x : Result Tag CarveFault) → Carvings old.spaces path.0.spaces l.id (plain_of 0) law x → OnArena l.id (λ y z. CarveOf y (plain_of 0) path.2.step.does.0.0 z) old.spaces path.0.spaces → RunsTo arenas (on_carve (climb_plan up (amount_of l up 0)) up l.id 0 x) path.0 new a → a ≡ Err climbing.BadRequest
+    by : (x : Result Tag (PartFault ArenaFault)) → Carvings old.spaces path.0.spaces l.id (plain_of 0) law x → OnArena l.id (λ y z. CarveOf y (plain_of 0) path.2.step.does.0.0 z) old.spaces path.0.spaces → RunsTo arenas (on_carve (climb_plan up (amount_of l up 0)) up l.id 0 x) path.0 new a → a ≡ Err (climbing.Refused carving.BadRequest)
     by (Ok t) on there rest = absurd (zero_bad on.space on.does.good)
-    by (Err carving.BadRequest) on there rest = sym rest.1
-    by (Err carving.NoFit) on there rest = absurd (zero_bad there.space (on.0 there.space there.at))
-    by (Err carving.NoMemory) on there rest = absurd (zero_bad there.space (on.0 there.space there.at))
-    by (Err carving.Stopped) on there rest = absurd on
+    by (Err (asking.Refused carving.BadRequest)) on there rest = sym rest.1
+    by (Err (asking.Refused carving.NoFit)) on there rest = absurd (zero_bad there.space (on.0 there.space there.at))
+    by (Err (asking.Refused carving.NoMemory)) on there rest = absurd (zero_bad there.space (on.0 there.space there.at))
+    by (Err asking.Stopped) on there rest = absurd on
 
 -- no cache serves it
 pub no_cache : (tree : List TreeArena) (index : ℕ) (x : TreeArena) (q : Request) → IsTree tree → slice_get tree index ≡ Some x → IsPlain q → ¬ IsCachedIn x q → cache_for (level_of index x) q.size ≡ None
@@ -107,8 +109,8 @@ module _ (d : Picture) (index : ℕ) (x : TreeArena) (q : Request) (s : LocalSta
   pub served : IfOk a (IsServed (nodes_of d.tree) (level ∷ above) q.size)
   served = subst (λ z. IfOk a (IsServed (nodes_of d.tree) z q.size)) (chain_begins d.tree index x here) (gives_so (nodes_of d.tree) (λ (r : ClimbEnd). IfOk r (IsServed (nodes_of d.tree) chain q.size)) (alloc_plan chain q.size) (alloc_gives (nodes_of d.tree) chain q.size is_chain) was s a run)
 
-  pub asks_none : a ≡ Err climbing.BadRequest → AsksForNone (level ∷ above) q.size
-  asks_none bad = subst (λ z. AsksForNone z q.size) (chain_begins d.tree index x here) (gives_so (nodes_of d.tree) (λ (r : ClimbEnd). r ≡ Err climbing.BadRequest → AsksForNone chain q.size) (alloc_plan chain q.size) (alloc_bad (nodes_of d.tree) chain q.size is_chain) was s a run bad)
+  pub asks_none : a ≡ Err (climbing.Refused carving.BadRequest) → AsksForNone (level ∷ above) q.size
+  asks_none bad = subst (λ z. AsksForNone z q.size) (chain_begins d.tree index x here) (gives_so (nodes_of d.tree) (λ (r : ClimbEnd). r ≡ Err (climbing.Refused carving.BadRequest) → AsksForNone chain q.size) (alloc_plan chain q.size) (alloc_bad (nodes_of d.tree) chain q.size is_chain) was s a run bad)
 
   pub good_plain : 0 < q.size → IsGood x.quantum q
   good_plain some = subst (IsGood x.quantum) (sym ((plain_is_of_its_size q).0 plain)) (plain_is_good x.quantum q.size some)
@@ -125,7 +127,7 @@ module _ (d : Picture) (index : ℕ) (x : TreeArena) (q : Request) (s : LocalSta
     climbings : Climbings chain q.size a d.spaces s.spaces
     climbings = subst (λ z. Climbings z q.size a d.spaces s.spaces) (sym (chain_begins d.tree index x here)) (climb_ends d.tree (level ∷ above) q.size was s a held.units.parts climb)
 
-    some_or_bad : (b : ClimbEnd) → a ≡ b → (b ≡ Err climbing.BadRequest → ⊥) → 0 < q.size
+    some_or_bad : (b : ClimbEnd) → a ≡ b → (b ≡ Err (climbing.Refused carving.BadRequest) → ⊥) → 0 < q.size
     some_or_bad b is fine = elim (cases_lt 0 q.size) [
       | inl some ↦ some
       | inr none ↦
@@ -138,7 +140,7 @@ module _ (d : Picture) (index : ℕ) (x : TreeArena) (q : Request) (s : LocalSta
         let after = held_same climb_left (alloc_plan chain q.size) d d.selected c found None held (alloc_handles chain q.size) s a run cpu_same in
         let given : IsServedOf (nodes_of d.tree) level q.size t = subst (λ z. IfOk z (IsServed (nodes_of d.tree) (level ∷ above) q.size)) is served in
         let fits : Fits x.quantum q t.holding.range.base t.holding.range.len = subst (λ z. Fits x.quantum z t.holding.range.base t.holding.range.len) (sym ((plain_is_of_its_size q).0 plain)) (subst (λ n. Fits n (plain_of q.size) t.holding.range.base t.holding.range.len) (quantum_of_index d.tree index x here) given.fits) in (
-          good_plain (some_or_bad (Ok t) is (λ e. (let y : Ok t ≡ Err climbing.BadRequest = e in cc))),
+          good_plain (some_or_bad (Ok t) is (λ e. (let y : Ok t ≡ Err (climbing.Refused carving.BadRequest) = e in cc))),
           inr (inl (plain, climbs_has chain q.size t d.spaces s.spaces held.units.parts on)),
           record {
             arena = given.of_arena;
@@ -149,15 +151,15 @@ module _ (d : Picture) (index : ℕ) (x : TreeArena) (q : Request) (s : LocalSta
           subst (λ z. IsHeld (hands_of (climb_left z)) (with_parts s d)) is after.0,
           after.1,
         )
-    by (Err climbing.BadRequest) is on = (
+    by (Err (climbing.Refused carving.BadRequest)) is on = (
       (λ good. elim (asks_none is) [
         | inl asked ↦ omega (arith, asked, good.size)
         | inr cached ↦ (let e : Some cached.1.0 ≡ None = sym cached.1.1 ∙ no_cache d.tree index x q held.tree here plain uncached in cc)
       ]),
       picture_same d index x q s held here c found on cpu_same,
     )
-    by (Err climbing.NoFit) is on = (
-      good_plain (some_or_bad (Err climbing.NoFit) is (λ e. (let y : Err climbing.NoFit ≡ Err climbing.BadRequest = e in cc))),
+    by (Err (climbing.Refused carving.NoFit)) is on = (
+      good_plain (some_or_bad (Err (climbing.Refused carving.NoFit)) is (λ e. (let y : Err (climbing.Refused carving.NoFit) ≡ Err (climbing.Refused carving.BadRequest) = e in cc))),
       record {
         none = λ can. elim can [
           | inl cached ↦ uncached cached.0
@@ -172,9 +174,9 @@ module _ (d : Picture) (index : ℕ) (x : TreeArena) (q : Request) (s : LocalSta
       },
       picture_same d index x q s held here c found on.1 cpu_same,
     )
-    by (Err climbing.NoMemory) is on =
+    by (Err (climbing.Refused carving.NoMemory)) is on =
         let after = held_same climb_left (alloc_plan chain q.size) d d.selected c found None held (alloc_handles chain q.size) s a run cpu_same in (
-          good_plain (some_or_bad (Err climbing.NoMemory) is (λ e. (let y : Err climbing.NoMemory ≡ Err climbing.BadRequest = e in cc))),
+          good_plain (some_or_bad (Err (climbing.Refused carving.NoMemory)) is (λ e. (let y : Err (climbing.Refused carving.NoMemory) ≡ Err (climbing.Refused carving.BadRequest) = e in cc))),
           inr (inl (plain, on.0)),
           inr (inl (plain, uncached, on.1, cpus_same d c found held.cpus.numbers s cpu_same)),
           subst (λ z. IsHeld (hands_of (climb_left z)) (with_parts s d)) is after.0,

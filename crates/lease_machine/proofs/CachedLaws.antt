@@ -4,7 +4,6 @@ use Rattle.arena_tree.specs.Trees.{IsArena, level_of, nodes_of}
 use Rattle.arena_tree.specs.declared.levels.Level.{Level}
 use Rattle.arena_tree.specs.declared.trees.TreeArena.{TreeArena}
 use Rattle.deed_core.proofs.LawProofs.{plain_is_of_its_size, power_some, rounds_up, slice_get_mapped, slice_get_one, slice_get_some}
-use Rattle.deed_core.specs.Extent.{Covers}
 use Rattle.deed_core.specs.Request.{Fits, IsGood, IsPlain, plain_of, rounding_of}
 use Rattle.deed_core.specs.Tag.{Tag}
 use Rattle.deed_core.specs.declared.requests.Request.{Request}
@@ -17,15 +16,15 @@ use Rattle.lease_machine.proofs.Focus.{Focus, depot_becomes, own_becomes, slab_b
 use Rattle.lease_machine.proofs.FreeLaws.{Round_, depot_fulls, depot_sized, fits_again, fits_before, focus_at, focus_fits, on_selected, parts_are, selected_is, there_all}
 use Rattle.lease_machine.proofs.HeldLaws.{Everywhere, FitsIn, hands_of, of_stock, reach, there_is}
 use Rattle.lease_machine.proofs.Lasting.{all_last}
-use Rattle.lease_machine.proofs.Reached.{IsAmong, among_some, depot_reached, full_among, full_some, idle_reached, none_idle, own_reached, pops_among, some_idle}
-use Rattle.lease_machine.proofs.Reaching.{climbs_reach}
-use Rattle.lease_machine.proofs.Shapes.{FitsFor, lacks_fit, takes_fit}
+use Rattle.lease_machine.proofs.Reached.{IsAmong, among_some, full_some, none_idle, pops_among, some_idle}
+use Rattle.lease_machine.proofs.Shapes.{FitsFor, lacks_fit, no_round, round_taken, takes_fit}
 use Rattle.lease_machine.proofs.SlabSteps.{Ends, IsIdle, IsLast, alloc_ends}
 use Rattle.lease_machine.proofs.XallocLaws.{held_after, last_after, picture_same, space_here}
 use Rattle.lease_machine.specs.CallLaws.{AllocFromCaches, IsFromCaches}
-use Rattle.lease_machine.specs.Chunks.{LacksChunks, LacksRounds, OnSelected, TakesOwn, WasIdle, WasRound}
+use Rattle.lease_machine.specs.Chunks.{AnswersRound, LacksChunks, OnSelected, WasIdle, WasRound}
 use Rattle.lease_machine.specs.Held.{IsHeld, with_parts}
-use Rattle.lease_machine.specs.Moves.{ClimbsInVain, HasBaseUp}
+use Rattle.local_calls.specs.NoFits.{HasBaseUp}
+use Rattle.lease_machine.specs.Moves.{ClimbsInVain}
 use Rattle.lease_machine.specs.Picture.{NumberedCpu, Picture, SameSetup, is_cpu}
 use Rattle.lease_machine.specs.Serving.{CacheFor, CachesServe, CanServe, CanTake, HasChunk, IsCachedIn}
 use Rattle.local_calls.specs.Laws.{AllocsWell}
@@ -33,25 +32,26 @@ use Rattle.local_calls.specs.Runs.{RunsTo}
 use Rattle.local_parts.specs.Cpus.{IsOwnAt}
 use Rattle.local_parts.specs.States.{LocalState}
 use Rattle.magazine_layer.specs.Magazines.{CpuCacheState, IsSize}
+use Rattle.magazine_layer.specs.declared.rounds.RoundAnswer.TheVariants.{Nothing, Taken}
+use Rattle.magazine_layer.specs.declared.rounds.RoundOp.TheVariants.{Take}
 use Rattle.quantum_cache.proofs.LawProofs.{alloc_handles}
 use Rattle.quantum_cache.specs.Allocs.{alloc_steps, alloc_cached, alloc_plan}
 use Rattle.quantum_cache.specs.Caches.{chain_in, chain_up}
 use Rattle.quantum_cache.specs.Served.{IsServed, IsServedOf}
 use Rattle.quantum_cache.specs.Sizes.{cache_for}
-use Rattle.slab_layer.specs.Cache.{chunk_of}
-use Rattle.slab_layer.specs.Calls.{Adds, StandsAt, TakeOf}
+use Rattle.slab_layer.specs.Calls.{StandsAt, TakeOf}
 use Rattle.slab_layer.specs.Slab.{IsAllOut}
-use Rattle.std.proofs.Common.{All, Err, List, None, Ok, Option, Some, [], ap, arith, find, inl, inr, length, refl, slice_get, subst, sym, ℕ, ◌*◌, ◌++◌, ◌+◌, ◌-◌, ◌/◌, ◌<◌, ◌∙◌, ◌∷◌, ◌≡◌, ◌≤◌, ◌⊎◌}
-use Rattle.std.proofs.Math.Nat.{div-mul-le_self, le-div_iff_mul-le, mul-div_left, mul-le-mul_right}
+use Rattle.std.proofs.Common.{All, Err, List, None, Ok, Option, Some, [], ap, arith, find, inl, inr, length, refl, slice_get, subst, sym, ℕ, ◌*◌, ◌++◌, ◌+◌, ◌/◌, ◌<◌, ◌∙◌, ◌∷◌, ◌≡◌, ◌≤◌, ◌⊎◌}
+use Rattle.std.proofs.Math.Nat.{le-div_iff_mul-le, mul-div_left}
 use Rattle.std.proofs.lemmas.Bool.{cases_lt}
 use Rattle.std.proofs.lemmas.List.{length-map, length-replicate}
 use Rattle.std.specs.Prelude.{IfOk, MatchOption}
 use Rattle.stock.specs.OwnCaches.{own_rounds}
 use Rattle.stock.specs.Setups.{plan_for}
 use Rattle.stock.specs.Spaces.{IsCacheAt, QuantumCacheState, SpacePlan, SpaceState, plan_of, plans_of, slab_size_of, with_depot, with_slab}
-use Rattle.stock.specs.Steps.{OnSlab}
 use Rattle.stock.specs.Stocks.{IsStock}
 use Rattle.arena_tree.specs.declared.part_faults.ClimbFault.TheVariants as climbing
+use Rattle.tag_arena.specs.declared.faults.ArenaFault.TheVariants as carving
 
 -- so many quanta are of one number
 same_quanta : (i j quantum : ℕ) → 0 < quantum → (i + 1) * quantum ≡ (j + 1) * quantum → i ≡ j
@@ -87,7 +87,7 @@ module _ (d : Picture) (index : ℕ) (x : TreeArena) (q : Request) (s : LocalSta
   nothing_asked zero =
       let none : cache_for level q.size ≡ None = ap (cache_for level) zero in
       let climb : RunsTo d.tree (climb_plan (level ∷ above) q.size) was s a = subst (λ o. RunsTo d.tree (alloc_steps o (level ∷ above) level q.size) was s a) none stage_run in
-      let bad : a ≡ Err climbing.BadRequest = allocs.none_asked d.tree level above was s a law (subst (λ n. RunsTo d.tree (climb_plan (level ∷ above) n) was s a) zero climb) in
+      let bad : a ≡ Err (climbing.Refused carving.BadRequest) = allocs.none_asked d.tree level above was s a law (subst (λ n. RunsTo d.tree (climb_plan (level ∷ above) n) was s a) zero climb) in
       let spaces : s.spaces ≡ d.spaces = subst (λ z. Climbings (level ∷ above) q.size z d.spaces s.spaces) bad (climb_ends d.tree (level ∷ above) q.size was s a law climb) in
       subst (λ z. IsFromCaches index x q d z then_d) (sym bad)
       ((λ good. omega (arith, zero, good.size)), picture_same d index x q s held here c found spaces (climb_cpu d.tree (level ∷ above) q.size was s a climb))
@@ -150,7 +150,7 @@ module _ (d : Picture) (index : ℕ) (x : TreeArena) (q : Request) (s : LocalSta
           held_after climb_left (alloc_plan chain q.size) d d.selected c found None held (alloc_handles chain q.size) s a run
           (subst (λ rows. Everywhere (FitsIn s.spaces) rows) (sym cpu) (there_all (FitsIn s.spaces) was index j f y z (fits_before d d.selected c found None held s.spaces last) (fits_again was index j f law own_fits y s.spaces last fit)))
 
-      lacks_kept : (y : CpuCacheState) (z : QuantumCacheState) → LacksRounds f.cache.depot f.own.cpu y → s.cpu ≡ (there was index j f y z).cpu → IsHeld (hands_of (climb_left a)) then_d × SameSetup d then_d
+      lacks_kept : (y : CpuCacheState) (z : QuantumCacheState) → AnswersRound Take Nothing f.cache.depot f.cache.depot f.own.cpu y → s.cpu ≡ (there was index j f y z).cpu → IsHeld (hands_of (climb_left a)) then_d × SameSetup d then_d
       lacks_kept y z lacks cpu = kept y z (lacks_fit (Round_ was index j f law own_fits) f.cache.depot.size f.own.cpu y f.cache.depot refl (depot_sized was index j f law own_fits) (focus_fits was index j f law own_fits) lacks) cpu
 
       on_own : (P : CpuCacheState → CpuCacheState → Type 0) (y : CpuCacheState) (z : QuantumCacheState) → s.cpu ≡ (there was index j f y z).cpu → P f.own.cpu y → OnSelected index j P d then_d
@@ -179,12 +179,12 @@ module _ (d : Picture) (index : ℕ) (x : TreeArena) (q : Request) (s : LocalSta
             let y = r.0 in
             let e = r.1 in
             let cpu : s.cpu ≡ (there was index j f y (with_depot e f.cache)).cpu = ap (λ (z : LocalState). z.cpu) r.2 in
-            let round : WasRound index j f.cache t d then_d = (e, on_own (λ m n. TakesOwn t m f.cache.depot n e) y (with_depot e f.cache) cpu r.3, depot_becomes was index j f (λ m n. n ≡ e) e s.spaces (ap (λ (z : LocalState). z.spaces) r.2) refl) in
+            let round : WasRound index j f.cache t d then_d = (e, on_own (AnswersRound Take (Taken t) f.cache.depot e) y (with_depot e f.cache) cpu r.3, depot_becomes was index j f (λ m n. n ≡ e) e s.spaces (ap (λ (z : LocalState). z.spaces) r.2) refl) in
             let fit = takes_fit (Round_ was index j f law own_fits) f.cache.depot.size t f.own.cpu y f.cache.depot e (depot_fulls was index j f law own_fits) (focus_fits was index j f law own_fits) r.3 in
             let after = kept y (with_depot e f.cache) fit cpu in
-            elim r.3 [
+            elim (round_taken t f.own.cpu y f.cache.depot e r.3) [
               | inl pops ↦
-                  let among : IsAmong t (own_rounds f.own) = pops_among t f.own.cpu y pops.0 in
+                  let among : IsAmong t (own_rounds f.own) = pops_among t f.own.cpu y pops in
                   granted (can_take (inl (among_some t (own_rounds f.own) among))) (f.cache, f.own, mine, inl round) after
               | inr swapped ↦
                   let full = full_some t f.own.cpu swapped.1.0 y f.cache.depot e swapped.0 swapped.1.1 swapped.1.2 in
@@ -196,13 +196,13 @@ module _ (d : Picture) (index : ℕ) (x : TreeArena) (q : Request) (s : LocalSta
             let y = r.0 in
             let z = r.1 in
             let cpu : s.cpu ≡ (there was index j f y (with_slab z f.cache)).cpu = ap (λ (w : LocalState). w.cpu) r.2 in
-            let idle : WasIdle index j f.cache t d then_d = (on_own (LacksRounds f.cache.depot) y (with_slab z f.cache) cpu r.3, slab_becomes was index j f (λ m n. TakeOf m (Some t) n) z s.spaces (ap (λ (w : LocalState). w.spaces) r.2) r.4) in
+            let idle : WasIdle index j f.cache t d then_d = (on_own (AnswersRound Take Nothing f.cache.depot f.cache.depot) y (with_slab z f.cache) cpu r.3, slab_becomes was index j f (λ m n. TakeOf m (Some t) n) z s.spaces (ap (λ (w : LocalState). w.spaces) r.2) r.4) in
             let takes = r.4.3 in
             let at : StandsAt r.4.0 r.4.2 f.cache.slab.slabs = (elim takes.next [ inl low ↦ low.stands | inr low ↦ low.1.stands ]) in
             granted (can_take (inr (inr (some_idle f.cache.slab r.4.0 r.4.1 r.4.2 at takes.lowest)))) (f.cache, f.own, mine, inr (inl idle)) (lacks_kept y (with_slab z f.cache) r.3 cpu)
 
       lacks_chunks : (b : ClimbEnd) → (l : IsLast d.tree chain level q.size j was f sized law b s) → LacksChunks index j f.cache d then_d
-      lacks_chunks b l = (on_own (LacksRounds f.cache.depot) l.0 f.cache l.3 l.1, none_idle f.cache.slab l.2)
+      lacks_chunks b l = (on_own (AnswersRound Take Nothing f.cache.depot f.cache.depot) l.0 f.cache l.3 l.1, none_idle f.cache.slab l.2)
 
       last_given : (t : Tag) (is : a ≡ Ok t) → IsLast d.tree chain level q.size j was f sized law (Ok t) s → IsFromCaches index x q d (Ok t) then_d
       last_given t is l =
@@ -218,7 +218,7 @@ module _ (d : Picture) (index : ℕ) (x : TreeArena) (q : Request) (s : LocalSta
           ]
 
       -- where the cache has none, no cache for the size has one
-      no_chunk : (y : CpuCacheState) → LacksRounds f.cache.depot f.own.cpu y → All IsAllOut f.cache.slab.slabs → ¬ HasChunk d index x q
+      no_chunk : (y : CpuCacheState) → AnswersRound Take Nothing f.cache.depot f.cache.depot f.own.cpu y → All IsAllOut f.cache.slab.slabs → ¬ HasChunk d index x q
       no_chunk y lacks out has =
           let g = has.2 in
           let same : g.cache ≡ j = same_quanta g.cache j x.quantum positive (sym g.size ∙ size) in
@@ -227,15 +227,16 @@ module _ (d : Picture) (index : ℕ) (x : TreeArena) (q : Request) (s : LocalSta
           let row : g.own.row ≡ f.row = slice_get_one c.caches index g.own.row f.row (ap (λ rows. slice_get rows index) (sym (selected_is d c found)) ∙ g.own.at) f.row_at in
           let own : has.1 ≡ f.own = slice_get_one f.row j has.1 f.own (ap (λ r. slice_get r j) (sym row) ∙ (ap (slice_get g.own.row) (sym same) ∙ g.own.among)) f.own_at in
           let can : CanTake f.cache f.own = subst (λ o. CanTake f.cache o) own (subst (λ z. CanTake z has.1) cache has.3) in
+          let none = no_round f.own.cpu y f.cache.depot f.cache.depot lacks in
           elim can [
-            | inl rounds ↦ rounds (ap (λ ts. ts ++ f.own.cpu.loaded) lacks.0.previous_empty ∙ lacks.0.loaded_empty)
+            | inl rounds ↦ rounds (ap (λ ts. ts ++ f.own.cpu.loaded) none.0.previous_empty ∙ none.0.loaded_empty)
             | inr more ↦ elim more [
-              | inl full ↦ elim lacks.1 [ inl none ↦ full.1 none.1 | inr other ↦ other.0 full.0 ]
+              | inl full ↦ full.1 (none.1 full.0)
               | inr idle ↦ idle (none_idle f.cache.slab out)
             ]
           ]
 
-      no_fit : a ≡ Err climbing.NoFit → IsLast d.tree chain level q.size j was f sized law (Err climbing.NoFit) s → IsFromCaches index x q d (Err climbing.NoFit) then_d
+      no_fit : a ≡ Err (climbing.Refused carving.NoFit) → IsLast d.tree chain level q.size j was f sized law (Err (climbing.Refused carving.NoFit)) s → IsFromCaches index x q d (Err (climbing.Refused carving.NoFit)) then_d
       no_fit is l =
           let after = lacks_kept l.0 f.cache l.1 l.3 in (
             good,
@@ -248,17 +249,17 @@ module _ (d : Picture) (index : ℕ) (x : TreeArena) (q : Request) (s : LocalSta
                 ]
               ];
               spaces = l.4.2;
-              cpus = inr (cached, (f.cache, f.own, mine, on_own (LacksRounds f.cache.depot) l.0 f.cache l.3 l.1));
+              cpus = inr (cached, (f.cache, f.own, mine, on_own (AnswersRound Take Nothing f.cache.depot f.cache.depot) l.0 f.cache l.3 l.1));
               names = (refl, refl);
             },
             subst (λ z. IsHeld (hands_of (climb_left z)) then_d) is after.0,
             after.1,
           )
 
-      no_memory : a ≡ Err climbing.NoMemory → IsLast d.tree chain level q.size j was f sized law (Err climbing.NoMemory) s → IsFromCaches index x q d (Err climbing.NoMemory) then_d
+      no_memory : a ≡ Err (climbing.Refused carving.NoMemory) → IsLast d.tree chain level q.size j was f sized law (Err (climbing.Refused carving.NoMemory)) s → IsFromCaches index x q d (Err (climbing.Refused carving.NoMemory)) then_d
       no_memory is l =
           let after = lacks_kept l.0 f.cache l.1 l.3 in
-          let lacks = lacks_chunks (Err climbing.NoMemory) l in
+          let lacks = lacks_chunks (Err (climbing.Refused carving.NoMemory)) l in
           let base_up : HasBaseUp d.spaces chain q.size = (elim l.4 [
             | inl slab ↦ fewer_fit d.tree d.spaces index q.size x.slab_size held.tree law small slab.0
             | inr climb ↦ climb.1
@@ -274,7 +275,7 @@ module _ (d : Picture) (index : ℕ) (x : TreeArena) (q : Request) (s : LocalSta
             after.1,
           )
 
-      not_bad : a ≡ Err climbing.BadRequest → ⊥
+      not_bad : a ≡ Err (climbing.Refused carving.BadRequest) → ⊥
       not_bad is = elim (allocs.asks_none d index x q s held here c found plain a run is) [
         | inl asked ↦ omega (arith, asked, some)
         | inr none ↦ omega (arith, none.0, small, some)
@@ -303,9 +304,9 @@ module _ (d : Picture) (index : ℕ) (x : TreeArena) (q : Request) (s : LocalSta
 
       by : (b : ClimbEnd) → a ≡ b → IsFromCaches index x q d b then_d
       by (Ok t) is = given_so t is
-      by (Err climbing.BadRequest) is = absurd (not_bad is)
-      by (Err climbing.NoFit) is = no_fit is (refused (Err climbing.NoFit) is (λ t e. (let y : Err climbing.NoFit ≡ Ok t = e in cc)))
-      by (Err climbing.NoMemory) is = no_memory is (refused (Err climbing.NoMemory) is (λ t e. (let y : Err climbing.NoMemory ≡ Ok t = e in cc)))
+      by (Err (climbing.Refused carving.BadRequest)) is = absurd (not_bad is)
+      by (Err (climbing.Refused carving.NoFit)) is = no_fit is (refused (Err (climbing.Refused carving.NoFit)) is (λ t e. (let y : Err (climbing.Refused carving.NoFit) ≡ Ok t = e in cc)))
+      by (Err (climbing.Refused carving.NoMemory)) is = no_memory is (refused (Err (climbing.Refused carving.NoMemory)) is (λ t e. (let y : Err (climbing.Refused carving.NoMemory) ≡ Ok t = e in cc)))
       by (Err (climbing.Stuck t)) is = subst AllocsWell is ends_well
       by (Err (climbing.Stopped o)) is = subst AllocsWell is ends_well
 

@@ -7,7 +7,7 @@ use Rattle.deed_core.specs.Tag.{Tag}
 use Rattle.deed_core.specs.declared.requests.Request.{Request}
 use Rattle.deed_core.proofs.LawProofs.{slice_get_one}
 use Rattle.slab_layer.specs.Cache.{SlabCacheState, chunk_of}
-use Rattle.slab_layer.specs.Calls.{AddOf, StandsAt, TakeOf}
+use Rattle.slab_layer.specs.Calls.{AddOf, StandsAt}
 use Rattle.magazine_layer.specs.Depots.{all_rounds}
 use Rattle.arena_tree.specs.declared.levels.Level.{Level}
 use Rattle.arena_tree.specs.declared.trees.TreeArena.{TreeArena}
@@ -30,6 +30,7 @@ use Rattle.lease_machine.proofs.HeldLaws.{of_stock, there_is}
 use Rattle.lease_machine.proofs.ReapOrder.{CachesStood, on_arena_keeps}
 use Rattle.lease_machine.proofs.Reached.{IsAmong, depot_reached, full_among, idle_reached, own_reached, pops_among}
 use Rattle.lease_machine.proofs.Reaching.{carve_reaches, climbs_reach}
+use Rattle.lease_machine.proofs.Shapes.{round_taken}
 
 -- what is climbed for leaves the caches
 climbs_stood : (chain : List Level) (n : ℕ) (t : Tag) (old new : List SpaceState) → Climbs chain n t old new → CachesStood old new
@@ -83,8 +84,8 @@ module _ (d new : Picture) (index : ℕ) (x : TreeArena) (q : Request) (t : Tag)
     | inl round ↦
         let on = round.1.own in
         let own : on.own ≡ g.own = own_is on.row on.own on.at on.among in
-        elim on.does.1 [
-          | inl pops ↦ own_reached d c found index j g law t home (subst (λ (o : OwnCacheState). IsAmong t (own_rounds o)) own (pops_among t on.own.cpu on.changed.cpu pops.0))
+        elim (round_taken t on.own.cpu on.changed.cpu serves.0.depot round.0 on.does.1) [
+          | inl pops ↦ own_reached d c found index j g law t home (subst (λ (o : OwnCacheState). IsAmong t (own_rounds o)) own (pops_among t on.own.cpu on.changed.cpu pops))
           | inr swapped ↦ depot_reached d c found index j g law t home (subst (λ (y : QuantumCacheState). IsAmong t (all_rounds y.depot.full)) cache_is (full_among t on.own.cpu swapped.1.0 on.changed.cpu serves.0.depot round.0 swapped.0 swapped.1.1 swapped.1.2))
         ]
     | inr (inl idle) ↦

@@ -7,9 +7,11 @@ use Rattle.arena_tree.specs.Events.{AddCarve, Carve}
 use Rattle.arena_tree.specs.Plans.{Done}
 use Rattle.arena_tree.specs.Trees.{nodes_of}
 use Rattle.arena_tree.specs.declared.levels.Level.{Level}
-use Rattle.arena_tree.specs.declared.part_faults.AddCarveFault.{AddCarveFault}
-use Rattle.arena_tree.specs.declared.part_faults.CarveFault.{CarveFault}
-use Rattle.arena_tree.specs.declared.part_faults.FreeFault.{FreeFault}
+use Rattle.arena_tree.specs.declared.part_faults.PartFault.{PartFault}
+use Rattle.arena_tree.specs.declared.part_faults.GivenFault.{GivenFault}
+use Rattle.arena_tree.specs.declared.part_faults.PartFault.TheVariants as asking
+use Rattle.arena_tree.specs.declared.part_faults.GivenFault.TheVariants as giving
+use Rattle.tag_arena.specs.declared.faults.SpanFault.TheVariants as adding
 use Rattle.arena_tree.specs.declared.trees.TreeArena.{TreeArena}
 use Rattle.deed_core.proofs.LawProofs.{set_same, slice_get_mapped, slice_get_one}
 use Rattle.deed_core.specs.Request.{IsGood, plain_of}
@@ -17,11 +19,12 @@ use Rattle.deed_core.specs.Tag.{Tag}
 use Rattle.deed_core.specs.declared.requests.Request.{Request}
 use Rattle.lease_machine.proofs.Focus.{there}
 use Rattle.lease_machine.proofs.FreeLaws.{returns_so}
-use Rattle.lease_machine.specs.Moves.{CarvesAt, Climbs, ClimbsInVain, HasBase, HasBaseUp, ImportsAt, Returns}
+use Rattle.local_calls.specs.NoFits.{HasBase, HasBaseUp}
+use Rattle.lease_machine.specs.Moves.{CarvesAt, Climbs, ClimbsInVain, ImportsAt, Returns}
 use Rattle.local_calls.specs.Runs.{RunsTo, SoundStep}
 use Rattle.local_parts.specs.SharedSteps.{DoesCarve}
 use Rattle.local_parts.specs.States.{LocalState}
-use Rattle.local_parts.specs.Words.{carve_word, import_word, wording_of}
+use Rattle.arena_tree.specs.Tags.{wording_of}
 use Rattle.std.proofs.Common.{Err, List, None, Ok, Option, Result, Some, [], ap, inl, inr, refl, set, slice_get, subst, sym, ℕ, ◌∙◌, ◌∷◌, ◌≡◌, ◌⊎◌}
 use Rattle.stock.specs.Setups.{plan_for, plans_for}
 use Rattle.stock.specs.Spaces.{SpacePlan, SpaceState, plan_of, plans_of, with_arena}
@@ -33,11 +36,8 @@ use Rattle.tag_arena.specs.Outcomes.{CarveOf, ImportOf, WasImported}
 use Rattle.tag_arena.specs.Place.{Serves}
 use Rattle.tag_arena.specs.declared.faults.ArenaFault.{ArenaFault}
 use Rattle.tag_arena.specs.declared.faults.SpanFault.{SpanFault}
-use Rattle.arena_tree.specs.declared.part_faults.AddCarveFault.TheVariants as adding
 use Rattle.tag_arena.specs.declared.faults.ArenaFault.TheVariants as arena_fault
-use Rattle.arena_tree.specs.declared.part_faults.CarveFault.TheVariants as carving
 use Rattle.arena_tree.specs.declared.part_faults.ClimbFault.TheVariants as climbing
-use Rattle.arena_tree.specs.declared.part_faults.FreeFault.TheVariants as freeing
 use Rattle.arena_tree.specs.declared.part_faults.ReturnFault.TheVariants as returning
 
 pub quantum_at : (tree : List TreeArena) (spaces : List SpaceState) (k : ℕ) (x : TreeArena) (s : SpaceState) → plans_of spaces ≡ plans_for tree → slice_get tree k ≡ Some x → slice_get spaces k ≡ Some s → s.arena.quantum ≡ x.quantum
@@ -48,17 +48,17 @@ quantum_at tree spaces k x s plans here at =
 
 -- a carve by its answer
 module _ (old new : List SpaceState) (k : ℕ) (q : Request) (law : IsStock old) where
-  abbrev pub Carvings : Result Tag CarveFault → Type 0
+  abbrev pub Carvings : Result Tag (PartFault ArenaFault) → Type 0
   Carvings (Ok t) = CarvesAt k q t old new
-  Carvings (Err carving.BadRequest) = ((s : SpaceState) → slice_get old k ≡ Some s → ¬ IsGood s.arena.quantum q) × (new ≡ old)
-  Carvings (Err carving.NoFit) = ((s : SpaceState) → slice_get old k ≡ Some s → IsGood s.arena.quantum q) × (¬ HasBase old k q) × (new ≡ old)
-  Carvings (Err carving.NoMemory) = ((s : SpaceState) → slice_get old k ≡ Some s → IsGood s.arena.quantum q) × HasBase old k q × (new ≡ old)
-  Carvings (Err carving.Stopped) = ⊥
+  Carvings (Err (asking.Refused arena_fault.BadRequest)) = ((s : SpaceState) → slice_get old k ≡ Some s → ¬ IsGood s.arena.quantum q) × (new ≡ old)
+  Carvings (Err (asking.Refused arena_fault.NoFit)) = ((s : SpaceState) → slice_get old k ≡ Some s → IsGood s.arena.quantum q) × (¬ HasBase old k q) × (new ≡ old)
+  Carvings (Err (asking.Refused arena_fault.NoMemory)) = ((s : SpaceState) → slice_get old k ≡ Some s → IsGood s.arena.quantum q) × HasBase old k q × (new ≡ old)
+  Carvings (Err asking.Stopped) = ⊥
 
   same_arena : (P : ArenaState → ArenaState → Type 0) (on : OnArena k P old new) → on.arena ≡ on.space.arena → new ≡ old
   same_arena P on is = on.after ∙ (ap (λ a. set old k (with_arena a on.space)) is ∙ set_same old k on.space on.at)
 
-  carved_so : (r : Result Tag ArenaFault) → OnArena k (λ a b. CarveOf a q r b) old new → Carvings (wording_of carve_word r)
+  carved_so : (r : Result Tag ArenaFault) → OnArena k (λ a b. CarveOf a q r b) old new → Carvings (wording_of asking.Refused r)
   carved_so (Ok t) on = record { space = on.space; at = on.at; arena = on.arena; after = on.after; does = on.does }
   carved_so (Err arena_fault.BadRequest) on =
       let bad = (carves_exactly on.space.arena on.arena q (Err arena_fault.BadRequest) (law k on.space on.at).sound on.does).bad.0 refl in
@@ -76,7 +76,7 @@ module _ (old new : List SpaceState) (k : ℕ) (q : Request) (law : IsStock old)
         same_arena _ on on.does.1,
       )
 
-  pub does_carve : (a : Result Tag CarveFault) → DoesCarve old k q a new → Carvings a
+  pub does_carve : (a : Result Tag (PartFault ArenaFault)) → DoesCarve old k q a new → Carvings a
   does_carve a does = subst Carvings (sym does.1) (carved_so does.0 does.2)
 
 -- what was carved had a base, and is good
@@ -93,9 +93,9 @@ climbs_has (l ∷ up) n t old new law climbs = elim climbs [
 -- a climb by its answer
 abbrev pub Climbings : List Level → ℕ → ClimbEnd → List SpaceState → List SpaceState → Type 0
 Climbings chain n (Ok t) old new = Climbs chain n t old new
-Climbings chain n (Err climbing.BadRequest) old new = new ≡ old
-Climbings chain n (Err climbing.NoFit) old new = (¬ HasBaseUp old chain n) × (new ≡ old)
-Climbings chain n (Err climbing.NoMemory) old new = HasBaseUp old chain n × ClimbsInVain chain n old new
+Climbings chain n (Err (climbing.Refused arena_fault.BadRequest)) old new = new ≡ old
+Climbings chain n (Err (climbing.Refused arena_fault.NoFit)) old new = (¬ HasBaseUp old chain n) × (new ≡ old)
+Climbings chain n (Err (climbing.Refused arena_fault.NoMemory)) old new = HasBaseUp old chain n × ClimbsInVain chain n old new
 Climbings chain n (Err (climbing.Stuck t)) old new = Unit {0}
 Climbings chain n (Err (climbing.Stopped o)) old new = Unit {0}
 
@@ -105,11 +105,11 @@ module _ (arenas : List TreeArena) where
   returns_cpu [] t old new a path = ap (λ (s : LocalState). s.cpu) (sym path.0)
   returns_cpu (l ∷ up) t old new a path = by path.1 path.3 (λ whole. returns_cpu up whole path.0 new a)
     where
-      by : (x : Result (Option Tag) (FreeFault Tag)) → RunsTo arenas (on_free (return_plan up) x) path.0 new a → ((whole : Tag) → RunsTo arenas (return_plan up whole) path.0 new a → new.cpu ≡ path.0.cpu) → new.cpu ≡ old.cpu
+      by : (x : Result (Option Tag) (GivenFault Tag Tag)) → RunsTo arenas (on_free (return_plan up) x) path.0 new a → ((whole : Tag) → RunsTo arenas (return_plan up whole) path.0 new a → new.cpu ≡ path.0.cpu) → new.cpu ≡ old.cpu
       by (Ok None) end again = ap (λ (s : LocalState). s.cpu) (sym end.0) ∙ path.2.step.does.1
       by (Ok (Some whole)) end again = again whole end ∙ path.2.step.does.1
-      by (Err (freeing.BadFree y)) end again = ap (λ (s : LocalState). s.cpu) (sym end.0) ∙ path.2.step.does.1
-      by (Err (freeing.Stopped y)) end again = ap (λ (s : LocalState). s.cpu) (sym end.0) ∙ path.2.step.does.1
+      by (Err (giving.Refused y)) end again = ap (λ (s : LocalState). s.cpu) (sym end.0) ∙ path.2.step.does.1
+      by (Err (giving.Stopped y)) end again = ap (λ (s : LocalState). s.cpu) (sym end.0) ∙ path.2.step.does.1
 
   pub gives_back_cpu : (up : List Level) (t : Tag) (old new : LocalState) (a : ClimbEnd) → RunsTo arenas (give_back_plan up t) old new a → new.cpu ≡ old.cpu
   gives_back_cpu up t old new a path =
@@ -123,28 +123,28 @@ module _ (arenas : List TreeArena) where
       ended : path.0 ≡ new → new.cpu ≡ old.cpu
       ended is = ap (λ (s : LocalState). s.cpu) (sym is) ∙ path.2.step.does.1
 
-      added : (m k : LocalState) (x : Result Tag (AddCarveFault Tag)) → k.cpu ≡ m.cpu → RunsTo arenas (on_add up x) k new a → new.cpu ≡ m.cpu
+      added : (m k : LocalState) (x : Result Tag (GivenFault (SpanFault Tag) Tag)) → k.cpu ≡ m.cpu → RunsTo arenas (on_add up x) k new a → new.cpu ≡ m.cpu
       added m k (Ok t) same end = ap (λ (s : LocalState). s.cpu) (sym end.0) ∙ same
-      added m k (Err (adding.NoMemory t)) same end = gives_back_cpu up t k new a end ∙ same
-      added m k (Err (adding.Overlaps t)) same end = ap (λ (s : LocalState). s.cpu) (sym end.0) ∙ same
-      added m k (Err (adding.NotAligned t)) same end = ap (λ (s : LocalState). s.cpu) (sym end.0) ∙ same
-      added m k (Err (adding.Stopped t)) same end = ap (λ (s : LocalState). s.cpu) (sym end.0) ∙ same
+      added m k (Err (giving.Refused (adding.NoMemory t))) same end = gives_back_cpu up t k new a end ∙ same
+      added m k (Err (giving.Refused (adding.Overlaps t))) same end = ap (λ (s : LocalState). s.cpu) (sym end.0) ∙ same
+      added m k (Err (giving.Refused (adding.NotAligned t))) same end = ap (λ (s : LocalState). s.cpu) (sym end.0) ∙ same
+      added m k (Err (giving.Stopped t)) same end = ap (λ (s : LocalState). s.cpu) (sym end.0) ∙ same
 
       imported : (m : LocalState) (r : ClimbEnd) → RunsTo arenas (on_import up l.id n r) m new a → new.cpu ≡ m.cpu
       imported m (Ok span) last = added m last.0 last.1 last.2.step.does.1 last.3
       imported m (Err f) last = ap (λ (s : LocalState). s.cpu) (sym last.0)
 
-      carved : (x : Result Tag CarveFault) → RunsTo arenas (on_carve (climb_plan up (amount_of l up n)) up l.id n x) path.0 new a → ((s t : LocalState) (b : ClimbEnd) → RunsTo arenas (climb_plan up (amount_of l up n)) s t b → t.cpu ≡ s.cpu) → new.cpu ≡ old.cpu
+      carved : (x : Result Tag (PartFault ArenaFault)) → RunsTo arenas (on_carve (climb_plan up (amount_of l up n)) up l.id n x) path.0 new a → ((s t : LocalState) (b : ClimbEnd) → RunsTo arenas (climb_plan up (amount_of l up n)) s t b → t.cpu ≡ s.cpu) → new.cpu ≡ old.cpu
       carved (Ok t) rest again = ended rest.0
-      carved (Err carving.BadRequest) rest again = ended rest.0
-      carved (Err carving.NoMemory) rest again = ended rest.0
-      carved (Err carving.Stopped) rest again = ended rest.0
-      carved (Err carving.NoFit) rest again =
+      carved (Err (asking.Refused arena_fault.BadRequest)) rest again = ended rest.0
+      carved (Err (asking.Refused arena_fault.NoMemory)) rest again = ended rest.0
+      carved (Err asking.Stopped) rest again = ended rest.0
+      carved (Err (asking.Refused arena_fault.NoFit)) rest again =
           let split = path_split (SoundStep (nodes_of arenas)) (climb_plan up (amount_of l up n)) (on_import up l.id n) path.0 new a rest in
           imported split.0 split.1 split.3 ∙ (again path.0 split.0 split.1 split.2 ∙ path.2.step.does.1)
 
   -- what was climbed for and given back: done, or stuck
-  returned : (r : ReturnEnd) → ((r ≡ Ok tt) × (memory_refusal r ≡ Err climbing.NoMemory)) ⊎ ((y : Tag) × ((memory_refusal r ≡ Err (climbing.Stuck y)) ⊎ (memory_refusal r ≡ Err (climbing.Stopped (Some y)))))
+  returned : (r : ReturnEnd) → ((r ≡ Ok tt) × (memory_refusal r ≡ Err (climbing.Refused arena_fault.NoMemory))) ⊎ ((y : Tag) × ((memory_refusal r ≡ Err (climbing.Stuck y)) ⊎ (memory_refusal r ≡ Err (climbing.Stopped (Some y)))))
   returned (Ok u) = inl (refl, refl)
   returned (Err (returning.Stuck y)) = inr (y, inl refl)
   returned (Err (returning.Stopped y)) = inr (y, inr refl)
@@ -152,7 +152,7 @@ module _ (arenas : List TreeArena) where
   abbrev pub IsStuck : ClimbEnd → Type 0
   IsStuck a = (y : Tag) × ((a ≡ Err (climbing.Stuck y)) ⊎ (a ≡ Err (climbing.Stopped (Some y))))
 
-  pub gives_back : (up : List Level) (t : Tag) (old new : LocalState) (a : ClimbEnd) → RunsTo arenas (give_back_plan up t) old new a → ((a ≡ Err climbing.NoMemory) × Returns new.spaces t old.spaces) ⊎ IsStuck a
+  pub gives_back : (up : List Level) (t : Tag) (old new : LocalState) (a : ClimbEnd) → RunsTo arenas (give_back_plan up t) old new a → ((a ≡ Err (climbing.Refused arena_fault.NoMemory)) × Returns new.spaces t old.spaces) ⊎ IsStuck a
   gives_back up t old new a path =
       let split = path_split (SoundStep (nodes_of arenas)) (return_plan up t) (λ r. Done (memory_refusal r)) old new a path in
       elim (returned split.1) [
@@ -171,11 +171,11 @@ module _ (arenas : List TreeArena) where
 
   -- a span that came, and what the arena did with it
   module _ (l : Level) (up : List Level) (n : ℕ) (span : Tag) (old : List SpaceState) (m new : LocalState) (a : ClimbEnd) (law : IsStock old) (none : ¬ HasBase old l.id (plain_of n)) (upper : Climbs up (amount_of l up n) span old m.spaces) where
-    told : (r : Result Tag (SpanFault Tag)) (t : Tag) → Ok t ≡ wording_of import_word r → r ≡ Ok t
+    told : (r : Result Tag (SpanFault Tag)) (t : Tag) → Ok t ≡ wording_of {F = GivenFault (SpanFault Tag) Tag} giving.Refused r → r ≡ Ok t
     told (Ok y) t e = (let x : Ok t ≡ Ok y = e in let same : t ≡ y = cc in ap Ok (sym same))
-    told (Err f) t e = absurd (let x : Ok t ≡ Err (import_word f) = e in cc)
+    told (Err f) t e = absurd (let x : Ok t ≡ Err (giving.Refused f) = e in cc)
 
-    refusal_same : (new : List SpaceState) (r : Result Tag (SpanFault Tag)) (x : AddCarveFault Tag) → Err x ≡ wording_of import_word r → OnArena l.id (λ a b. ImportOf a span (plain_of n) r b) m.spaces new → new ≡ m.spaces
+    refusal_same : (new : List SpaceState) (r : Result Tag (SpanFault Tag)) (x : GivenFault (SpanFault Tag) Tag) → Err x ≡ wording_of giving.Refused r → OnArena l.id (λ a b. ImportOf a span (plain_of n) r b) m.spaces new → new ≡ m.spaces
     refusal_same new (Ok y) x e there = absurd (let z : Err x ≡ Ok y = e in cc)
     refusal_same new (Err f) x e there = there.after ∙ (ap (λ b. set m.spaces l.id (with_arena b there.space)) there.does.1 ∙ set_same m.spaces l.id there.space there.at)
 
@@ -183,31 +183,31 @@ module _ (arenas : List TreeArena) where
     vain [] climbs returns = absurd climbs
     vain (z ∷ zs) climbs returns = inr (inl (span, m.spaces, climbs, returns))
 
-    added_so : (x : Result Tag (AddCarveFault Tag)) (k : LocalState) → SoundStep (nodes_of arenas) m (AddCarve l.id span n) x k → RunsTo arenas (on_add up x) k new a → Climbings (l ∷ up) n a old new.spaces
+    added_so : (x : Result Tag (GivenFault (SpanFault Tag) Tag)) (k : LocalState) → SoundStep (nodes_of arenas) m (AddCarve l.id span n) x k → RunsTo arenas (on_add up x) k new a → Climbings (l ∷ up) n a old new.spaces
     added_so (Ok t) k add end =
         let r = told add.step.does.0.0 t add.step.does.0.1 in
         let imports : ImportsAt l.id span n t m.spaces new.spaces = subst (λ (s : LocalState). OnArena l.id (λ a b. WasImported a span (plain_of n) t b) m.spaces s.spaces) end.0 (subst (λ z. OnArena l.id (λ a b. ImportOf a span (plain_of n) z b) m.spaces k.spaces) r add.step.does.0.2) in
         subst (λ z. Climbings (l ∷ up) n z old new.spaces) end.1 (inr (none, (span, m.spaces, upper, imports)))
-    added_so (Err (adding.NoMemory y)) k add end =
+    added_so (Err (giving.Refused (adding.NoMemory y))) k add end =
         let same : y ≡ span = add.sound.1 in
-        let state : k.spaces ≡ m.spaces = refusal_same k.spaces add.step.does.0.0 (adding.NoMemory y) add.step.does.0.1 add.step.does.0.2 in
+        let state : k.spaces ≡ m.spaces = refusal_same k.spaces add.step.does.0.0 (giving.Refused (adding.NoMemory y)) add.step.does.0.1 add.step.does.0.2 in
         elim (gives_back up y k new a end) [
           | inl back ↦
               let returns : Returns new.spaces span m.spaces = subst (λ t. Returns new.spaces t m.spaces) same (subst (λ xs. Returns new.spaces y xs) state back.1) in
               subst (λ z. Climbings (l ∷ up) n z old new.spaces) (sym back.0) (inr (climbs_has up (amount_of l up n) span old m.spaces law upper), inr (inr (none, vain up upper returns)))
           | inr stuck ↦ nothing_said (l ∷ up) n a old new.spaces stuck
         ]
-    added_so (Err (adding.Overlaps y)) k add end = nothing_said (l ∷ up) n a old new.spaces (y, inl (sym end.1))
-    added_so (Err (adding.NotAligned y)) k add end = nothing_said (l ∷ up) n a old new.spaces (y, inl (sym end.1))
-    added_so (Err (adding.Stopped y)) k add end = nothing_said (l ∷ up) n a old new.spaces (y, inr (sym end.1))
+    added_so (Err (giving.Refused (adding.Overlaps y))) k add end = nothing_said (l ∷ up) n a old new.spaces (y, inl (sym end.1))
+    added_so (Err (giving.Refused (adding.NotAligned y))) k add end = nothing_said (l ∷ up) n a old new.spaces (y, inl (sym end.1))
+    added_so (Err (giving.Stopped y)) k add end = nothing_said (l ∷ up) n a old new.spaces (y, inr (sym end.1))
 
   -- what came of the climb above, once nothing had a base here
   module _ (l : Level) (up : List Level) (n : ℕ) (old : List SpaceState) (new : LocalState) (a : ClimbEnd) (law : IsStock old) (none : ¬ HasBase old l.id (plain_of n)) where
     imported_so : (r : ClimbEnd) (m : LocalState) → Climbings up (amount_of l up n) r old m.spaces → RunsTo arenas (on_import up l.id n r) m new a → Climbings (l ∷ up) n a old new.spaces
     imported_so (Ok span) m first last = added_so l up n span old m new a law none first last.1 last.0 last.2 last.3
-    imported_so (Err climbing.NoFit) m first last = subst (λ z. Climbings (l ∷ up) n z old new.spaces) last.1 ((λ has. elim has [ inl here ↦ none here | inr there ↦ first.0 there ]), ap (λ (s : LocalState). s.spaces) (sym last.0) ∙ first.1)
-    imported_so (Err climbing.BadRequest) m first last = subst (λ z. Climbings (l ∷ up) n z old new.spaces) last.1 (ap (λ (s : LocalState). s.spaces) (sym last.0) ∙ first)
-    imported_so (Err climbing.NoMemory) m first last =
+    imported_so (Err (climbing.Refused arena_fault.NoFit)) m first last = subst (λ z. Climbings (l ∷ up) n z old new.spaces) last.1 ((λ has. elim has [ inl here ↦ none here | inr there ↦ first.0 there ]), ap (λ (s : LocalState). s.spaces) (sym last.0) ∙ first.1)
+    imported_so (Err (climbing.Refused arena_fault.BadRequest)) m first last = subst (λ z. Climbings (l ∷ up) n z old new.spaces) last.1 (ap (λ (s : LocalState). s.spaces) (sym last.0) ∙ first)
+    imported_so (Err (climbing.Refused arena_fault.NoMemory)) m first last =
         subst (λ z. Climbings (l ∷ up) n z old new.spaces) last.1 (inr first.0, inr (inr (none, subst (λ (s : LocalState). ClimbsInVain up (amount_of l up n) old s.spaces) last.0 first.1)))
     imported_so (Err (climbing.Stuck y)) m first last = nothing_said (l ∷ up) n a old new.spaces (y, inl (sym last.1))
     imported_so (Err (climbing.Stopped None)) m first last = subst (λ z. Climbings (l ∷ up) n z old new.spaces) last.1 tt
@@ -217,21 +217,21 @@ module _ (arenas : List TreeArena) where
   climb_ends [] n old new a law path = subst (λ z. Climbings [] n z old.spaces new.spaces) path.1 ((λ has. has), ap (λ (s : LocalState). s.spaces) (sym path.0))
   climb_ends (l ∷ up) n old new a law path = carved path.1 path.2 path.3 (climb_ends up (amount_of l up n))
     where
-      carved : (x : Result Tag CarveFault) → SoundStep (nodes_of arenas) old (Carve l.id (plain_of n)) x path.0 → RunsTo arenas (on_carve (climb_plan up (amount_of l up n)) up l.id n x) path.0 new a
+      carved : (x : Result Tag (PartFault ArenaFault)) → SoundStep (nodes_of arenas) old (Carve l.id (plain_of n)) x path.0 → RunsTo arenas (on_carve (climb_plan up (amount_of l up n)) up l.id n x) path.0 new a
           → ((s t : LocalState) (b : ClimbEnd) → IsStock s.spaces → RunsTo arenas (climb_plan up (amount_of l up n)) s t b → Climbings up (amount_of l up n) b s.spaces t.spaces)
           → Climbings (l ∷ up) n a old.spaces new.spaces
       carved (Ok t) step rest again =
           let on = does_carve old.spaces path.0.spaces l.id (plain_of n) law (Ok t) step.step.does.0 in
           subst (λ z. Climbings (l ∷ up) n z old.spaces new.spaces) rest.1 (inl (subst (λ (s : LocalState). CarvesAt l.id (plain_of n) t old.spaces s.spaces) rest.0 on))
-      carved (Err carving.BadRequest) step rest again =
-          let on = does_carve old.spaces path.0.spaces l.id (plain_of n) law (Err carving.BadRequest) step.step.does.0 in
+      carved (Err (asking.Refused arena_fault.BadRequest)) step rest again =
+          let on = does_carve old.spaces path.0.spaces l.id (plain_of n) law (Err (asking.Refused arena_fault.BadRequest)) step.step.does.0 in
           subst (λ z. Climbings (l ∷ up) n z old.spaces new.spaces) rest.1 (ap (λ (s : LocalState). s.spaces) (sym rest.0) ∙ on.1)
-      carved (Err carving.NoMemory) step rest again =
-          let on = does_carve old.spaces path.0.spaces l.id (plain_of n) law (Err carving.NoMemory) step.step.does.0 in
+      carved (Err (asking.Refused arena_fault.NoMemory)) step rest again =
+          let on = does_carve old.spaces path.0.spaces l.id (plain_of n) law (Err (asking.Refused arena_fault.NoMemory)) step.step.does.0 in
           subst (λ z. Climbings (l ∷ up) n z old.spaces new.spaces) rest.1 (inl on.1, inl (ap (λ (s : LocalState). s.spaces) (sym rest.0) ∙ on.2))
-      carved (Err carving.Stopped) step rest again = absurd (does_carve old.spaces path.0.spaces l.id (plain_of n) law (Err carving.Stopped) step.step.does.0)
-      carved (Err carving.NoFit) step rest again =
-          let on = does_carve old.spaces path.0.spaces l.id (plain_of n) law (Err carving.NoFit) step.step.does.0 in
+      carved (Err asking.Stopped) step rest again = absurd (does_carve old.spaces path.0.spaces l.id (plain_of n) law (Err asking.Stopped) step.step.does.0)
+      carved (Err (asking.Refused arena_fault.NoFit)) step rest again =
+          let on = does_carve old.spaces path.0.spaces l.id (plain_of n) law (Err (asking.Refused arena_fault.NoFit)) step.step.does.0 in
           let split = path_split (SoundStep (nodes_of arenas)) (climb_plan up (amount_of l up n)) (on_import up l.id n) path.0 new a rest in
           let above = again path.0 split.0 split.1 step.step.stock split.2 in
           imported_so l up n old.spaces new a law on.1 split.1 split.0 (subst (λ xs. Climbings up (amount_of l up n) split.1 xs split.0.spaces) on.2 above) split.3

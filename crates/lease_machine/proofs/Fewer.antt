@@ -12,7 +12,7 @@ use Rattle.arena_tree.specs.Trees.{IsTree}
 use Rattle.quantum_cache.specs.Caches.{rest_of_chain, chain_up, chain_in}
 use Rattle.stock.specs.Spaces.{SpaceState}
 use Rattle.stock.specs.Stocks.{IsStock}
-use Rattle.lease_machine.specs.Moves.{HasBaseUp}
+use Rattle.local_calls.specs.NoFits.{HasBaseUp}
 use Rattle.lease_machine.specs.RoomLaws.{FewerFitToo}
 
 rounded_fewer : (quantum n most : ℕ) → 0 < quantum → n ≤ most → rounding_of quantum n ≤ rounding_of quantum most

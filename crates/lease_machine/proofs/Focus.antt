@@ -1,11 +1,15 @@
 -- One quantum cache of the stock, and a CPU's cache for it: what events do there.
+use Rattle.arena_tree.specs.declared.part_faults.PartFault.{PartFault}
+use Rattle.arena_tree.specs.declared.part_faults.GivenFault.{GivenFault}
+use Rattle.arena_tree.specs.declared.part_faults.FreshFault.{FreshFault}
 use Rattle.arena_tree.specs.declared.part_faults.ChangeFault.{ChangeFault}
-use Rattle.arena_tree.specs.declared.part_faults.PushFault.{PushFault}
-use Rattle.arena_tree.specs.declared.part_faults.PushFault.TheVariants.{NoRoom}
+use Rattle.magazine_layer.specs.declared.faults.FullFault.{FullFault}
+use Rattle.magazine_layer.specs.declared.faults.EmptyFault.{EmptyFault}
+use Rattle.arena_tree.specs.declared.part_faults.PartFault.TheVariants as asking
+use Rattle.arena_tree.specs.declared.part_faults.FreshFault.TheVariants as freshing
+use Rattle.arena_tree.specs.declared.part_faults.ChangeFault.TheVariants as changing
+use Rattle.arena_tree.specs.declared.part_faults.GivenFault.TheVariants as giving
 use Rattle.arena_tree.specs.declared.part_faults.Stopped.{Stopped}
-use Rattle.arena_tree.specs.declared.part_faults.SwapEmptyFault.{SwapEmptyFault}
-use Rattle.arena_tree.specs.declared.part_faults.SwapFreshFault.{SwapFreshFault}
-use Rattle.arena_tree.specs.declared.part_faults.SwapFullFault.{SwapFullFault}
 use Rattle.deed_core.proofs.LawProofs.{set_same, slice_get-set, slice_get_one}
 use Rattle.deed_core.specs.Tag.{Tag}
 use Rattle.local_parts.specs.Cpus.{OnOwn}
@@ -25,8 +29,6 @@ use Rattle.stock.specs.OwnCaches.{IsAtIndexesOf, OwnCacheState}
 use Rattle.stock.specs.Spaces.{QuantumCacheState, SpaceState, with_cache, with_caches, with_depot, with_slab}
 use Rattle.stock.specs.Steps.{OnDepot, OnSlab}
 use Rattle.stock.specs.Stocks.{IsRoundOf}
-use Rattle.arena_tree.specs.declared.part_faults.ChangeFault.TheVariants as changing
-use Rattle.arena_tree.specs.declared.part_faults.SwapFreshFault.TheVariants as freshing
 
 pub record Focus (s : LocalState) (k j : ℕ) : Type 0 where
   pub space : SpaceState
@@ -178,8 +180,8 @@ module _ (s : LocalState) (k j : ℕ) (f : Focus s k j) where
       ],
     )
 
-    pub pushed : (t : Tag) → IsRoundOf k (j + 1) f.own.quantum t → (a : Result (Unit {0}) (PushFault Tag)) (new : LocalState) → DoesPush (there x q) k (j + 1) t a new
-        → ((a ≡ Ok tt) × ((y : CpuCacheState) × (new ≡ there y q) × Pushes t x y)) ⊎ ((a ≡ Err (NoRoom t)) × BothFull x × (new ≡ there x q))
+    pub pushed : (t : Tag) → IsRoundOf k (j + 1) f.own.quantum t → (a : Result (Unit {0}) (GivenFault Tag Tag)) (new : LocalState) → DoesPush (there x q) k (j + 1) t a new
+        → ((a ≡ Ok tt) × ((y : CpuCacheState) × (new ≡ there y q) × Pushes t x y)) ⊎ ((a ≡ Err (giving.Refused t)) × BothFull x × (new ≡ there x q))
     pushed t round a new does = elim does [
       | inl on ↦ inl (on.0, reached_on (λ o p. PushOf o t (Ok tt) p) new on.2)
       | inr none ↦ elim (full_or_not x) [
@@ -188,8 +190,8 @@ module _ (s : LocalState) (k j : ℕ) (f : Focus s k j) where
       ]
     ]
 
-    pub changed : (size : ℕ) (a : Result (Unit {0}) ChangeFault) (new : LocalState) → DoesChange (there x q) k (j + 1) size a new
-        → ((a ≡ Ok tt) × ((y : CpuCacheState) × (new ≡ there y q) × ChangesTo size x y)) ⊎ ((a ≡ Err changing.NoMemory) × (new ≡ there x q)) ⊎ ((a ≡ Err changing.NotGreater) × (new ≡ there x q))
+    pub changed : (size : ℕ) (a : Result (Unit {0}) (PartFault ChangeFault)) (new : LocalState) → DoesChange (there x q) k (j + 1) size a new
+        → ((a ≡ Ok tt) × ((y : CpuCacheState) × (new ≡ there y q) × ChangesTo size x y)) ⊎ ((a ≡ Err (asking.Refused changing.NoMemory)) × (new ≡ there x q)) ⊎ ((a ≡ Err (asking.Refused changing.NotGreater)) × (new ≡ there x q))
     changed size a new does = elim does [
       | inl on ↦ inl (on.0, reached_on (ChangesTo size) new on.1)
       | inr none ↦ elim none [
@@ -206,19 +208,19 @@ module _ (s : LocalState) (k j : ℕ) (f : Focus s k j) where
         let d = depot_on (λ a b. P x a c.0 b) new.spaces c.2 in
         (c.0, d.0, (λ i. record { spaces = d.1 i; cpu = c.1 i }), d.2)
 
-    pub swapped_full : BothEmpty x → (a : Result (Unit {0}) SwapFullFault) (new : LocalState) → DoesSwapFull (there x q) k (j + 1) a new → (y : CpuCacheState) × (d : DepotState) × (new ≡ there y (with_depot d q)) × SwapsFull a x q.depot y d
+    pub swapped_full : BothEmpty x → (a : Result (Unit {0}) (PartFault FullFault)) (new : LocalState) → DoesSwapFull (there x q) k (j + 1) a new → (y : CpuCacheState) × (d : DepotState) × (new ≡ there y (with_depot d q)) × SwapsFull a x q.depot y d
     swapped_full empty a new does = elim does [
       | inl on ↦ exchanged (SwapsFull a) new on
       | inr none ↦ absurd (none.1 j (own_with x) refl (reached x q) empty)
     ]
 
-    pub swapped_empty : BothFull x → (a : Result (Unit {0}) SwapEmptyFault) (new : LocalState) → DoesSwapEmpty (there x q) k (j + 1) a new → (y : CpuCacheState) × (d : DepotState) × (new ≡ there y (with_depot d q)) × SwapsEmpty a x q.depot y d
+    pub swapped_empty : BothFull x → (a : Result (Unit {0}) (PartFault EmptyFault)) (new : LocalState) → DoesSwapEmpty (there x q) k (j + 1) a new → (y : CpuCacheState) × (d : DepotState) × (new ≡ there y (with_depot d q)) × SwapsEmpty a x q.depot y d
     swapped_empty full a new does = elim does [
       | inl on ↦ exchanged (SwapsEmpty a) new on
       | inr none ↦ absurd (none.1 j (own_with x) refl (reached x q) full)
     ]
 
-    pub swapped_fresh : BothFull x → (a : Result (Unit {0}) SwapFreshFault) (new : LocalState) → DoesSwapFresh (there x q) k (j + 1) a new → ((y : CpuCacheState) × (d : DepotState) × (new ≡ there y (with_depot d q)) × SwapsFresh a x q.depot y d) ⊎ ((a ≡ Err freshing.NoMemory) × (new ≡ there x q))
+    pub swapped_fresh : BothFull x → (a : Result (Unit {0}) (PartFault FreshFault)) (new : LocalState) → DoesSwapFresh (there x q) k (j + 1) a new → ((y : CpuCacheState) × (d : DepotState) × (new ≡ there y (with_depot d q)) × SwapsFresh a x q.depot y d) ⊎ ((a ≡ Err (asking.Refused freshing.NoMemory)) × (new ≡ there x q))
     swapped_fresh full a new does = elim does [
       | inl on ↦ inl (exchanged (SwapsFresh a) new on)
       | inr out ↦ elim out [

@@ -4,7 +4,7 @@ use Rattle.arena_tree.specs.Climbs.{ReturnEnd, on_free, return_left, return_plan
 use Rattle.arena_tree.specs.Plans.{Path, Plan}
 use Rattle.arena_tree.specs.Trees.{nodes_of}
 use Rattle.arena_tree.specs.declared.levels.Level.{Level}
-use Rattle.arena_tree.specs.declared.part_faults.FreeFault.TheVariants.{BadFree}
+use Rattle.arena_tree.specs.declared.part_faults.GivenFault.TheVariants as giving
 use Rattle.arena_tree.specs.declared.trees.TreeArena.{TreeArena}
 use Rattle.deed_core.proofs.LawProofs.{mapped, slice_get_mapped, slice_get_one, written}
 use Rattle.deed_core.specs.Tag.{Tag}
@@ -17,7 +17,7 @@ use Rattle.lease_machine.proofs.HeldLaws.{Everywhere, FitsIn, accounted_here, ha
 use Rattle.lease_machine.proofs.Lasting.{all_last, run_lasts, size_stood}
 use Rattle.lease_machine.proofs.Shapes.{FitsFor, keeps_fit}
 use Rattle.lease_machine.specs.CallLaws.{FreeGoesBack}
-use Rattle.lease_machine.specs.Chunks.{BecomesRound, ComesHome, GoesBack, GoesBackBy, HasNoRoom, KeepsOwn, OnSelected, own_or_none, selected_caches}
+use Rattle.lease_machine.specs.Chunks.{AnswersRound, BecomesRound, ComesHome, GoesBack, GoesBackBy, OnSelected, own_or_none, selected_caches}
 use Rattle.lease_machine.specs.Held.{IsHeld, parts_in, with_parts}
 use Rattle.lease_machine.specs.Moves.{OtherCpusStay, Returns}
 use Rattle.lease_machine.specs.Moves.Returns.{rises, stays}
@@ -27,9 +27,11 @@ use Rattle.local_parts.proofs.LawProofs.{path_seen, plan_conserves, plan_keeps_s
 use Rattle.local_parts.specs.Cpus.{CacheIndexes, IsCpuOf, OnOwn, own_index, own_indexes, indexes_from, row_indexes}
 use Rattle.local_parts.specs.States.{LocalState}
 use Rattle.local_parts.specs.Steps.{IsSetUpAs, LocalStep}
-use Rattle.local_parts.specs.Words.{wording_of}
+use Rattle.arena_tree.specs.Tags.{wording_of}
 use Rattle.magazine_layer.specs.Depots.{DepotState, all_rounds, depot_rounds}
 use Rattle.magazine_layer.specs.Magazines.{CpuCacheState, IsSize, cache_rounds}
+use Rattle.magazine_layer.specs.declared.rounds.RoundAnswer.TheVariants.{Kept, Refused}
+use Rattle.magazine_layer.specs.declared.rounds.RoundOp.TheVariants.{Give}
 use Rattle.quantum_cache.proofs.LawProofs.{free_handles}
 use Rattle.quantum_cache.specs.Caches.{chain_in}
 use Rattle.quantum_cache.specs.Frees.{free_steps, free_cached, free_plan}
@@ -58,7 +60,7 @@ returns_so arenas (l ∷ up) t old new path = by path.2.step.does.0.0 path.2.ste
       | inr none ↦ absurd (let e : Ok r ≡ Err t = none.1 in cc)
     ]
 
-    by : (r : Result (Option Tag) Tag) → path.1 ≡ wording_of BadFree r → FreeIn old.spaces t r path.0.spaces
+    by : (r : Result (Option Tag) Tag) → path.1 ≡ wording_of giving.Refused r → FreeIn old.spaces t r path.0.spaces
         → ((whole : Tag) → RunsTo arenas (return_plan up whole) path.0 new (Ok tt) → Returns new.spaces whole path.0.spaces × (new.cpu ≡ path.0.cpu)) → Returns new.spaces t old.spaces × (new.cpu ≡ old.cpu)
     by (Ok None) told is again =
         let rest = subst (λ a. RunsTo arenas (on_free (return_plan up) a) path.0 new (Ok tt)) told path.3 in
@@ -257,15 +259,15 @@ module _ (d : Picture) (t : Tag) (s : LocalState) (held : IsHeld (t ∷ []) d) (
         | inl keeps ↦
             let y : CpuCacheState = keeps.0 in
             let e : DepotState = keeps.1 in
-            let on = own_becomes was k j f (λ a b. KeepsOwn t a f.cache.depot b e) y s.cpu (ap (λ (z : LocalState). z.cpu) keeps.2) keeps.3 in
-            let becomes : BecomesRound k j f.cache t d (with_parts s d) = (e, on_selected d c found s k j (λ a b. KeepsOwn t a f.cache.depot b e) on, depot_becomes was k j f (λ a b. b ≡ e) e s.spaces (ap (λ (z : LocalState). z.spaces) keeps.2) refl) in
+            let on = own_becomes was k j f (AnswersRound (Give t) Kept f.cache.depot e) y s.cpu (ap (λ (z : LocalState). z.cpu) keeps.2) keeps.3 in
+            let becomes : BecomesRound k j f.cache t d (with_parts s d) = (e, on_selected d c found s k j (AnswersRound (Give t) Kept f.cache.depot e) on, depot_becomes was k j f (λ a b. b ≡ e) e s.spaces (ap (λ (z : LocalState). z.spaces) keeps.2) refl) in
             let by : GoesBackBy (Cached number) t d (with_parts s d) = (j, f.cache, out.1, stands, inl becomes) in
             let moved = keeps_fit (Round_ was k j f law own_fits) f.cache.depot.size t f.own.cpu y f.cache.depot e refl (depot_sized was k j f law own_fits) round fitting keeps.3 in
             let fits = subst (λ (z : LocalState). Everywhere (FitsIn s.spaces) z.cpu) (sym keeps.2) (there_all (FitsIn s.spaces) was k j f y (with_depot e f.cache) all_fit (fits_again was k j f law own_fits y s.spaces last moved)) in
             (((refl, refl), subst (λ r. GoesBackBy r t d (with_parts s d)) (sym route) by), (kept fits).0, (kept fits).1)
         | inr home ↦
-            let on = own_becomes was k j f (HasNoRoom f.cache.depot) f.own.cpu s.cpu (ap (λ (z : LocalState). z.cpu) home.1) home.2 in
-            let comes : ComesHome k j f.cache t d (with_parts s d) = (on_selected d c found s k j (HasNoRoom f.cache.depot) on, slab_becomes was k j f (λ a b. PutOf a t (Ok tt) b) home.0 s.spaces (ap (λ (z : LocalState). z.spaces) home.1) home.3) in
+            let on = own_becomes was k j f (AnswersRound (Give t) (Refused t) f.cache.depot f.cache.depot) f.own.cpu s.cpu (ap (λ (z : LocalState). z.cpu) home.1) home.2 in
+            let comes : ComesHome k j f.cache t d (with_parts s d) = (on_selected d c found s k j (AnswersRound (Give t) (Refused t) f.cache.depot f.cache.depot) on, slab_becomes was k j f (λ a b. PutOf a t (Ok tt) b) home.0 s.spaces (ap (λ (z : LocalState). z.spaces) home.1) home.3) in
             let by : GoesBackBy (Cached number) t d (with_parts s d) = (j, f.cache, out.1, stands, inr comes) in
             let fits = subst (λ (z : LocalState). Everywhere (FitsIn s.spaces) z.cpu) (sym home.1) (there_all (FitsIn s.spaces) was k j f f.own.cpu (with_slab home.0 f.cache) all_fit (fits_again was k j f law own_fits f.own.cpu s.spaces last fitting)) in
             (((refl, refl), subst (λ r. GoesBackBy r t d (with_parts s d)) (sym route) by), (kept fits).0, (kept fits).1)

@@ -10,6 +10,7 @@ pub use Rattle.lease_machine.proofs.CachedReach.{grants_were_reachable}
 pub use Rattle.lease_machine.proofs.FreshCpus.{fresh_is_picture, selected_is_picture, fresh_cpu_fits}
 pub use Rattle.lease_machine.proofs.CachedSizes.{cached_by_number}
 pub use Rattle.lease_machine.proofs.Stepping.{faults_are_answered, known_are_answered, old_hellos_are_answered, audits_are_answered, clients_are_told, cpus_are_selected, resizes_are_answered, releases_are_settled}
+pub use Rattle.lease_machine.proofs.Settling.{refusals_are_answered}
 pub use Rattle.lease_machine.proofs.Ticking.{ticks_are_answered, ticks_keep}
 pub use Rattle.lease_machine.proofs.Resizing.{resizes_keep}
 pub use Rattle.lease_machine.proofs.Fewer.{fewer_fit_too}
@@ -25,3 +26,6 @@ pub use Rattle.lease_machine.proofs.Leases.{leases_move}
 pub use Rattle.lease_machine.proofs.GrantedApart.{grants_stay_apart}
 pub use Rattle.lease_machine.proofs.Replied.{clients_get_replies}
 pub use Rattle.lease_machine.proofs.Ruling.{steps_keep_rules, runs_keep_rules}
+pub use Rattle.lease_machine.proofs.RequestRuns.{request_runs}
+pub use Rattle.lease_machine.proofs.HelloRuns.{hello_runs}
+pub use Rattle.lease_machine.proofs.BookMoves.{held_of, picture_of}

@@ -1,5 +1,5 @@
 -- What becomes of all leases.
-use Rattle.std.proofs.Common.{◌≡◌, ◌≢◌, ◌⊎◌, ℕ, ◌<◌, ◌≤◌, refl, sym, subst, ap, ◌∙◌, inl, inr, Bool, true, false, cond, not, nat_eq, ◌&&◌, List, [], ◌∷◌, filter, All, get_or, Ok, Err, Result, arith, suc}
+use Rattle.std.proofs.Common.{◌≡◌, ◌≢◌, ◌⊎◌, ℕ, ◌<◌, ◌≤◌, refl, sym, subst, ap, ◌∙◌, inl, inr, Bool, true, false, cond, not, nat_eq, ◌&&◌, List, [], ◌∷◌, filter, All, get_or, None, Ok, Err, Result, arith, suc}
 use Rattle.std.proofs.lemmas.Bool.{cases_lt, cases_eq, eqb-true, ltb-true}
 use Rattle.std.proofs.Common.{lt-ltb}
 use Rattle.deed_core.specs.Tag.{Tag}
@@ -113,12 +113,14 @@ module _ (c i : ℕ) where
   -- so they are after the sweeps of older ones
   pub record Swept_so (old new : Picture) : Type 0 where
     pub current : (account_in c new.book).incarnation ≡ i
+    pub numbers : (account_in c new.book).kept ≡ (account_in c old.book).kept
     pub kept : filter (stays i) (leases_in new c) ≡ filter (stays i) (leases_in old c)
     pub others : (d : ℕ) → d ≢ c → leases_in new d ≡ leases_in old d
 
   sweeps_so : (ts : List Tag) (old new : Picture) → HasHistory old.book → (account_in c old.book).incarnation ≡ i → Sweeps c ts old new → Swept_so old new
   sweeps_so [] old new history at same = record {
     current = ap (λ (d : Picture). (account_in c d.book).incarnation) same ∙ at;
+    numbers = ap (λ (d : Picture). (account_in c d.book).kept) same;
     kept = ap (λ (d : Picture). filter (stays i) (leases_in d c)) same;
     others = λ d other. ap (λ (x : Picture). leases_in x d) same;
   }
@@ -134,6 +136,7 @@ module _ (c i : ℕ) where
       ap (λ (a : Account). filter (stays i) a.leases) own ∙ filter_without (stays i) (is_lease j t.arena base) (older_goes i j t.arena base below) (leases_in old c) in
       record {
         current = then_so.current;
+        numbers = then_so.numbers ∙ ap (λ (a : Account). a.kept) own;
         kept = then_so.kept ∙ first;
         others = λ d other. then_so.others d other ∙ ap (λ (a : Account). a.leases) (entered_changes.others old.book mid.book (Swept c j t.arena base) d history entry other);
       }
@@ -161,6 +164,24 @@ welcome_moves old new c i is does =
         let current : i ≡ (account_in c old.book).incarnation = omega (arith, below, does.current) in
         let own = entered_changes.again old.book does.greeted c i (history_of old is) does.hello current in
         (ap (λ (a : Account). a.incarnation) own ∙ sym current, ap (λ (a : Account). a.leases) own)
+
+-- the numbers begin anew, or go on
+pub welcome_numbers : (old new : Picture) (c i : ℕ) → IsPicture old → Welcomes c i old new
+    → ((account_in c old.book).incarnation < i → (account_in c new.book).kept ≡ None) × ((account_in c old.book).incarnation ≡ i → (account_in c new.book).kept ≡ (account_in c old.book).kept)
+welcome_numbers old new c i is does = (
+  λ above. (
+      let own = entered_changes.hello old.book does.greeted c i history does.hello above in
+      (swept (ap (λ (a : Account). a.incarnation) own)).numbers ∙ ap (λ (a : Account). a.kept) own),
+  λ same. (
+      let own = entered_changes.again old.book does.greeted c i history does.hello (sym same) in
+      (swept (ap (λ (a : Account). a.incarnation) own ∙ same)).numbers ∙ ap (λ (a : Account). a.kept) own),
+)
+  where
+    history : HasHistory old.book
+    history = history_of old is
+
+    swept : (account_in c does.greeted).incarnation ≡ i → Swept_so c i (record old { book = does.greeted }) new
+    swept current = sweeps_so c i does.swept (record old { book = does.greeted }) new (Hello c i ∷ history.0, does.hello.history history.0 history.1) current does.sweeps
 
 pub hello_moves : (old new : Picture) (h : HelloLine) → IsPicture old → (r : Reply) → HelloStep h old new r → HelloMoves h old r new
 hello_moves old new h is (reply.Welcome w) does = (does.0, (welcome_moves old new h.client h.incarnation is does.1).1)

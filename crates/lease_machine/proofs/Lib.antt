@@ -17,6 +17,7 @@ pub mod Fewer
 pub mod NoRoom
 pub mod Ruling
 pub mod Stepping
+pub mod Settling
 pub mod Ticking
 pub mod Resizing
 pub mod CpuRows
@@ -45,4 +46,15 @@ pub mod SlabSteps
 pub mod Reached
 pub mod CachedLaws
 pub mod CachedReach
+pub mod BookMoves
+pub mod Rebooking
+pub mod KnownAnswers
+pub mod Outcomes
+pub mod Placing
+pub mod Ending
+pub mod ReleaseRuns
+pub mod LeaseTaken
+pub mod LeaseRuns
+pub mod HelloRuns
+pub mod RequestRuns
 pub mod LawProofs

@@ -1,9 +1,9 @@
 -- What the looks of a reaping do to the slabs of a cache that go, and to those that stay.
-use Rattle.std.proofs.Common.{◌≡◌, ◌≢◌, ◌⊎◌, ℕ, ◌+◌, ◌-◌, ◌*◌, ◌/◌, ◌<◌, ◌≤◌, ◌==◌, ◌&&◌, zero, suc, Bool, true, false, not, cond, List, [], ◌∷◌, ◌++◌, All, Some, None, Ok, length, map, filter, take, drop, set, get_or, nat_lt, inl, inr, refl, sym, ap, subst, ◌∙◌, append_assoc, arith}
+use Rattle.std.proofs.Common.{◌≡◌, ◌≢◌, ◌⊎◌, ℕ, ◌+◌, ◌-◌, ◌*◌, ◌/◌, ◌<◌, ◌≤◌, ◌==◌, ◌&&◌, zero, suc, Bool, true, false, not, cond, List, [], ◌∷◌, ◌++◌, All, Some, None, length, map, filter, take, set, get_or, nat_lt, inl, inr, refl, sym, ap, subst, ◌∙◌, append_assoc, arith}
 use Rattle.std.specs.Prelude.{slice_get, sum_by, count_by, nat_le}
 use Rattle.std.specs.List.{remove}
 use Rattle.std.proofs.Math.Nat.{div-mul-le_self, mul-le-mul_right}
-use Rattle.std.proofs.lemmas.Bool.{cases_Bool, cases_order, and_from, lt-ltb, le-leb}
+use Rattle.std.proofs.lemmas.Bool.{cases_order, and_from, lt-ltb, le-leb}
 use Rattle.std.proofs.lemmas.Bool.Decides.{Decides-eqb, Decides-ltb, leb_tells}
 use Rattle.std.proofs.lemmas.List.{length-set}
 use Rattle.std.proofs.lemmas.List.Sums.{sum_by-cons, sum_by-append}
@@ -12,13 +12,13 @@ use Rattle.deed_core.proofs.LawProofs.{all_at, all_from, slice_get_here, slice_g
 use Rattle.deed_core.specs.Extent.{end_of}
 use Rattle.deed_core.specs.Tag.{Tag}
 use Rattle.slab_layer.specs.Cache.{SlabCacheState, IsBelow, IsOfSize, IsSoundCache, chunk_of, span_tag}
-use Rattle.slab_layer.specs.Calls.{PutOf, Puts, Reaps, StandsAt, with_slabs}
+use Rattle.slab_layer.specs.Calls.{Puts, Reaps, with_slabs}
 use Rattle.slab_layer.specs.Slab.{SlabState, IsComplete, idle_count, with_chunk}
 use Rattle.magazine_layer.specs.Calls.{DepotReapOf}
 use Rattle.magazine_layer.specs.Depots.{DepotState, Begins, CanReap, Drains, after_trim, all_rounds}
 use Rattle.stock.specs.Spaces.{QuantumCacheState, with_slab, with_depot}
 use Rattle.lease_machine.specs.Moves.{outline_of, slab_outlines}
-use Rattle.lease_machine.specs.Operators.{comes_whole, goes, is_in_slab, rounds_to_go, slabs_after_reap, spans_of_cache}
+use Rattle.lease_machine.specs.Operators.{goes, is_in_slab, rounds_to_go, slabs_after_reap, spans_of_cache}
 
 not_so : (b : Bool) → (b ≡ true → ⊥) → b ≡ false
 not_so true never = absurd (never refl)

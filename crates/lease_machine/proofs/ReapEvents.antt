@@ -1,5 +1,5 @@
 -- What the events of a reaping do to the units of slabs, and to depots.
-use Rattle.std.proofs.Common.{◌≡◌, ℕ, ◌+◌, ◌-◌, ◌<◌, zero, suc, not, List, [], ◌∷◌, Option, Some, None, Result, Ok, map, drop, inl, inr, refl, sym, ap, subst, ◌∙◌, arith}
+use Rattle.std.proofs.Common.{◌≡◌, ℕ, ◌+◌, ◌-◌, ◌<◌, zero, suc, List, [], ◌∷◌, Option, Some, None, Result, Ok, map, drop, inl, inr, refl, sym, ap, subst, ◌∙◌, arith}
 use Rattle.std.specs.Prelude.{slice_get, sum_by}
 use Rattle.std.specs.List.{remove}
 use Rattle.std.proofs.lemmas.List.Sums.{sum_by-cons}
@@ -10,10 +10,10 @@ use Rattle.slab_layer.specs.Calls.{ReapOf, Reaps}
 use Rattle.slab_layer.specs.Slab.{SlabState}
 use Rattle.magazine_layer.specs.Calls.{DepotReapOf}
 use Rattle.magazine_layer.specs.Depots.{DepotState, Begins, after_trim}
-use Rattle.arena_tree.specs.declared.part_faults.FreeFault.{FreeFault}
-use Rattle.arena_tree.specs.declared.part_faults.SlabPutFault.{SlabPutFault}
+use Rattle.arena_tree.specs.declared.part_faults.GivenFault.{GivenFault}
+use Rattle.slab_layer.specs.declared.faults.PutFault.{PutFault}
 use Rattle.arena_tree.specs.declared.part_faults.Stopped.{Stopped}
-use Rattle.stock.specs.Spaces.{SpaceState, with_arena, with_depot, with_slab}
+use Rattle.stock.specs.Spaces.{SpaceState, with_depot, with_slab}
 use Rattle.local_parts.specs.SharedSteps.{DoesFree, DoesPut, DoesReap, DoesDepotReap}
 use Rattle.lease_machine.specs.Moves.{outline_of}
 use Rattle.lease_machine.specs.Operators.{after_reap}
@@ -23,7 +23,7 @@ use Rattle.lease_machine.proofs.Takings.{Takes, takes_none, cache_takes, arena_t
 same_takes : (old new : List SpaceState) → new ≡ old → Takes 0 old new
 same_takes old new same = subst (Takes 0 old) (sym same) (takes_none old)
 
-pub free_takes : (old new : List SpaceState) (t : Tag) (a : Result (Option Tag) (FreeFault Tag)) → DoesFree old t a new → Takes 0 old new
+pub free_takes : (old new : List SpaceState) (t : Tag) (a : Result (Option Tag) (GivenFault Tag Tag)) → DoesFree old t a new → Takes 0 old new
 free_takes old new t a does = elim does.2 [
   | inl on ↦ arena_takes old new t.arena on.space on.arena on.at on.after
   | inr none ↦ same_takes old new none.2
@@ -33,7 +33,7 @@ free_takes old new t a does = elim does.2 [
 outline_units : (xs : List SlabState) → sum_by span_units (map outline_of xs) ≡ sum_by span_units xs
 outline_units xs = sum_by-map span_units outline_of xs
 
-pub put_takes : (old new : List SpaceState) (t : Tag) (a : Result (Unit {0}) (SlabPutFault Tag)) → DoesPut old t a new → Takes 0 old new
+pub put_takes : (old new : List SpaceState) (t : Tag) (a : Result (Unit {0}) (GivenFault (PutFault Tag) Tag)) → DoesPut old t a new → Takes 0 old new
 put_takes old new t a does = elim does.2 [
   | inl on ↦
       let o = on.2 in

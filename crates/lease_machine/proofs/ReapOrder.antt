@@ -1,12 +1,10 @@
 -- In which order a reaping gives spans back: look by look, the first of those that go.
-use Rattle.std.proofs.Common.{◌≡◌, ◌≢◌, ◌⊎◌, ℕ, ◌+◌, ◌-◌, ◌<◌, ◌≤◌, zero, suc, List, [], ◌∷◌, ◌++◌, Option, Some, None, Result, Ok, Err, length, map, set, inl, inr, refl, sym, ap, subst, ◌∙◌, append_assoc, arith}
+use Rattle.std.proofs.Common.{◌≡◌, ◌⊎◌, ℕ, ◌+◌, ◌<◌, ◌≤◌, zero, suc, List, [], ◌∷◌, ◌++◌, Some, None, length, map, set, inl, inr, refl, sym, ap, subst, ◌∙◌, append_assoc, arith}
 use Rattle.std.specs.Prelude.{slice_get}
 use Rattle.std.specs.List.{flat_map}
-use Rattle.std.proofs.lemmas.List.{length-set, append-nil}
-use Rattle.deed_core.proofs.LawProofs.{map_set_same, slice_get_one, slice_get_mapped, mapped, written}
+use Rattle.std.proofs.lemmas.List.{length-set}
+use Rattle.deed_core.proofs.LawProofs.{map_set_same, written}
 use Rattle.deed_core.specs.Tag.{Tag}
-use Rattle.slab_layer.specs.Cache.{SlabCacheState}
-use Rattle.slab_layer.specs.Slab.{IsComplete}
 use Rattle.tag_arena.specs.ArenaState.{ArenaState}
 use Rattle.stock.specs.Spaces.{SpaceState, QuantumCacheState, IsCacheAt, with_arena, with_cache, with_caches}
 use Rattle.stock.specs.Steps.{OnArena}

@@ -1,5 +1,5 @@
 -- A whole reaping in order: arena by arena from the last, cache by cache, rounds and then slabs.
-use Rattle.std.proofs.Common.{◌≡◌, ◌≢◌, ◌⊎◌, ℕ, ◌+◌, ◌-◌, ◌*◌, ◌/◌, ◌<◌, ◌≤◌, zero, suc, List, [], ◌∷◌, All, Option, Some, None, Result, Ok, Err, length, map, min, set, inl, inr, refl, sym, ap, subst, ◌∙◌, arith}
+use Rattle.std.proofs.Common.{◌≡◌, ◌≢◌, ℕ, ◌+◌, ◌-◌, ◌*◌, ◌/◌, ◌<◌, ◌≤◌, zero, suc, List, [], ◌∷◌, Option, Some, None, Result, Ok, Err, length, map, set, inl, inr, refl, sym, ap, subst, ◌∙◌, arith}
 use Rattle.std.specs.Prelude.{slice_get}
 use Rattle.std.proofs.Math.Nat.{div-mul-le_self, mul-le-mul_right}
 use Rattle.std.proofs.lemmas.Bool.{cases_lt}
@@ -7,14 +7,12 @@ use Rattle.std.proofs.lemmas.List.{length-map, length-replicate}
 use Rattle.std.proofs.lemmas.Option.{slice_get_within}
 use Rattle.deed_core.specs.Tag.{Tag}
 use Rattle.deed_core.specs.declared.segments.Route.TheVariants.{Cached}
-use Rattle.deed_core.proofs.LawProofs.{mapped, power_some, slice_get_mapped, slice_get_one, slice_get_some, written}
-use Rattle.slab_layer.specs.Cache.{SlabCacheState, IsSoundCache}
-use Rattle.slab_layer.specs.Calls.{PutOf, ReapOf, Reaps}
-use Rattle.slab_layer.specs.Slab.{SlabState, IsComplete}
+use Rattle.deed_core.proofs.LawProofs.{mapped, power_some, slice_get_mapped, slice_get_one, slice_get_some}
+use Rattle.slab_layer.specs.Cache.{IsSoundCache}
+use Rattle.slab_layer.specs.Calls.{PutOf, ReapOf}
 use Rattle.slab_layer.specs.declared.faults.PutFault.{PutFault}
 use Rattle.slab_layer.specs.declared.faults.PutFault.TheVariants as put_fault
 use Rattle.magazine_layer.specs.Calls.{DepotReapOf}
-use Rattle.magazine_layer.specs.Depots.{DepotState}
 use Rattle.arena_tree.specs.declared.levels.Level.{Level}
 use Rattle.arena_tree.specs.declared.limits.TheConstants.{MOST_CACHES}
 use Rattle.arena_tree.specs.declared.trees.TreeArena.{TreeArena}
@@ -29,7 +27,7 @@ use Rattle.quantum_cache.specs.declared.emptying_faults.EmptyingFault.TheVariant
 use Rattle.quantum_cache.specs.declared.reaps.Reaping.{Reaping}
 use Rattle.quantum_cache.specs.Caches.{chain_in, chain_up, rest_of_chain, over_caches, over_arenas}
 use Rattle.quantum_cache.specs.Frees.{on_slab_put, put_chunk}
-use Rattle.quantum_cache.specs.Reaps.{LookEnd, ReapEnd, on_return, on_depot_reap, reap_round, on_slab_reap, reap_slab, on_look, looks_in_turn, reap_steps, reap_cache, reap_arena_plan, reap_plan}
+use Rattle.quantum_cache.specs.Reaps.{LookEnd, on_return, on_depot_reap, reap_round, on_slab_reap, reap_slab, on_look, looks_in_turn, reap_steps, reap_cache, reap_arena_plan, reap_plan}
 use Rattle.quantum_cache.specs.Sizes.{caches_in}
 use Rattle.stock.specs.Setups.{plan_for, plans_for}
 use Rattle.stock.specs.Spaces.{SpaceState, SpacePlan, QuantumCacheState, IsCacheAt, plan_of, plans_of, slab_size_of, with_cache, with_depot, with_slab}
@@ -37,7 +35,7 @@ use Rattle.stock.specs.Steps.{OnDepot, OnSlab, PutIn}
 use Rattle.stock.specs.Stocks.{IsStock}
 use Rattle.local_parts.specs.SharedSteps.{DoesDepotReap, DoesReap}
 use Rattle.local_parts.specs.States.{LocalState}
-use Rattle.local_parts.specs.Words.{wording_of, put_word}
+use Rattle.arena_tree.specs.Tags.{wording_of}
 use Rattle.local_calls.specs.Runs.{SoundStep, RunsTo}
 use Rattle.lease_machine.specs.Moves.{Returns}
 use Rattle.lease_machine.specs.Operators.{rounds_to_go, slabs_after_reap, spans_of_cache}
@@ -45,6 +43,7 @@ use Rattle.lease_machine.proofs.FreeLaws.{returns_so}
 use Rattle.lease_machine.proofs.ReapCaches.{none_goes, round_comes, slab_goes, trimmed}
 use Rattle.lease_machine.proofs.ReapOrder.{Front, Went, cache_count, came, front_next, it_became, next_goes, others_stood, front_stays, returns_keep, went_none, went_then}
 use Rattle.lease_machine.proofs.ReapWalks.{frees_leave, ok_on}
+use Rattle.arena_tree.specs.declared.part_faults.GivenFault.TheVariants as giving
 
 -- the depot of the cache with this number has no round to let go
 abbrev NoRounds : ℕ → ℕ → List SpaceState → Type 0
@@ -122,7 +121,7 @@ put_home : (arenas : List TreeArena) (t : Tag) (mid new : LocalState) (o : Optio
 unfolding put_chunk
 put_home arenas t mid new o run = subst (λ (z : LocalState). (i : ℕ) × (t.route ≡ Cached (i + 1)) × OnSlab t.arena i (λ a b. PutOf a t (Ok tt) b) mid.spaces z.spaces × IsStock z.spaces × (o ≢ None)) run.3.0 (by run.2.step.does.0.0 run.2.step.does.0.1 run.2.step.does.0.2)
   where
-    by : (r : Result (Unit {0}) (PutFault Tag)) → run.1 ≡ wording_of put_word r → PutIn mid.spaces t r run.0.spaces → (i : ℕ) × (t.route ≡ Cached (i + 1)) × OnSlab t.arena i (λ a b. PutOf a t (Ok tt) b) mid.spaces run.0.spaces × IsStock run.0.spaces × (o ≢ None)
+    by : (r : Result (Unit {0}) (PutFault Tag)) → run.1 ≡ wording_of giving.Refused r → PutIn mid.spaces t r run.0.spaces → (i : ℕ) × (t.route ≡ Cached (i + 1)) × OnSlab t.arena i (λ a b. PutOf a t (Ok tt) b) mid.spaces run.0.spaces × IsStock run.0.spaces × (o ≢ None)
     by (Ok u) told (inl (i, route, on)) = (
       i,
       route,

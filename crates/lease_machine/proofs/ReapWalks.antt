@@ -3,8 +3,8 @@ use Rattle.std.proofs.Common.{◌≡◌, ℕ, ◌+◌, ◌-◌, zero, suc, List,
 use Rattle.deed_core.specs.Tag.{Tag}
 use Rattle.arena_tree.specs.declared.levels.Level.{Level}
 use Rattle.arena_tree.specs.declared.trees.TreeArena.{TreeArena}
-use Rattle.arena_tree.specs.declared.part_faults.FreeFault.{FreeFault}
-use Rattle.arena_tree.specs.declared.part_faults.FreeFault.TheVariants as freeing
+use Rattle.arena_tree.specs.declared.part_faults.GivenFault.{GivenFault}
+use Rattle.arena_tree.specs.declared.part_faults.GivenFault.TheVariants as giving
 use Rattle.arena_tree.specs.declared.part_faults.Stopped.{Stopped}
 use Rattle.arena_tree.specs.declared.part_faults.ReturnFault.TheVariants as returning
 use Rattle.arena_tree.specs.Climbs.{ReturnEnd, return_plan, on_free}
@@ -90,14 +90,14 @@ module _ (arenas : List TreeArena) where
       mid : LocalState
       mid = path.0
 
-      leaves : (x : Result (Option Tag) (FreeFault Tag)) → SoundStep (nodes_of arenas) old (Free t) x mid → Leaves 0 old mid
+      leaves : (x : Result (Option Tag) (GivenFault Tag Tag)) → SoundStep (nodes_of arenas) old (Free t) x mid → Leaves 0 old mid
       leaves x step = record { stock = λ law. step.step.stock; takes = free_takes old.spaces mid.spaces t x step.step.does.0; cpu = step.step.does.1 }
 
-      freed : (x : Result (Option Tag) (FreeFault Tag)) → SoundStep (nodes_of arenas) old (Free t) x mid → RunsTo arenas (on_free (return_plan up) x) mid new r → ((w : Tag) (s u : LocalState) (a : ReturnEnd) → RunsTo arenas (return_plan up w) s u a → Leaves 0 s u) → Leaves 0 old new
+      freed : (x : Result (Option Tag) (GivenFault Tag Tag)) → SoundStep (nodes_of arenas) old (Free t) x mid → RunsTo arenas (on_free (return_plan up) x) mid new r → ((w : Tag) (s u : LocalState) (a : ReturnEnd) → RunsTo arenas (return_plan up w) s u a → Leaves 0 s u) → Leaves 0 old new
       freed (Ok (Some w)) step rest again = none_then 0 old mid new (leaves (Ok (Some w)) step) (again w mid new r rest)
       freed (Ok None) step rest again = subst (Leaves 0 old) rest.0 (leaves (Ok None) step)
-      freed (Err (freeing.BadFree w)) step rest again = subst (Leaves 0 old) rest.0 (leaves (Err (freeing.BadFree w)) step)
-      freed (Err (freeing.Stopped w)) step rest again = subst (Leaves 0 old) rest.0 (leaves (Err (freeing.Stopped w)) step)
+      freed (Err (giving.Refused w)) step rest again = subst (Leaves 0 old) rest.0 (leaves (Err (giving.Refused w)) step)
+      freed (Err (giving.Stopped w)) step rest again = subst (Leaves 0 old) rest.0 (leaves (Err (giving.Stopped w)) step)
 
   -- a look at slabs
   slab_leaves : (chain : List Level) (k c : ℕ) (old new : LocalState) (r : LookEnd) → RunsTo arenas (reap_slab chain k c) old new r → LookLeaves old new r

@@ -19,7 +19,6 @@ use Rattle.lease_proto.specs.declared.replies.Old.{Old}
 use Rattle.lease_proto.specs.declared.replies.Again.{Again}
 use Rattle.lease_proto.specs.Operators.{served_of}
 use Rattle.lease_proto.specs.Replies.{reply_text, IsReply}
-use Rattle.lease_proto.specs.Requests.{client_named}
 use Rattle.lease_proto.specs.Texts.{IsLine}
 use Rattle.lease_proto.proofs.LawProofs.{lines_are_texts, clients_are_served, replies_are_texts}
 use Rattle.lease_book.specs.declared.receipts.KeptReply.{KeptReply}
@@ -33,7 +32,7 @@ use Rattle.lease_history.specs.Told.{reply_to}
 use Rattle.lease_machine.specs.Picture.{Picture, IsPicture, arena_named, name_or_none}
 use Rattle.lease_machine.specs.Replies.{IsKnownReply, again_of}
 use Rattle.lease_machine.specs.Machine.{NewLease, NewRelease, NewRequest, RequestStep, HelloStep}
-use Rattle.lease_machine.specs.AnswerLaws.{reply_bytes, IsKept, IsReadAs, AreNamed, ClientsGetReplies}
+use Rattle.lease_machine.specs.AnswerLaws.{reply_bytes, IsKept, IsReadAs, AreNamed, ClientsGetReplies, NamesHello}
 use Rattle.lease_machine.proofs.Repeats.{history_of, request_kept, kept_or}
 use Rattle.lease_machine.proofs.Fitting.{kept_grants_fit}
 use Rattle.lease_machine.proofs.Naming.{answer_names}
@@ -125,15 +124,15 @@ module _ (old new : Picture) (is : IsPicture old) (is_new : IsPicture new) (tree
       ]
     ]
 
-  hello_valid : (h : HelloLine) → IsClient h.client × IsOrdinal h.incarnation → (r : Reply) → HelloStep h old new r → IsReply r × (client_named r ≡ Some h.client)
-  hello_valid h is_h (reply.Welcome w) does = (subst (λ (x : Welcome). IsReply (reply.Welcome x)) (sym does.0) is_h, ap (λ (x : Welcome). Some x.client) does.0)
+  hello_valid : (h : HelloLine) → IsClient h.client × IsOrdinal h.incarnation → (r : Reply) → HelloStep h old new r → IsReply r × NamesHello h r
+  hello_valid h is_h (reply.Welcome w) does = (subst (λ (x : Welcome). IsReply (reply.Welcome x)) (sym does.0) is_h, does.0)
   hello_valid h is_h (reply.Old o) does = (
     subst (λ (x : Old). IsReply (reply.Old x)) (sym does.0) (is_h.0, (bounds old is h.client).incarnation),
-    ap (λ (x : Old). Some x.client) does.0,
+    ap (λ (x : Old). x.client) does.0,
   )
   hello_valid h is_h (reply.Again a) does = (
     subst (λ (x : Again). IsReply (reply.Again x)) (sym does.0) (is_h.0, is_h.1, omega arith),
-    ap (λ (x : Again). Some x.client) does.0,
+    does.0,
   )
   hello_valid h is_h (reply.Granted x) does = absurd does
   hello_valid h is_h (reply.Released x) does = absurd does

@@ -15,7 +15,7 @@ use Rattle.quantum_cache.specs.Caches.{rest_of_chain, chain_up, chain_in}
 use Rattle.stock.specs.Spaces.{SpaceState, plan_of, plans_of}
 use Rattle.stock.specs.Setups.{plan_for, plans_for}
 use Rattle.lease_machine.specs.Picture.{Picture, IsPicture}
-use Rattle.lease_machine.specs.Moves.{HasBase, HasBaseUp}
+use Rattle.local_calls.specs.NoFits.{HasBase, HasBaseUp}
 use Rattle.lease_machine.specs.Serving.{CanServe}
 
 any_default : (xs : List Holding) (k : ℕ) (x y : Holding) → k < length xs → get_or xs k x ≡ get_or xs k y

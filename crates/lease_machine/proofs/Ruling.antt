@@ -21,7 +21,7 @@ use Rattle.lease_proto.specs.declared.replies.Reply.TheVariants as reply
 use Rattle.lease_book.specs.Entry.{Grant}
 use Rattle.lease_history.specs.Told.{reply_to}
 use Rattle.lease_machine.specs.Picture.{Picture, IsPicture, arena_named}
-use Rattle.lease_machine.specs.Moves.{HasBase}
+use Rattle.local_calls.specs.NoFits.{HasBase}
 use Rattle.lease_proto.specs.Operators.{served_of}
 use Rattle.lease_machine.specs.Serving.{CanServe}
 use Rattle.lease_machine.specs.Replies.{SettlesRefusal}
@@ -29,14 +29,14 @@ use Rattle.lease_machine.specs.Machine.{NewLease, NewRelease, NewRequest, Refuse
 use Rattle.lease_machine.specs.AnswerLaws.{IsKept}
 use Rattle.lease_machine.specs.LeaseLaws.{grant_told}
 use Rattle.lease_machine.specs.RoomLaws.{HasRun}
-use Rattle.lease_machine.specs.Rules.{NothingServes, WhyNoLease, LeaseRule, WhyNoRelease, ReleaseRule, RequestRule, HelloRule, IsLastReply, StepsKeepRules, RunsKeepRules}
+use Rattle.lease_machine.specs.Rules.{NothingServes, WhyNoLease, LeaseRule, ReleaseRule, RequestRule, HelloRule, IsLastReply, StepsKeepRules, RunsKeepRules}
 use Rattle.lease_machine.proofs.Homes.{leases_are_apart, units_have_one_home}
 use Rattle.lease_machine.proofs.Repeats.{history_of, request_answer, request_kept, operator_keeps, answer_keeps}
 use Rattle.lease_machine.proofs.Fitting.{not_known}
 use Rattle.lease_machine.proofs.Rooms.{run_serves, base_serves}
 use Rattle.lease_machine.proofs.NoRoom.{runs_up}
 use Rattle.lease_machine.proofs.CachedReach.{grants_were_reachable}
-use Rattle.lease_machine.proofs.Leases.{leases_move, lease_moves, release_moves, hello_moves, welcome_moves, settled_becomes, answer_to}
+use Rattle.lease_machine.proofs.Leases.{lease_moves, release_moves, hello_moves, welcome_moves, welcome_numbers, settled_becomes, answer_to}
 
 nothing_serves : (old : Picture) (index : ℕ) (x : TreeArena) (l : LeaseLine) → IsPicture old → slice_get old.tree index ≡ Some x → ¬ CanServe old index x (demand_of l) → NothingServes index x l old
 nothing_serves old index x l is here none = record {
@@ -90,18 +90,11 @@ lease_rule old new id l is (reply.Gap x) does = does
 lease_rule old new id l is (reply.Welcome x) does = does
 lease_rule old new id l is (reply.Error x) does = does
 
-why_no_release : (id : RequestId) (l : ReleaseLine) (old : Picture) (why : Refusal) → RefusesRelease id l old why → WhyNoRelease id l old why
-why_no_release id l old NoArena does = does
-why_no_release id l old NotYours does = does
-why_no_release id l old NoFit does = does
-why_no_release id l old BadRequest does = does
-why_no_release id l old Leases does = does
-
 release_rule : (old new : Picture) (id : RequestId) (l : ReleaseLine) → IsPicture old → (r : Reply) → NewRelease id l old new r → ReleaseRule id l old r new
 release_rule old new id l is (reply.Released p) does = release_moves old new id l is (reply.Released p) does
 release_rule old new id l is (reply.Refused x) does =
     let so = refused_so old new id does.0 x does.1 in
-    (so.0, subst (WhyNoRelease id l old) so.1 (why_no_release id l old does.0 does.2), release_moves old new id l is (reply.Refused x) does)
+    (so.0, subst (RefusesRelease id l old) so.1 does.2, release_moves old new id l is (reply.Refused x) does)
 release_rule old new id l is (reply.Granted x) does = does
 release_rule old new id l is (reply.Again x) does = does
 release_rule old new id l is (reply.Old x) does = does
@@ -115,7 +108,15 @@ request_rule old new id (ops.Lease l) is r does = lease_rule old new id l is r d
 request_rule old new id (ops.Release l) is r does = release_rule old new id l is r does
 
 hello_rule : (old new : Picture) (h : HelloLine) → IsPicture old → (r : Reply) → HelloStep h old new r → HelloRule h old r new
-hello_rule old new h is (reply.Welcome w) does = (does.1.current, (welcome_moves old new h.client h.incarnation is does.1).0, hello_moves old new h is (reply.Welcome w) does)
+hello_rule old new h is (reply.Welcome w) does = (
+  record {
+    current = does.1.current;
+    becomes = (welcome_moves old new h.client h.incarnation is does.1).0;
+    anew = λ above. (welcome_numbers old new h.client h.incarnation is does.1).0 above;
+    goes_on = λ same. (welcome_numbers old new h.client h.incarnation is does.1).1 same;
+  },
+  hello_moves old new h is (reply.Welcome w) does,
+)
 hello_rule old new h is (reply.Old o) does = does
 hello_rule old new h is (reply.Again a) does = does
 hello_rule old new h is (reply.Granted x) does = does

@@ -3,13 +3,18 @@
 use Rattle.deed_core.specs.Tag.{Tag}
 use Rattle.lease_machine.proofs.CpuRows.{all_back, all_front, each_all}
 use Rattle.lease_machine.proofs.Focus.{size_some}
-use Rattle.lease_machine.specs.Chunks.{KeepsOwn, LacksRounds, TakesOwn}
+use Rattle.lease_machine.specs.Chunks.{AnswersRound}
 use Rattle.magazine_layer.specs.Depots.{DepotState, SwapsForFull, all_rounds}
 use Rattle.magazine_layer.specs.Magazines.{BothEmpty, BothFull, CpuCacheState, IsShaped, IsSize, Pops, Pushes, after_change, cache_rounds, with_rounds}
 use Rattle.magazine_layer.specs.Magazines.Pops.{Of_loaded, Of_previous}
 use Rattle.magazine_layer.specs.Magazines.Pushes.{On_loaded, On_previous}
 use Rattle.magazine_layer.specs.Rounds.{CpuDepot, MakesRoom, cpu_depot}
+use Rattle.magazine_layer.specs.Rounds.GivesRound.{Made, No_room, Own_given}
 use Rattle.magazine_layer.specs.Rounds.MakesRoom.{By_change, By_empty, By_new}
+use Rattle.magazine_layer.specs.Rounds.TakesRound.{None_full, Old_size, Own_taken, Swapped}
+use Rattle.magazine_layer.specs.declared.rounds.RoundAnswer.{RoundAnswer}
+use Rattle.magazine_layer.specs.declared.rounds.RoundAnswer.TheVariants.{Kept, Nothing, Refused, Taken}
+use Rattle.magazine_layer.specs.declared.rounds.RoundOp.TheVariants.{Give, Take}
 use Rattle.std.proofs.Common.{All, List, [], ap, arith, inl, inr, length, length-append, refl, subst, sym, ℕ, ◌++◌, ◌+◌, ◌<◌, ◌∙◌, ◌∷◌, ◌≡◌, ◌≢◌, ◌≤◌, ◌⊎◌}
 use Rattle.std.proofs.lemmas.List.Elements.{All-append, All-cons, All-head, All-nil}
 
@@ -36,6 +41,39 @@ double a b (inr (inr (inr p))) (inl q) less = omega (arith, p, q, less)
 double a b (inr (inr (inr p))) (inr (inl q)) less = omega (arith, p, q, less)
 double a b (inr (inr (inr p))) (inr (inr (inl q))) less = omega (arith, p, q, less)
 double a b (inr (inr (inr p))) (inr (inr (inr q))) less = omega (arith, p, q, less)
+
+abbrev cpu_of : CpuDepot → CpuCacheState
+cpu_of s = s.cpu
+
+-- one answer is no other
+abbrev tag_in : Tag → RoundAnswer Tag → Tag
+tag_in other (Taken t) = t
+tag_in other Kept = other
+tag_in other (Refused t) = other
+tag_in other Nothing = other
+
+nothing_not_taken : (t : Tag) → ◌≡◌ {A = RoundAnswer Tag} Nothing (Taken t) → ⊥
+nothing_not_taken t e = cc
+
+taken_not_nothing : (t : Tag) → ◌≡◌ {A = RoundAnswer Tag} (Taken t) Nothing → ⊥
+taken_not_nothing t e = cc
+
+kept_not_refused : (t : Tag) → ◌≡◌ {A = RoundAnswer Tag} Kept (Refused t) → ⊥
+kept_not_refused t e = cc
+
+-- the round that was taken is the CPU's, or of a full magazine of the depot's
+pub round_taken : (t : Tag) (x y : CpuCacheState) (d e : DepotState) → AnswersRound Take (Taken t) d e x y → Pops t x y ⊎ (BothEmpty x × ((c : CpuCacheState) × SwapsForFull x d c e × Pops t c y))
+round_taken t x y d e (count, Own_taken z pops same told none) = inl (subst (λ u. Pops u x y) (sym (ap (tag_in t) told)) pops)
+round_taken t x y d e (count, Swapped z c empty swaps pops told one) = inr (empty, (c, swaps, subst (λ u. Pops u c y) (sym (ap (tag_in t) told)) pops))
+round_taken t x y d e (count, None_full empty same none after told none_made) = absurd (taken_not_nothing t told)
+round_taken t x y d e (count, Old_size empty ne after told none_made) = absurd (taken_not_nothing t told)
+
+-- where there is none, the CPU has none, and the depot no full magazine of the CPU's size
+pub no_round : (x y : CpuCacheState) (d e : DepotState) → AnswersRound Take Nothing d e x y → BothEmpty x × (x.size ≡ d.size → d.full ≡ [])
+no_round x y d e (count, Own_taken t pops same told none) = absurd (nothing_not_taken t told)
+no_round x y d e (count, Swapped t c empty swaps pops told one) = absurd (nothing_not_taken t told)
+no_round x y d e (count, None_full empty same none after told none_made) = (empty, λ is. none)
+no_round x y d e (count, Old_size empty ne after told none_made) = (empty, λ is. absurd (ne is))
 
 length-last : (ts : List Tag) (t : Tag) → length (ts ++ t ∷ []) ≡ length ts + 1
 length-last ts t = length-append ts (t ∷ [])
@@ -104,11 +142,10 @@ module _ (P : Tag → Type 0) (size : ℕ) where
       let changed : y ≡ after_change size x = ap (λ (z : CpuDepot). z.cpu) after ∙ ap (λ n. after_change n x) is in
       subst (FitsFor P size) (sym changed) (changed_fit x fits sized (λ e. ne (e ∙ sym is)))
 
-  pub keeps_fit : (t : Tag) (x y : CpuCacheState) (d e : DepotState) → d.size ≡ size → IsSize size → P t → FitsFor P size x → KeepsOwn t x d y e → FitsFor P size y
-  keeps_fit t x y d e is sized so fits keeps = elim keeps [
-    | inl pushes ↦ pushes_fit t x y so fits pushes.0
-    | inr made ↦ pushes_fit t made.1.0 y so (room_fits x made.1.0 d e made.1.1 is sized fits made.0 made.1.2) made.1.3
-  ]
+  pub keeps_fit : (t : Tag) (x y : CpuCacheState) (d e : DepotState) → d.size ≡ size → IsSize size → P t → FitsFor P size x → AnswersRound (Give t) Kept d e x y → FitsFor P size y
+  keeps_fit t x y d e is sized so fits (count, Own_given pushes same told none) = pushes_fit t x y so fits pushes
+  keeps_fit t x y d e is sized so fits (count, Made made full makes pushes same told) = pushes_fit t made.cpu y so (room_fits x made.cpu d made.depot count is sized fits full makes) pushes
+  keeps_fit t x y d e is sized so fits (count, No_room full memory same told none) = absurd (kept_not_refused t told)
 
   -- a full magazine came
   full_fits : (x y : CpuCacheState) (d e : DepotState) → FitsFor P size x → BothEmpty x → All P (all_rounds d.full) → SwapsForFull x d y e → FitsFor P size y
@@ -119,17 +156,16 @@ module _ (P : Tag → Type 0) (size : ℕ) where
       let whole : length y.loaded ≡ x.size = swaps.whole in
       subst (FitsFor P size) (sym swaps.cache) (built x y.loaded x.loaded fits.shape.sized fits.most (omega (arith, whole)) (inl none) rounds (all_loaded x fits))
 
-  pub takes_fit : (t : Tag) (x y : CpuCacheState) (d e : DepotState) → All P (all_rounds d.full) → FitsFor P size x → TakesOwn t x d y e → FitsFor P size y
-  takes_fit t x y d e all fits takes = elim takes [
-    | inl pops ↦ pops_fit t x y fits pops.0
+  pub takes_fit : (t : Tag) (x y : CpuCacheState) (d e : DepotState) → All P (all_rounds d.full) → FitsFor P size x → AnswersRound Take (Taken t) d e x y → FitsFor P size y
+  takes_fit t x y d e all fits takes = elim (round_taken t x y d e takes) [
+    | inl pops ↦ pops_fit t x y fits pops
     | inr swapped ↦ pops_fit t swapped.1.0 y (full_fits x swapped.1.0 d e fits swapped.0 all swapped.1.1) swapped.1.2
   ]
 
-  pub lacks_fit : (x y : CpuCacheState) (d : DepotState) → d.size ≡ size → IsSize size → FitsFor P size x → LacksRounds d x y → FitsFor P size y
-  lacks_fit x y d is sized fits lacks = elim lacks.1 [
-    | inl same ↦ subst (FitsFor P size) (sym same.2) fits
-    | inr other ↦ elim other.1 [
-      | inl same ↦ subst (FitsFor P size) (sym same) fits
-      | inr over ↦ subst (FitsFor P size) (sym (over ∙ ap (λ n. after_change n x) is)) (changed_fit x fits sized (λ e. other.0 (e ∙ sym is)))
-    ]
-  ]
+  pub lacks_fit : (x y : CpuCacheState) (d : DepotState) → d.size ≡ size → IsSize size → FitsFor P size x → AnswersRound Take Nothing d d x y → FitsFor P size y
+  lacks_fit x y d is sized fits (count, Own_taken t pops same told none) = absurd (nothing_not_taken t told)
+  lacks_fit x y d is sized fits (count, Swapped t c empty swaps pops told one) = absurd (nothing_not_taken t told)
+  lacks_fit x y d is sized fits (count, None_full empty same none after told none_made) = subst (FitsFor P size) (sym (ap cpu_of after)) fits
+  lacks_fit x y d is sized fits (count, Old_size empty ne (inl after) told none_made) = subst (FitsFor P size) (sym (ap cpu_of after)) fits
+  lacks_fit x y d is sized fits (count, Old_size empty ne (inr after) told none_made) =
+      subst (FitsFor P size) (sym (ap cpu_of after ∙ ap (λ n. after_change n x) is)) (changed_fit x fits sized (λ e. ne (e ∙ sym is)))

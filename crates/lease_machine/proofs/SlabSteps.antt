@@ -5,7 +5,9 @@ use Rattle.arena_tree.specs.Events.{SlabAdd}
 use Rattle.arena_tree.specs.Plans.{Done, first_that_gives, or_else}
 use Rattle.arena_tree.specs.Trees.{nodes_of}
 use Rattle.arena_tree.specs.declared.levels.Level.{Level}
-use Rattle.arena_tree.specs.declared.part_faults.SlabAddFault.{SlabAddFault}
+use Rattle.arena_tree.specs.declared.part_faults.GivenFault.{GivenFault}
+use Rattle.arena_tree.specs.declared.part_faults.GivenFault.TheVariants as giving
+use Rattle.tag_arena.specs.declared.faults.ArenaFault.TheVariants as carving
 use Rattle.arena_tree.specs.declared.trees.TreeArena.{TreeArena}
 use Rattle.deed_core.proofs.LawProofs.{set_same}
 use Rattle.deed_core.specs.Tag.{Tag}
@@ -13,13 +15,16 @@ use Rattle.lease_machine.proofs.AllocSteps as stages
 use Rattle.lease_machine.proofs.ClimbSteps.{Climbings, IsStuck, climb_cpu, climb_ends, climbs_has, gives_back, gives_back_cpu}
 use Rattle.lease_machine.proofs.Focus.{Focus, itself, there}
 use Rattle.lease_machine.proofs.FreeLaws.{seen}
-use Rattle.lease_machine.specs.Chunks.{LacksRounds}
-use Rattle.lease_machine.specs.Moves.{Climbs, ClimbsInVain, HasBaseUp, Returns}
+use Rattle.lease_machine.specs.Chunks.{AnswersRound}
+use Rattle.local_calls.specs.NoFits.{HasBaseUp}
+use Rattle.lease_machine.specs.Moves.{Climbs, ClimbsInVain, Returns}
 use Rattle.local_calls.specs.Runs.{RunsTo, SoundStep}
 use Rattle.local_parts.proofs.LawProofs.{plan_keeps_stock}
 use Rattle.local_parts.specs.States.{LocalState}
-use Rattle.local_parts.specs.Words.{add_word, wording_of}
+use Rattle.arena_tree.specs.Tags.{wording_of}
 use Rattle.magazine_layer.specs.Magazines.{CpuCacheState, IsSize}
+use Rattle.magazine_layer.specs.declared.rounds.RoundAnswer.TheVariants.{Nothing}
+use Rattle.magazine_layer.specs.declared.rounds.RoundOp.TheVariants.{Take}
 use Rattle.quantum_cache.specs.Allocs.{Stage, alloc_cached, make_slab, on_slab_add, on_slab_climb, take_chunk, take_from_depot, take_from_slab, take_round}
 use Rattle.slab_layer.specs.Cache.{SlabCacheState}
 use Rattle.slab_layer.specs.Calls.{AddOf, TakeOf}
@@ -31,13 +36,12 @@ use Rattle.stock.specs.Steps.{OnSlab}
 use Rattle.stock.specs.Stocks.{IsStock}
 use Rattle.slab_layer.specs.declared.faults.AddFault.TheVariants as add_fault
 use Rattle.arena_tree.specs.declared.part_faults.ClimbFault.TheVariants as climbing
-use Rattle.arena_tree.specs.declared.part_faults.SlabAddFault.TheVariants as slabbing
 
 -- a slab that isn't added leaves all as it was
-refusal_same : (k j : ℕ) (span : Tag) (old new : List SpaceState) (r : Result Tag (AddFault Tag)) (x : SlabAddFault Tag) → Err x ≡ wording_of add_word r → OnSlab k j (λ a b. AddOf a span r b) old new → new ≡ old
+refusal_same : (k j : ℕ) (span : Tag) (old new : List SpaceState) (r : Result Tag (AddFault Tag)) (x : GivenFault (AddFault Tag) Tag) → Err x ≡ wording_of giving.Refused r → OnSlab k j (λ a b. AddOf a span r b) old new → new ≡ old
 refusal_same k j span old new r x told on = on.after ∙ (ap (set old k) (cache (by r told on.does)) ∙ set_same old k on.space on.at)
   where
-    by : (r : Result Tag (AddFault Tag)) → Err x ≡ wording_of add_word r → AddOf on.cache.slab span r on.slab → on.slab ≡ on.cache.slab
+    by : (r : Result Tag (AddFault Tag)) → Err x ≡ wording_of giving.Refused r → AddOf on.cache.slab span r on.slab → on.slab ≡ on.cache.slab
     by (Ok t) e does = absurd (let z : Err x ≡ Ok t = e in cc)
     by (Err (add_fault.WrongSize t)) e does = does.1.unchanged
     by (Err (add_fault.Overlaps t)) e does = does.2.unchanged
@@ -46,9 +50,9 @@ refusal_same k j span old new r x told on = on.after ∙ (ap (set old k) (cache 
     cache : on.slab ≡ on.cache.slab → with_cache j (with_slab on.slab on.cache) on.space ≡ on.space
     cache same = ap (λ z. with_cache j (with_slab z on.cache) on.space) same ∙ ap (λ cs. record { arena = on.space.arena; source = on.space.source; caches = cs }) (set_same on.space.caches j on.cache on.among)
 
-told_ok : (r : Result Tag (AddFault Tag)) (t : Tag) → Ok t ≡ wording_of add_word r → r ≡ Ok t
+told_ok : (r : Result Tag (AddFault Tag)) (t : Tag) → Ok t ≡ wording_of {F = GivenFault (AddFault Tag) Tag} giving.Refused r → r ≡ Ok t
 told_ok (Ok y) t e = (let x : Ok t ≡ Ok y = e in let same : t ≡ y = cc in ap Ok (sym same))
-told_ok (Err f) t e = absurd (let x : Ok t ≡ Err (add_word f) = e in cc)
+told_ok (Err f) t e = absurd (let x : Ok t ≡ Err (giving.Refused f) = e in cc)
 
 module _ (arenas : List TreeArena) (chain : List Level) (l : Level) (size j : ℕ) where
   -- the first chunk of a slab, whose span was climbed for; the stock's laws hold between
@@ -58,9 +62,9 @@ module _ (arenas : List TreeArena) (chain : List Level) (l : Level) (size j : �
   -- by the answer
   abbrev pub LastStages : ClimbEnd → List SpaceState → List SpaceState → Type 0
   LastStages (Ok t) old new = IsCut t old new ⊎ ((¬ HasBaseUp old chain l.slab_size) × Climbs chain size t old new)
-  LastStages (Err climbing.BadRequest) old new = Unit {0}
-  LastStages (Err climbing.NoFit) old new = (¬ HasBaseUp old chain l.slab_size) × (¬ HasBaseUp old chain size) × (new ≡ old)
-  LastStages (Err climbing.NoMemory) old new = (HasBaseUp old chain l.slab_size × ClimbsInVain chain l.slab_size old new)
+  LastStages (Err (climbing.Refused carving.BadRequest)) old new = Unit {0}
+  LastStages (Err (climbing.Refused carving.NoFit)) old new = (¬ HasBaseUp old chain l.slab_size) × (¬ HasBaseUp old chain size) × (new ≡ old)
+  LastStages (Err (climbing.Refused carving.NoMemory)) old new = (HasBaseUp old chain l.slab_size × ClimbsInVain chain l.slab_size old new)
       ⊎ ((¬ HasBaseUp old chain l.slab_size) × HasBaseUp old chain size × ClimbsInVain chain size old new)
   LastStages (Err (climbing.Stuck t)) old new = Unit {0}
   LastStages (Err (climbing.Stopped o)) old new = Unit {0}
@@ -77,7 +81,7 @@ module _ (arenas : List TreeArena) (chain : List Level) (l : Level) (size j : �
     vain [] climbs returns = absurd climbs
     vain (z ∷ zs) climbs returns = inr (inl (span, m.spaces, climbs, returns))
 
-    slab_made : (b : Result Tag (SlabAddFault Tag)) (n : LocalState) → IsStock old → IsStock m.spaces → Climbs chain l.slab_size span old m.spaces
+    slab_made : (b : Result Tag (GivenFault (AddFault Tag) Tag)) (n : LocalState) → IsStock old → IsStock m.spaces → Climbs chain l.slab_size span old m.spaces
         → SoundStep (nodes_of arenas) m (SlabAdd l.id (j + 1) span) b n → RunsTo arenas (on_slab_add chain b) n new a → LastStages a old new.spaces
     slab_made (Ok t) n law mid climbs step end = elim step.step.does.0 [
       | inl on ↦
@@ -85,12 +89,12 @@ module _ (arenas : List TreeArena) (chain : List Level) (l : Level) (size j : �
           let slab : OnSlab l.id j (λ x y. AddOf x span on.2.0 y) m.spaces n.spaces = subst (λ i. OnSlab l.id i (λ x y. AddOf x span on.2.0 y) m.spaces n.spaces) here on.2.2 in
           let made : OnSlab l.id j (λ x y. AddOf x span (Ok t) y) m.spaces n.spaces = subst (λ r. OnSlab l.id j (λ x y. AddOf x span r y) m.spaces n.spaces) (told_ok on.2.0 t on.2.1) slab in
           subst (λ z. LastStages z old new.spaces) end.1 (inl (span, m.spaces, climbs, subst (λ (z : LocalState). OnSlab l.id j (λ x y. AddOf x span (Ok t) y) m.spaces z.spaces) end.0 made, mid))
-      | inr none ↦ absurd (let e : Ok t ≡ Err (slabbing.WrongSize span) = none.1.0 in cc)
+      | inr none ↦ absurd (let e : Ok t ≡ Err (giving.Refused (add_fault.WrongSize span)) = none.1.0 in cc)
     ]
-    slab_made (Err (slabbing.NoMemory t)) n law mid climbs step end =
+    slab_made (Err (giving.Refused (add_fault.NoMemory t))) n law mid climbs step end =
         let same : t ≡ span = step.sound.1 in
         let state : n.spaces ≡ m.spaces = (elim step.step.does.0 [
-          | inl on ↦ refusal_same l.id on.0 span m.spaces n.spaces on.2.0 (slabbing.NoMemory t) on.2.1 on.2.2
+          | inl on ↦ refusal_same l.id on.0 span m.spaces n.spaces on.2.0 (giving.Refused (add_fault.NoMemory t)) on.2.1 on.2.2
           | inr none ↦ none.1.1
         ]) in
         elim (gives_back arenas chain t n new a end) [
@@ -99,16 +103,16 @@ module _ (arenas : List TreeArena) (chain : List Level) (l : Level) (size j : �
               subst (λ z. LastStages z old new.spaces) (sym back.0) (inl (climbs_has chain l.slab_size span old m.spaces law climbs, vain chain climbs returns))
           | inr stuck ↦ nothing_said stuck
         ]
-    slab_made (Err (slabbing.WrongSize t)) n law mid climbs step end = nothing_said (t, inl (sym end.1))
-    slab_made (Err (slabbing.Overlaps t)) n law mid climbs step end = nothing_said (t, inl (sym end.1))
-    slab_made (Err (slabbing.Stopped t)) n law mid climbs step end = nothing_said (t, inr (sym end.1))
+    slab_made (Err (giving.Refused (add_fault.WrongSize t))) n law mid climbs step end = nothing_said (t, inl (sym end.1))
+    slab_made (Err (giving.Refused (add_fault.Overlaps t))) n law mid climbs step end = nothing_said (t, inl (sym end.1))
+    slab_made (Err (giving.Stopped t)) n law mid climbs step end = nothing_said (t, inr (sym end.1))
 
-    slab_cpu : (b : Result Tag (SlabAddFault Tag)) (n : LocalState) → n.cpu ≡ m.cpu → RunsTo arenas (on_slab_add chain b) n new a → new.cpu ≡ m.cpu
+    slab_cpu : (b : Result Tag (GivenFault (AddFault Tag) Tag)) (n : LocalState) → n.cpu ≡ m.cpu → RunsTo arenas (on_slab_add chain b) n new a → new.cpu ≡ m.cpu
     slab_cpu (Ok t) n same end = ap (λ (z : LocalState). z.cpu) (sym end.0) ∙ same
-    slab_cpu (Err (slabbing.NoMemory t)) n same end = gives_back_cpu arenas chain t n new a end ∙ same
-    slab_cpu (Err (slabbing.WrongSize t)) n same end = ap (λ (z : LocalState). z.cpu) (sym end.0) ∙ same
-    slab_cpu (Err (slabbing.Overlaps t)) n same end = ap (λ (z : LocalState). z.cpu) (sym end.0) ∙ same
-    slab_cpu (Err (slabbing.Stopped t)) n same end = ap (λ (z : LocalState). z.cpu) (sym end.0) ∙ same
+    slab_cpu (Err (giving.Refused (add_fault.NoMemory t))) n same end = gives_back_cpu arenas chain t n new a end ∙ same
+    slab_cpu (Err (giving.Refused (add_fault.WrongSize t))) n same end = ap (λ (z : LocalState). z.cpu) (sym end.0) ∙ same
+    slab_cpu (Err (giving.Refused (add_fault.Overlaps t))) n same end = ap (λ (z : LocalState). z.cpu) (sym end.0) ∙ same
+    slab_cpu (Err (giving.Stopped t)) n same end = ap (λ (z : LocalState). z.cpu) (sym end.0) ∙ same
 
     span_cut : IsStock old → IsStock m.spaces → Climbs chain l.slab_size span old m.spaces → RunsTo arenas (make_slab chain l.id (j + 1) span) m new a → LastStages a old new.spaces × (new.cpu ≡ m.cpu)
     unfolding make_slab
@@ -134,18 +138,18 @@ module _ (arenas : List TreeArena) (chain : List Level) (l : Level) (size j : �
           let split = path_split (SoundStep (nodes_of arenas)) (make_slab chain l.id (j + 1) span) (λ a. Done (Some a)) m new r rest in
           let cut = span_cut span old.spaces m split.0 split.1 law mid on split.2 in
           ended split.0 split.1 (cut.1 ∙ cpu) split.3.0 split.3.1 cut.0
-      by m (Err climbing.NoFit) on cpu mid rest = inr (sym rest.1, on.0, ap (λ (z : LocalState). z.spaces) (sym rest.0) ∙ on.1, ap (λ (z : LocalState). z.cpu) (sym rest.0) ∙ cpu)
-      by m (Err climbing.BadRequest) on cpu mid rest = ended m (Err climbing.BadRequest) cpu rest.0 rest.1 tt
-      by m (Err climbing.NoMemory) on cpu mid rest = ended m (Err climbing.NoMemory) cpu rest.0 rest.1 (inl (on.0, on.1))
+      by m (Err (climbing.Refused carving.NoFit)) on cpu mid rest = inr (sym rest.1, on.0, ap (λ (z : LocalState). z.spaces) (sym rest.0) ∙ on.1, ap (λ (z : LocalState). z.cpu) (sym rest.0) ∙ cpu)
+      by m (Err (climbing.Refused carving.BadRequest)) on cpu mid rest = ended m (Err (climbing.Refused carving.BadRequest)) cpu rest.0 rest.1 tt
+      by m (Err (climbing.Refused carving.NoMemory)) on cpu mid rest = ended m (Err (climbing.Refused carving.NoMemory)) cpu rest.0 rest.1 (inl (on.0, on.1))
       by m (Err (climbing.Stuck t)) on cpu mid rest = ended m (Err (climbing.Stuck t)) cpu rest.0 rest.1 tt
       by m (Err (climbing.Stopped o)) on cpu mid rest = ended m (Err (climbing.Stopped o)) cpu rest.0 rest.1 tt
 
   -- the last
   size_stage : (a : ClimbEnd) (old new : List SpaceState) → (¬ HasBaseUp old chain l.slab_size) → Climbings chain size a old new → LastStages a old new
   size_stage (Ok t) old new none on = inr (none, on)
-  size_stage (Err climbing.BadRequest) old new none on = tt
-  size_stage (Err climbing.NoFit) old new none on = (none, on.0, on.1)
-  size_stage (Err climbing.NoMemory) old new none on = inr (none, on.0, on.1)
+  size_stage (Err (climbing.Refused carving.BadRequest)) old new none on = tt
+  size_stage (Err (climbing.Refused carving.NoFit)) old new none on = (none, on.0, on.1)
+  size_stage (Err (climbing.Refused carving.NoMemory)) old new none on = inr (none, on.0, on.1)
   size_stage (Err (climbing.Stuck t)) old new none on = tt
   size_stage (Err (climbing.Stopped o)) old new none on = tt
 
@@ -155,11 +159,11 @@ module _ (arenas : List TreeArena) (chain : List Level) (l : Level) (size j : �
 
     -- an idle chunk
     abbrev pub IsIdle : Tag → LocalState → Type 0
-    IsIdle t new = (y : CpuCacheState) × (x : SlabCacheState) × (new ≡ there s l.id j f y (with_slab x f.cache)) × LacksRounds f.cache.depot f.own.cpu y × TakeOf f.cache.slab (Some t) x
+    IsIdle t new = (y : CpuCacheState) × (x : SlabCacheState) × (new ≡ there s l.id j f y (with_slab x f.cache)) × AnswersRound Take Nothing f.cache.depot f.cache.depot f.own.cpu y × TakeOf f.cache.slab (Some t) x
 
     -- there is none either
     abbrev pub IsLast : ClimbEnd → LocalState → Type 0
-    IsLast a new = (y : CpuCacheState) × LacksRounds f.cache.depot f.own.cpu y × All IsAllOut f.cache.slab.slabs × (new.cpu ≡ (here y).cpu) × LastStages a s.spaces new.spaces
+    IsLast a new = (y : CpuCacheState) × AnswersRound Take Nothing f.cache.depot f.cache.depot f.own.cpu y × All IsAllOut f.cache.slab.slabs × (new.cpu ≡ (here y).cpu) × LastStages a s.spaces new.spaces
 
     abbrev pub Ends : ClimbEnd → LocalState → Type 0
     Ends a new = ((t : Tag) × (a ≡ Ok t) × stages.IsRound arenas s l.id j f sized t new) ⊎ ((t : Tag) × (a ≡ Ok t) × IsIdle t new) ⊎ IsLast a new
@@ -167,7 +171,7 @@ module _ (arenas : List TreeArena) (chain : List Level) (l : Level) (size j : �
     spaces_here : (y : CpuCacheState) → (here y).spaces ≡ s.spaces
     spaces_here y = ap (λ (z : LocalState). z.spaces) (sym (itself s l.id j f))
 
-    last_stages : (y : CpuCacheState) (m new : LocalState) (a : ClimbEnd) → LacksRounds f.cache.depot f.own.cpu y → All IsAllOut f.cache.slab.slabs → m ≡ here y
+    last_stages : (y : CpuCacheState) (m new : LocalState) (a : ClimbEnd) → AnswersRound Take Nothing f.cache.depot f.cache.depot f.own.cpu y → All IsAllOut f.cache.slab.slabs → m ≡ here y
         → RunsTo arenas (first_that_gives (take_from_slab chain l (j + 1) ∷ []) (climb_plan chain size)) m new a → IsLast a new
     last_stages y m new a lacks out state path =
         let spaces : m.spaces ≡ s.spaces = ap (λ (z : LocalState). z.spaces) state ∙ spaces_here y in
@@ -187,7 +191,7 @@ module _ (arenas : List TreeArena) (chain : List Level) (l : Level) (size j : �
               (y, lacks, out, climb_cpu arenas chain size p.0 new a rest ∙ (none.3 ∙ cpu), size_stage a s.spaces new.spaces has on)
         ]
 
-    chunk_stages : (y : CpuCacheState) (m new : LocalState) (a : ClimbEnd) → LacksRounds f.cache.depot f.own.cpu y → m ≡ here y
+    chunk_stages : (y : CpuCacheState) (m new : LocalState) (a : ClimbEnd) → AnswersRound Take Nothing f.cache.depot f.cache.depot f.own.cpu y → m ≡ here y
         → RunsTo arenas (first_that_gives (take_chunk l.id (j + 1) ∷ take_from_slab chain l (j + 1) ∷ []) (climb_plan chain size)) m new a → Ends a new
     chunk_stages y m new a lacks state path =
         let p = path_split (SoundStep (nodes_of arenas)) (take_chunk l.id (j + 1)) (or_else (first_that_gives (take_from_slab chain l (j + 1) ∷ []) (climb_plan chain size))) m new a path in

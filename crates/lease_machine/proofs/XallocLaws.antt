@@ -1,7 +1,10 @@
 -- What becomes of a constrained request.
 -- what a list of steps leaves is held
 use Rattle.arena_tree.specs.Plans.{Handles, Plan}
-use Rattle.arena_tree.specs.declared.part_faults.CarveFault.{CarveFault}
+use Rattle.arena_tree.specs.declared.part_faults.PartFault.{PartFault}
+use Rattle.tag_arena.specs.declared.faults.ArenaFault.{ArenaFault}
+use Rattle.arena_tree.specs.declared.part_faults.PartFault.TheVariants as asking
+use Rattle.tag_arena.specs.declared.faults.ArenaFault.TheVariants as carving
 use Rattle.arena_tree.specs.declared.trees.TreeArena.{TreeArena}
 use Rattle.deed_core.proofs.LawProofs.{mapped, slice_get_mapped}
 use Rattle.deed_core.specs.Request.{Fits, IsGood, IsPlain}
@@ -25,7 +28,6 @@ use Rattle.std.proofs.Common.{Err, None, Ok, Option, Result, Some, [], ap, find,
 use Rattle.stock.specs.Setups.{plan_for}
 use Rattle.stock.specs.Spaces.{SpaceState, plan_of, plans_of}
 use Rattle.stock.specs.Stocks.{IsStock}
-use Rattle.arena_tree.specs.declared.part_faults.CarveFault.TheVariants as carving
 
 module _ {A : Type 0} (left : A → Option Tag) (p : Plan A) (d : Picture) (n : ℕ) (c : NumberedCpu) (found : find (is_cpu n) d.cpus ≡ Some c) (hand : Option Tag) (held : IsHeld (hands_of hand) d) (handles : Handles left p hand) (s : LocalState) (a : A) (run : RunsTo d.tree p (reach d n c found hand held) s a) where
   pub last_after : all_last s.spaces ≡ all_last d.spaces
@@ -64,14 +66,14 @@ module _ (d : Picture) (index : ℕ) (x : TreeArena) (q : Request) (s : LocalSta
       let m = mapped plan_of d.spaces index (plan_for x) one in
       (m.0, m.1)
 
-  module _ (constrained : ¬ IsPlain q) (a : Result Tag CarveFault) (run : RunsTo d.tree (xalloc_plan index q) (reach d d.selected c found None held) s a) where
+  module _ (constrained : ¬ IsPlain q) (a : Result Tag (PartFault ArenaFault)) (run : RunsTo d.tree (xalloc_plan index q) (reach d d.selected c found None held) s a) where
     cpu_same : s.cpu ≡ c.caches
     cpu_same = ap (λ (z : LocalState). z.cpu) (sym run.3.0) ∙ run.2.step.does.1
 
     carvings : Carvings d.spaces s.spaces index q held.units.parts a
     carvings = subst (λ (z : LocalState). Carvings d.spaces z.spaces index q held.units.parts a) run.3.0 (does_carve d.spaces run.0.spaces index q held.units.parts a (subst (λ z. DoesCarve d.spaces index q z run.0.spaces) run.3.1 run.2.step.does.0))
 
-    by : (b : Result Tag CarveFault) → a ≡ b → Carvings d.spaces s.spaces index q held.units.parts b → IsCarvedFor index x q d b (with_parts s d)
+    by : (b : Result Tag (PartFault ArenaFault)) → a ≡ b → Carvings d.spaces s.spaces index q held.units.parts b → IsCarvedFor index x q d b (with_parts s d)
     by (Ok t) is on =
         let after = held_same carve_left (xalloc_plan index q) d d.selected c found None held (xalloc_handles index q) s a run cpu_same in
         let home : on.space.arena.id ≡ index = (held.units.parts index on.space on.at).id in (
@@ -86,10 +88,10 @@ module _ (d : Picture) (index : ℕ) (x : TreeArena) (q : Request) (s : LocalSta
           subst (λ z. IsHeld (hands_of (carve_left z)) (with_parts s d)) is after.0,
           after.1,
         )
-    by (Err carving.BadRequest) is on =
+    by (Err (asking.Refused carving.BadRequest)) is on =
         let y = space_here in
         (good_here (λ n. ¬ IsGood n q) y.0 y.1 (on.0 y.0 y.1), picture_same on.1 cpu_same)
-    by (Err carving.NoFit) is on =
+    by (Err (asking.Refused carving.NoFit)) is on =
         let y = space_here in (
           good_here (λ n. IsGood n q) y.0 y.1 (on.0 y.0 y.1),
           record {
@@ -106,14 +108,14 @@ module _ (d : Picture) (index : ℕ) (x : TreeArena) (q : Request) (s : LocalSta
           },
           picture_same on.2 cpu_same,
         )
-    by (Err carving.NoMemory) is on =
+    by (Err (asking.Refused carving.NoMemory)) is on =
         let y = space_here in (
           good_here (λ n. IsGood n q) y.0 y.1 (on.0 y.0 y.1),
           inr (inr (constrained, on.1)),
           inl (constrained, inl on.2, cpus_same d c found held.cpus.numbers s cpu_same),
           picture_same on.2 cpu_same,
         )
-    by (Err carving.Stopped) is on = on
+    by (Err asking.Stopped) is on = on
 
     pub carved_for : IsCarvedFor index x q d a (with_parts s d)
     carved_for = by a refl carvings

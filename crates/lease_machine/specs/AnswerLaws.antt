@@ -14,6 +14,7 @@ use Rattle.lease_terms.specs.Names.{is_name}
 use Rattle.lease_terms.specs.Requests.{RequestId}
 use Rattle.lease_proto.specs.declared.lines.Line.{Line}
 use Rattle.lease_proto.specs.declared.lines.Line.TheVariants as lines
+use Rattle.lease_proto.specs.declared.lines.HelloLine.{HelloLine}
 use Rattle.lease_proto.specs.declared.lines.LeaseLine.{LeaseLine}
 use Rattle.lease_proto.specs.declared.lines.Op.{Op}
 use Rattle.lease_proto.specs.declared.lines.Op.TheVariants as ops
@@ -23,7 +24,7 @@ use Rattle.lease_proto.specs.declared.replies.Reply.TheVariants as reply
 use Rattle.lease_proto.specs.Frames.{Frame, with_line_feed}
 use Rattle.lease_proto.specs.Operators.{served_of}
 use Rattle.lease_proto.specs.Replies.{reply_of, reply_text}
-use Rattle.lease_proto.specs.Requests.{client_of, client_named, request_named}
+use Rattle.lease_proto.specs.Requests.{client_of, request_named}
 use Rattle.lease_book.specs.Receipts.{Kept}
 use Rattle.lease_book.specs.BookState.{account_in}
 use Rattle.lease_book.specs.Answers.{IsNew}
@@ -85,9 +86,17 @@ abbrev pub NamesRequest : RequestId → Reply → Type 0
 NamesRequest id (reply.Old o) = o.client ≡ id.client
 NamesRequest id r = request_named r ≡ Some id
 
+-- the reply is to this hello, and says so; `old` names its client alone
+abbrev pub NamesHello : HelloLine → Reply → Type 0
+NamesHello h (reply.Welcome w) = w ≡ record { client = h.client; incarnation = h.incarnation }
+NamesHello h (reply.Old o) = o.client ≡ h.client
+NamesHello h (reply.Again a) =
+    a ≡ record { client = h.client; incarnation = h.incarnation; number = 0 }
+NamesHello h r = ⊥
+
 -- the reply is to this line of a client
 abbrev pub RepliesTo : Line → Reply → Type 0
-RepliesTo (lines.Hello h) r = client_named r ≡ Some h.client
+RepliesTo (lines.Hello h) r = NamesHello h r
 RepliesTo (lines.Request id op) r = NamesRequest id r
 
 -- the text is one line, and is read as this reply

@@ -5,8 +5,10 @@ use Rattle.std.specs.List.{find}
 use Rattle.deed_core.specs.Tag.{Tag}
 use Rattle.deed_core.specs.Request.{IsGood, IsPlain}
 use Rattle.deed_core.specs.declared.requests.Request.{Request}
-use Rattle.arena_tree.specs.declared.part_faults.CarveFault.{CarveFault}
-use Rattle.arena_tree.specs.declared.part_faults.CarveFault.TheVariants as carving
+use Rattle.arena_tree.specs.declared.part_faults.PartFault.{PartFault}
+use Rattle.tag_arena.specs.declared.faults.ArenaFault.{ArenaFault}
+use Rattle.arena_tree.specs.declared.part_faults.PartFault.TheVariants as asking
+use Rattle.tag_arena.specs.declared.faults.ArenaFault.TheVariants as carving
 use Rattle.arena_tree.specs.declared.part_faults.ClimbFault.TheVariants as climbing
 use Rattle.arena_tree.specs.declared.trees.TreeArena.{TreeArena}
 use Rattle.arena_tree.specs.Climbs.{ClimbEnd}
@@ -42,20 +44,23 @@ FreeGoesBack = (d : Picture) (t : Tag) (s : LocalState) → IsHeld (t ∷ []) d
     → GoesBack t d (with_parts s d) × IsHeld [] (with_parts s d) × SameSetup d (with_parts s d)
 
 -- what becomes of a constrained request for a segment of the arena, by the answer
-abbrev pub IsCarvedFor : ℕ → TreeArena → Request → Picture → Result Tag CarveFault → Picture
-    → Type 0
+abbrev pub IsCarvedFor : ℕ → TreeArena → Request → Picture
+    → Result Tag (PartFault ArenaFault) → Picture → Type 0
 IsCarvedFor index x q d (Ok t) new = IsGood x.quantum q × CanServe d index x q
     × ServesWith index x q t d new × IsHeld (t ∷ []) new × SameSetup d new
-IsCarvedFor index x q d (Err carving.BadRequest) new = (¬ IsGood x.quantum q) × (new ≡ d)
-IsCarvedFor index x q d (Err carving.NoFit) new = IsGood x.quantum q
+IsCarvedFor index x q d (Err (asking.Refused carving.BadRequest)) new =
+    (¬ IsGood x.quantum q) × (new ≡ d)
+IsCarvedFor index x q d (Err (asking.Refused carving.NoFit)) new = IsGood x.quantum q
     × ServesNone index x q d new × (new ≡ d)
-IsCarvedFor index x q d (Err carving.NoMemory) new = IsGood x.quantum q × CanServe d index x q
+IsCarvedFor index x q d (Err (asking.Refused carving.NoMemory)) new =
+    IsGood x.quantum q × CanServe d index x q
     × FallsBack index x q d new × (new ≡ d)
-IsCarvedFor index x q d (Err carving.Stopped) new = ⊥
+IsCarvedFor index x q d (Err asking.Stopped) new = ⊥
 
 abbrev pub XallocCarves : Type 0
 XallocCarves = (d : Picture) (index : ℕ) (x : TreeArena) (q : Request) (s : LocalState)
-    (a : Result Tag CarveFault) → IsHeld [] d → slice_get d.tree index ≡ Some x → ¬ IsPlain q
+    (a : Result Tag (PartFault ArenaFault)) → IsHeld [] d → slice_get d.tree index ≡ Some x
+    → ¬ IsPlain q
     → RunsTo d.tree (xalloc_plan index q) (parts_in d) s a
     → IsCarvedFor index x q d a (with_parts s d)
 
@@ -63,10 +68,12 @@ XallocCarves = (d : Picture) (index : ℕ) (x : TreeArena) (q : Request) (s : Lo
 abbrev pub IsClimbedFor : ℕ → TreeArena → Request → Picture → ClimbEnd → Picture → Type 0
 IsClimbedFor index x q d (Ok t) new = IsGood x.quantum q × CanServe d index x q
     × ServesWith index x q t d new × IsHeld (t ∷ []) new × SameSetup d new
-IsClimbedFor index x q d (Err climbing.BadRequest) new = (¬ IsGood x.quantum q) × (new ≡ d)
-IsClimbedFor index x q d (Err climbing.NoFit) new = IsGood x.quantum q
+IsClimbedFor index x q d (Err (climbing.Refused carving.BadRequest)) new =
+    (¬ IsGood x.quantum q) × (new ≡ d)
+IsClimbedFor index x q d (Err (climbing.Refused carving.NoFit)) new = IsGood x.quantum q
     × ServesNone index x q d new × (new ≡ d)
-IsClimbedFor index x q d (Err climbing.NoMemory) new = IsGood x.quantum q × CanServe d index x q
+IsClimbedFor index x q d (Err (climbing.Refused carving.NoMemory)) new =
+    IsGood x.quantum q × CanServe d index x q
     × FallsBack index x q d new × IsHeld [] new × SameSetup d new
 IsClimbedFor index x q d (Err (climbing.Stuck t)) new = ⊥
 IsClimbedFor index x q d (Err (climbing.Stopped o)) new = ⊥
@@ -81,10 +88,12 @@ AllocClimbs = (d : Picture) (index : ℕ) (x : TreeArena) (q : Request) (s : Loc
 abbrev pub IsFromCaches : ℕ → TreeArena → Request → Picture → ClimbEnd → Picture → Type 0
 IsFromCaches index x q d (Ok t) new = IsGood x.quantum q × CanServe d index x q
     × ServesWith index x q t d new × IsHeld (t ∷ []) new × SameSetup d new
-IsFromCaches index x q d (Err climbing.BadRequest) new = (¬ IsGood x.quantum q) × (new ≡ d)
-IsFromCaches index x q d (Err climbing.NoFit) new = IsGood x.quantum q
+IsFromCaches index x q d (Err (climbing.Refused carving.BadRequest)) new =
+    (¬ IsGood x.quantum q) × (new ≡ d)
+IsFromCaches index x q d (Err (climbing.Refused carving.NoFit)) new = IsGood x.quantum q
     × ServesNone index x q d new × IsHeld [] new × SameSetup d new
-IsFromCaches index x q d (Err climbing.NoMemory) new = IsGood x.quantum q × CanServe d index x q
+IsFromCaches index x q d (Err (climbing.Refused carving.NoMemory)) new =
+    IsGood x.quantum q × CanServe d index x q
     × FallsBack index x q d new × IsHeld [] new × SameSetup d new
 IsFromCaches index x q d (Err (climbing.Stuck t)) new = ⊥
 IsFromCaches index x q d (Err (climbing.Stopped o)) new = ⊥

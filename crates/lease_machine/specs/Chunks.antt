@@ -1,14 +1,18 @@
 -- How chunks come from an arena's quantum caches, and go back.
-use Rattle.std.specs.Prelude.{◌≡◌, ◌≢◌, ◌⊎◌, ℕ, ◌+◌, List, [], Option, Some, None, Ok}
+use Rattle.std.specs.Prelude.{◌≡◌, ◌⊎◌, ℕ, ◌+◌, List, [], Option, Some, None, Ok}
 use Rattle.std.specs.List.{find}
 use Rattle.deed_core.specs.Tag.{Tag}
 use Rattle.deed_core.specs.declared.segments.Route.{Route}
 use Rattle.deed_core.specs.declared.segments.Route.TheVariants.{Direct, Cached}
 use Rattle.arena_tree.specs.declared.levels.Level.{Level}
-use Rattle.magazine_layer.specs.Magazines.{CpuCacheState, BothEmpty, BothFull, Pops, Pushes}
-use Rattle.magazine_layer.specs.Magazines.{after_change}
-use Rattle.magazine_layer.specs.Depots.{DepotState, SwapsForFull}
-use Rattle.magazine_layer.specs.Rounds.{MakesRoom, NeedsMemory, cpu_depot}
+use Rattle.magazine_layer.specs.Magazines.{CpuCacheState}
+use Rattle.magazine_layer.specs.Depots.{DepotState}
+use Rattle.magazine_layer.specs.Rounds.{StepsRound, cpu_depot}
+use Rattle.magazine_layer.specs.declared.rounds.RoundOp.{RoundOp}
+use Rattle.magazine_layer.specs.declared.rounds.RoundOp.TheVariants.{Give, Take}
+use Rattle.magazine_layer.specs.declared.rounds.RoundAnswer.{RoundAnswer}
+use Rattle.magazine_layer.specs.declared.rounds.RoundAnswer.TheVariants.{Kept, Refused}
+use Rattle.magazine_layer.specs.declared.rounds.RoundAnswer.TheVariants.{Taken, Nothing}
 use Rattle.slab_layer.specs.Cache.{idle_chunks}
 use Rattle.slab_layer.specs.Calls.{TakeOf, PutOf, AddOf}
 use Rattle.stock.specs.Spaces.{SpaceState, QuantumCacheState, IsCacheAt}
@@ -34,58 +38,50 @@ pub record OnSelected (k j : ℕ) (P : CpuCacheState → CpuCacheState → Type 
   pub own : OnOwn k j (λ o p. IsAtIndexesOf o p × P o.cpu p.cpu) (selected_caches old)
       (selected_caches new)
 
--- the chunk is the CPU's last round or, where it has none, the last of the depot's newest full
--- magazine
-abbrev pub TakesOwn : Tag → CpuCacheState → DepotState → CpuCacheState → DepotState → Type 0
-TakesOwn t c d c' d' = (Pops t c c' × (d' ≡ d))
-    ⊎ (BothEmpty c × ((full : CpuCacheState) × SwapsForFull c d full d' × Pops t full c'))
+-- a CPU's cache answered the operation so over a depot: both before, and both then
+abbrev pub AnswersRound : RoundOp Tag → RoundAnswer Tag → DepotState → DepotState
+    → CpuCacheState → CpuCacheState → Type 0
+AnswersRound op answer d d' c c' =
+    (exchanges : ℕ) × StepsRound op (cpu_depot c d) (cpu_depot c' d') answer exchanges
 
--- neither has one: the depot no full magazine, or one of another size, to which the CPU then
--- changes over, unless out of memory
-abbrev pub LacksRounds : DepotState → CpuCacheState → CpuCacheState → Type 0
-LacksRounds d c c' = BothEmpty c × (((c.size ≡ d.size) × (d.full ≡ []) × (c' ≡ c))
-    ⊎ ((c.size ≢ d.size) × ((c' ≡ c) ⊎ (c' ≡ after_change d.size c))))
-
--- the chunk was a round of the cache at the index j of the arena at the index k, which is c;
--- nothing else changed
-abbrev pub WasRound : ℕ → ℕ → QuantumCacheState → Tag → Picture → Picture → Type 0
-WasRound k j c t old new = (d : DepotState)
-    × OnSelected k j (λ a b. TakesOwn t a c.depot b d) old new
+-- the selected CPU's cache at those indexes answered so over the depot of its quantum cache, which
+-- is c; nothing else changed
+abbrev pub MovesRound : ℕ → ℕ → QuantumCacheState → RoundOp Tag → RoundAnswer Tag
+    → Picture → Picture → Type 0
+MovesRound k j c op answer old new = (d : DepotState)
+    × OnSelected k j (AnswersRound op answer c.depot d) old new
     × OnDepot k j (λ a b. b ≡ d) old.spaces new.spaces
 
--- there is no round, and it was an idle one of its slabs
+-- it did and left the depot as it was; no other cache of a CPU changed
+abbrev pub MovesNone : ℕ → ℕ → QuantumCacheState → RoundOp Tag → RoundAnswer Tag
+    → Picture → Picture → Type 0
+MovesNone k j c op answer old new =
+    OnSelected k j (AnswersRound op answer c.depot c.depot) old new
+
+-- the chunk was a round of the CPU's or of the depot's
+abbrev pub WasRound : ℕ → ℕ → QuantumCacheState → Tag → Picture → Picture → Type 0
+WasRound k j c t old new = MovesRound k j c Take (Taken t) old new
+
+-- there is no round, and it was an idle one of the slabs
 abbrev pub WasIdle : ℕ → ℕ → QuantumCacheState → Tag → Picture → Picture → Type 0
-WasIdle k j c t old new = OnSelected k j (LacksRounds c.depot) old new
+WasIdle k j c t old new = MovesNone k j c Take Nothing old new
     × OnSlab k j (λ a b. TakeOf a (Some t) b) old.spaces new.spaces
 
 -- there is no round, and no idle chunk
 abbrev pub LacksChunks : ℕ → ℕ → QuantumCacheState → Picture → Picture → Type 0
-LacksChunks k j c old new =
-    OnSelected k j (LacksRounds c.depot) old new × (idle_chunks c.slab ≡ [])
+LacksChunks k j c old new = MovesNone k j c Take Nothing old new × (idle_chunks c.slab ≡ [])
 
 -- it is the first of a new slab of so many units, whose span was climbed for
 abbrev pub IsOfNewSlab : List Level → ℕ → ℕ → ℕ → Tag → List SpaceState → List SpaceState → Type 0
 IsOfNewSlab chain units k j t old new = (span : Tag) × (mid : List SpaceState)
     × Climbs chain units span old mid × OnSlab k j (λ a b. AddOf a span (Ok t) b) mid new
 
--- the chunk is a round again: of the CPU's, which has room or makes it
-abbrev pub KeepsOwn : Tag → CpuCacheState → DepotState → CpuCacheState → DepotState → Type 0
-KeepsOwn t c d c' d' = (Pushes t c c' × (d' ≡ d))
-    ⊎ (BothFull c × ((made : CpuCacheState) × (exchanges : ℕ)
-    × MakesRoom (cpu_depot c d) (cpu_depot made d') exchanges × Pushes t made c'))
-
--- the CPU has no room, and makes none without memory
-abbrev pub HasNoRoom : DepotState → CpuCacheState → CpuCacheState → Type 0
-HasNoRoom d c c' = BothFull c × NeedsMemory (cpu_depot c d) × (c' ≡ c)
-
 -- where a chunk goes back to: to the rounds, or else home into its slab
 abbrev pub BecomesRound : ℕ → ℕ → QuantumCacheState → Tag → Picture → Picture → Type 0
-BecomesRound k j c t old new = (d : DepotState)
-    × OnSelected k j (λ a b. KeepsOwn t a c.depot b d) old new
-    × OnDepot k j (λ a b. b ≡ d) old.spaces new.spaces
+BecomesRound k j c t old new = MovesRound k j c (Give t) Kept old new
 
 abbrev pub ComesHome : ℕ → ℕ → QuantumCacheState → Tag → Picture → Picture → Type 0
-ComesHome k j c t old new = OnSelected k j (HasNoRoom c.depot) old new
+ComesHome k j c t old new = MovesNone k j c (Give t) (Refused t) old new
     × OnSlab k j (λ a b. PutOf a t (Ok tt) b) old.spaces new.spaces
 
 -- the segment went back, by its route: what was carved to its arena, a chunk to the cache that it

@@ -29,7 +29,8 @@ pub record AnswersGranted (old : Picture) (line text : List ℕ) (g : Granted) (
   pub step : LeaseStep old line text new
   pub told : IsReadAs text (reply.Granted g)
 
--- the line releases what was granted, and is answered so
+-- the line releases what was granted, and is answered so; no older release of the same base is
+-- answered so again, since its number isn't the client's last any more
 abbrev pub GivesBack : Granted → List ℕ → List ℕ → Type 0
 GivesBack g line text = (id : RequestId) × (l : ReleaseLine) × IsRequestLine line id (ops.Release l)
     × (id.client ≡ g.id.client) × (id.incarnation ≡ g.id.incarnation)

@@ -31,11 +31,13 @@ SetupStays = (old new : Picture) (frames : List Frame) (text : List ℕ)
 
 -- each unit of an arena's spans is in one home: free, in a slab, in a magazine, exported or
 -- leased; and no other unit is in any
-abbrev pub UnitsHaveOneHome : Type 0
-UnitsHaveOneHome = (d : Picture) → IsPicture d → (k : ℕ) (s : SpaceState)
-    → slice_get d.spaces k ≡ Some s → (u : ℕ)
+abbrev pub UnitsAtHome : Picture → Type 0
+UnitsAtHome d = (k : ℕ) (s : SpaceState) → slice_get d.spaces k ≡ Some s → (u : ℕ)
     → (total (unit_of_arena u d.spaces (held_outside d) s) ≡ covering_held u (spans_of s.arena))
     × (covering_held u (spans_of s.arena) ≤ 1)
+
+abbrev pub UnitsHaveOneHome : Type 0
+UnitsHaveOneHome = (d : Picture) → IsPicture d → UnitsAtHome d
 
 -- no two leases overlap where their arenas have one top, be one's arena a source of the other's
 abbrev pub LeasesAreApart : Type 0

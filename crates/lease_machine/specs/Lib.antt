@@ -18,3 +18,4 @@ pub mod StepLaws
 pub mod CallLaws
 pub mod ReapLaws
 pub mod Rules
+pub mod Conversations

@@ -1,30 +1,18 @@
 -- How segments come from their arenas, and go back to them.
-use Rattle.std.specs.Prelude.{◌≡◌, ◌⊎◌, ℕ, List, [], ◌∷◌, map, filter, not, slice_get, Some, None}
+use Rattle.std.specs.Prelude.{◌≡◌, ◌⊎◌, ℕ, List, [], ◌∷◌, map, filter, not, Some, None}
 use Rattle.deed_core.specs.Tag.{Tag}
 use Rattle.deed_core.specs.Request.{plain_of}
 use Rattle.deed_core.specs.declared.requests.Request.{Request}
 use Rattle.tag_arena.specs.ArenaState.{ArenaState}
 use Rattle.tag_arena.specs.Outcomes.{WasCarved, WasImported, WasFreed}
-use Rattle.tag_arena.specs.Place.{Serves}
 use Rattle.arena_tree.specs.declared.levels.Level.{Level}
 use Rattle.arena_tree.specs.Chains.{amount_of}
 use Rattle.slab_layer.specs.Slab.{SlabState}
 use Rattle.slab_layer.specs.Cache.{SlabCacheState}
 use Rattle.stock.specs.Spaces.{SpaceState, QuantumCacheState, with_caches}
 use Rattle.stock.specs.Steps.{OnArena}
+use Rattle.local_calls.specs.NoFits.{HasBase}
 use Rattle.lease_machine.specs.Picture.{Picture, is_cpu}
-
--- an address of the arena at the index serves the request
-abbrev pub HasBase : List SpaceState → ℕ → Request → Type 0
-HasBase spaces index q = (s : SpaceState) × (slice_get spaces index ≡ Some s)
-    × ((base : ℕ) × Serves s.arena.quantum q s.arena.free base)
-
--- so does one of an arena of the chain: of the first so many units, of each other what the one
--- below it would import for them
-abbrev pub HasBaseUp : List SpaceState → List Level → ℕ → Type 0
-HasBaseUp spaces [] n = ⊥
-HasBaseUp spaces (l ∷ up) n =
-    HasBase spaces l.id (plain_of n) ⊎ HasBaseUp spaces up (amount_of l up n)
 
 -- the segment was carved for the request where the arena's policy chose, and nothing else changed
 abbrev pub CarvesAt : ℕ → Request → Tag → List SpaceState → List SpaceState → Type 0

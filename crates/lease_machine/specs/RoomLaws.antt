@@ -28,7 +28,7 @@ use Rattle.lease_proto.specs.Operators.{served_of}
 use Rattle.lease_book.specs.BookState.{leased_segments, account_in}
 use Rattle.lease_book.specs.Answers.{IsNew}
 use Rattle.lease_machine.specs.Picture.{Picture, IsPicture, Finds, held_outside}
-use Rattle.lease_machine.specs.Moves.{HasBaseUp}
+use Rattle.local_calls.specs.NoFits.{HasBaseUp}
 use Rattle.lease_machine.specs.Machine.{LeaseStep, Grants, demand_of}
 use Rattle.lease_machine.specs.AnswerLaws.{reply_bytes, IsRequestLine}
 

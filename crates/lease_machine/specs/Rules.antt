@@ -1,19 +1,13 @@
 -- The rules of leases: who is answered what, when, and what becomes of all leases. Each step of the
 -- lease machine keeps them.
-use Rattle.std.specs.Prelude.{◌≡◌, ℕ, ◌<◌, ◌≤◌, List, [], ◌∷◌, ◌++◌, AllPairs, length, slice_get}
-use Rattle.std.specs.Prelude.{None, Some, Ok, Err, ◌≢◌}
-use Rattle.std.specs.List.{find}
-use Rattle.deed_core.specs.Covering.{covering_held}
+use Rattle.std.specs.Prelude.{◌≡◌, ℕ, ◌<◌, ◌≤◌, List, [], ◌∷◌, ◌++◌, ◌≢◌, AllPairs, length}
+use Rattle.std.specs.Prelude.{None, Some, Ok, Err}
 use Rattle.deed_core.specs.Request.{Fits, IsGood, IsPlain}
 use Rattle.deed_core.specs.Tag.{Tag}
-use Rattle.tag_arena.specs.ArenaState.{spans_of}
 use Rattle.arena_tree.specs.declared.trees.TreeArena.{TreeArena}
 use Rattle.arena_tree.specs.Trees.{index_in}
 use Rattle.quantum_cache.specs.Caches.{chain_in}
-use Rattle.stock.specs.Spaces.{SpaceState}
-use Rattle.stock.specs.Sums.{total}
 use Rattle.stock.specs.Laws.{ApartUpChain}
-use Rattle.stock_audit.specs.Chains.{unit_of_arena}
 use Rattle.lease_terms.specs.Requests.{RequestId}
 use Rattle.lease_terms.specs.declared.refusals.Refusal.{Refusal}
 use Rattle.lease_terms.specs.declared.refusals.Refusal.TheVariants.{NoFit, BadRequest, NoArena}
@@ -35,7 +29,7 @@ use Rattle.lease_proto.specs.Faults.{error_line}
 use Rattle.lease_proto.specs.Frames.{Frame}
 use Rattle.lease_proto.specs.Operators.{served_of}
 use Rattle.lease_proto.specs.Requests.{client_of}
-use Rattle.lease_book.specs.Account.{is_lease, lease_of}
+use Rattle.lease_book.specs.Account.{Account, lease_of}
 use Rattle.lease_book.specs.Receipts.{Kept}
 use Rattle.lease_book.specs.BookState.{account_in, leased_segments}
 use Rattle.lease_book.specs.Answers.{IsNew}
@@ -43,12 +37,11 @@ use Rattle.lease_book.specs.declared.books.TheConstants.{MOST_LEASES}
 use Rattle.lease_history.specs.Told.{reply_to}
 use Rattle.lease_server.specs.Serving.{ServesLines}
 use Rattle.lease_machine.specs.Picture.{Picture, IsPicture, Finds, SameSetup, arena_named}
-use Rattle.lease_machine.specs.Picture.{held_outside}
 use Rattle.lease_machine.specs.Serving.{CanServe}
 use Rattle.lease_machine.specs.Operators.{OperatorStep}
 use Rattle.lease_machine.specs.Replies.{IsKnownReply, again_of}
-use Rattle.lease_machine.specs.Machine.{LeaseStep, TakesDemand, demand_of}
-use Rattle.lease_machine.specs.Laws.{Runs}
+use Rattle.lease_machine.specs.Machine.{LeaseStep, TakesDemand, RefusesRelease, demand_of}
+use Rattle.lease_machine.specs.Laws.{Runs, UnitsAtHome}
 use Rattle.lease_machine.specs.AnswerLaws.{reply_bytes, IsKept, IsRequestLine, WasReachable}
 use Rattle.lease_machine.specs.LeaseLaws.{leases_in, LeasesStay, LeasesBecome, LosesLease}
 use Rattle.lease_machine.specs.LeaseLaws.{HelloMoves, grant_told}
@@ -104,31 +97,31 @@ LeaseRule id l old (reply.Again a) new =
     (reply.Again a ≡ again_of id) × CanBeServed l old × (new.book ≡ old.book)
 LeaseRule id l old r new = ⊥
 
--- when a new release is refused: the arena isn't there, or the client has no such lease of its
--- incarnation
-abbrev pub WhyNoRelease : RequestId → ReleaseLine → Picture → Refusal → Type 0
-WhyNoRelease id l old NoArena = index_in l.arena old.tree ≡ None
-WhyNoRelease id l old NotYours = (index : ℕ) × (index_in l.arena old.tree ≡ Some index)
-    × (find (is_lease id.incarnation index l.base) (leases_in old id.client) ≡ None)
-WhyNoRelease id l old why = ⊥
-
--- a new release ends the lease, or is refused
+-- a new release ends the lease, or is refused: by `noarena` where the arena isn't there, or by
+-- `notyours` where the client has no such lease of its incarnation
 abbrev pub ReleaseRule : RequestId → ReleaseLine → Picture → Reply → Picture → Type 0
 ReleaseRule id l old (reply.Released p) new = (p ≡ id) × LosesLease id l old new
 ReleaseRule id l old (reply.Refused x) new =
-    (x.id ≡ id) × WhyNoRelease id l old x.refusal × LeasesStay old new
+    (x.id ≡ id) × RefusesRelease id l old x.refusal × LeasesStay old new
 ReleaseRule id l old r new = ⊥
 
 abbrev pub RequestRule : RequestId → Op → Picture → Reply → Picture → Type 0
 RequestRule id (ops.Lease l) old r new = LeaseRule id l old r new
 RequestRule id (ops.Release l) old r new = ReleaseRule id l old r new
 
+-- its incarnation is the client's: where it is a greater one numbers begin anew, with no reply
+-- kept; where it was that before they go on
+pub record Greets (h : HelloLine) (old new : Account) : Type 0 where
+  pub current : old.incarnation ≤ h.incarnation
+  pub becomes : new.incarnation ≡ h.incarnation
+  pub anew : old.incarnation < h.incarnation → new.kept ≡ None
+  pub goes_on : old.incarnation ≡ h.incarnation → new.kept ≡ old.kept
+
 -- a hello is welcome unless its incarnation is an older one than the client's; to a client that
 -- said none before it may be out of memory
 abbrev pub HelloRule : HelloLine → Picture → Reply → Picture → Type 0
 HelloRule h old (reply.Welcome w) new =
-    ((account_in h.client old.book).incarnation ≤ h.incarnation)
-    × ((account_in h.client new.book).incarnation ≡ h.incarnation)
+    Greets h (account_in h.client old.book) (account_in h.client new.book)
     × HelloMoves h old (reply.Welcome w) new
 HelloRule h old (reply.Old o) new =
     (o ≡ record { client = h.client; current = (account_in h.client old.book).incarnation })
@@ -145,12 +138,6 @@ pub record IsLastReply (d : Picture) (id : RequestId) (r : Reply) : Type 0 where
   pub number : last.number ≡ id.number
   pub kept : (account_in id.client d.book).kept ≡ Some last
   pub reply : r ≡ reply_to (arena_named d.tree) id last.reply
-
--- each unit of an arena's spans is in one home: free, in a slab, in a magazine, exported or leased
-abbrev pub UnitsAtHome : Picture → Type 0
-UnitsAtHome d = (k : ℕ) (s : SpaceState) → slice_get d.spaces k ≡ Some s → (u : ℕ)
-    → (total (unit_of_arena u d.spaces (held_outside d) s) ≡ covering_held u (spans_of s.arena))
-    × (covering_held u (spans_of s.arena) ≤ 1)
 
 -- One line: from old it is answered with the text, and new is what holds then.
 pub record KeepsRules (old : Picture) (line text : List ℕ) (new : Picture) : Type 0 where

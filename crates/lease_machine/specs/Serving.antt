@@ -3,6 +3,8 @@ use Rattle.std.specs.Prelude.{◌≡◌, ◌≢◌, ◌⊎◌, ℕ, ◌+◌, ◌
 use Rattle.deed_core.specs.Tag.{Tag}
 use Rattle.deed_core.specs.Request.{Fits, IsPlain, rounding_of}
 use Rattle.deed_core.specs.declared.requests.Request.{Request}
+use Rattle.magazine_layer.specs.declared.rounds.RoundOp.TheVariants.{Take}
+use Rattle.magazine_layer.specs.declared.rounds.RoundAnswer.TheVariants.{Nothing}
 use Rattle.slab_layer.specs.Cache.{idle_chunks}
 use Rattle.arena_tree.specs.declared.trees.TreeArena.{TreeArena}
 use Rattle.quantum_cache.specs.Caches.{chain_in}
@@ -10,10 +12,11 @@ use Rattle.stock.specs.Spaces.{QuantumCacheState, IsCacheAt}
 use Rattle.stock.specs.OwnCaches.{OwnCacheState, own_rounds}
 use Rattle.local_parts.specs.Cpus.{IsOwnAt}
 use Rattle.lease_machine.specs.Picture.{Picture}
-use Rattle.lease_machine.specs.Moves.{HasBase, HasBaseUp, CarvesAt, Climbs, CarvesInVain}
+use Rattle.local_calls.specs.NoFits.{HasBase, HasBaseUp}
+use Rattle.lease_machine.specs.Moves.{CarvesAt, Climbs, CarvesInVain}
 use Rattle.lease_machine.specs.Moves.{ClimbsInVain, SameNames}
-use Rattle.lease_machine.specs.Chunks.{selected_caches, OnSelected, LacksRounds, WasRound, WasIdle}
-use Rattle.lease_machine.specs.Chunks.{LacksChunks, IsOfNewSlab, GoesBack}
+use Rattle.lease_machine.specs.Chunks.{selected_caches, MovesNone, WasRound, WasIdle, LacksChunks}
+use Rattle.lease_machine.specs.Chunks.{IsOfNewSlab, GoesBack}
 use Rattle.lease_machine.specs.Held.{IsHeld}
 
 -- the arena serves the request by its caches: it isn't constrained, and no greater than they are
@@ -78,7 +81,7 @@ pub record ServesWith (index : ℕ) (x : TreeArena) (q : Request) (t : Tag) (old
 -- the CPU's cache for it has no round, and at most changed over; no other cache of a CPU changed
 abbrev pub LooksInVain : ℕ → TreeArena → Request → Picture → Picture → Type 0
 LooksInVain index x q old new = (c : QuantumCacheState) × (o : OwnCacheState)
-    × (f : CacheFor old index x q c o) × OnSelected index f.cache (LacksRounds c.depot) old new
+    × (f : CacheFor old index x q c o) × MovesNone index f.cache c Take Nothing old new
 
 -- nothing serves it: only that where caches serve the selected CPU's magazines may have got greater
 pub record ServesNone (index : ℕ) (x : TreeArena) (q : Request) (old new : Picture) : Type 0 where

@@ -3,6 +3,7 @@ use Rattle.std.specs.Prelude.{◌≡◌, ◌⊎◌, ℕ, ◌<◌, List, map, fla
 use Rattle.magazine_layer.specs.Depots.{after_tick}
 use Rattle.lease_terms.specs.Requests.{RequestId}
 use Rattle.lease_terms.specs.declared.refusals.Refusal.{Refusal}
+use Rattle.lease_terms.specs.declared.refusals.Refusal.TheVariants.{Leases}
 use Rattle.lease_proto.specs.declared.faults.LineFault.{LineFault}
 use Rattle.lease_proto.specs.declared.lines.Line.TheVariants as lines
 use Rattle.lease_proto.specs.declared.lines.HelloLine.{HelloLine}
@@ -21,11 +22,11 @@ use Rattle.lease_proto.specs.Reports.{ok_text}
 use Rattle.lease_book.specs.Answers.{IsNew}
 use Rattle.lease_book.specs.BookState.{account_in}
 use Rattle.lease_book.specs.Reports.{report_of}
-use Rattle.lease_machine.specs.Picture.{Picture, IsPicture, SameSetup}
+use Rattle.lease_machine.specs.Picture.{Picture, IsPicture, SameSetup, BookAlone}
 use Rattle.lease_machine.specs.Operators.{Resizes, with_cpu, with_depots_by, audit_texts_of}
 use Rattle.lease_machine.specs.Operators.{client_text_of}
 use Rattle.lease_machine.specs.Replies.{IsKnownReply}
-use Rattle.lease_machine.specs.Machine.{LeaseStep, Releases, RefusesRelease}
+use Rattle.lease_machine.specs.Machine.{LeaseStep, RefusesLease, Releases, RefusesRelease}
 use Rattle.lease_machine.specs.AnswerLaws.{reply_bytes, IsRequestLine}
 use Rattle.lease_machine.specs.RoomLaws.{refusal_to}
 
@@ -89,6 +90,20 @@ ReleasesAreSettled = (old new : Picture) (line text : List ℕ) (id : RequestId)
     → LeaseStep old line text new
     → ((text ≡ reply_bytes (reply.Released id)) × Releases id l old new)
     ⊎ ((why : Refusal) × (text ≡ reply_bytes (refusal_to id why)) × RefusesRelease id l old why)
+
+-- a new request is refused so, and nothing has to move for that
+abbrev pub RefusesStill : RequestId → Op → Picture → Refusal → Type 0
+RefusesStill id (ops.Release l) d why = RefusesRelease id l d why
+RefusesStill id (ops.Lease l) d Leases = ⊥
+RefusesStill id (ops.Lease l) d why = RefusesLease id l d d why
+
+-- and then it is answered so, and at most the book changes: a release of an arena that isn't there
+-- or of what isn't leased; a lease of an arena that isn't there, a bad one, one that nothing serves
+abbrev pub RefusalsAreAnswered : Type 0
+RefusalsAreAnswered = (d : Picture) (line : List ℕ) (id : RequestId) (op : Op) (why : Refusal)
+    → IsPicture d → IsRequestLine line id op → IsNew (account_in id.client d.book) id
+    → RefusesStill id op d why
+    → (new : Picture) × BookAlone d new × LeaseStep d line (reply_bytes (refusal_to id why)) new
 
 -- an interval that begins in each depot leaves a picture of the same setup
 abbrev pub TicksKeep : Type 0

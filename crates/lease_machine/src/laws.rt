@@ -24,7 +24,8 @@ ghost use Rattle.lease_machine.specs.StepLaws.{FaultsAreAnswered, KnownAreAnswer
 ghost use Rattle.lease_machine.specs.StepLaws.{OldHellosAreAnswered, AuditsAreAnswered};
 ghost use Rattle.lease_machine.specs.StepLaws.{ClientsAreTold, CpusAreSelected, TicksAreAnswered};
 ghost use Rattle.lease_machine.specs.StepLaws.{ResizesAreAnswered, ReleasesAreSettled};
-ghost use Rattle.lease_machine.specs.StepLaws.{TicksKeep, ResizesKeep};
+ghost use Rattle.lease_machine.specs.StepLaws.{RefusalsAreAnswered, TicksKeep, ResizesKeep};
+ghost use Rattle.lease_machine.specs.Conversations.{RequestRuns, HelloRuns};
 
 /// What a desk begins with is a picture, and it stays one when a CPU is selected.
 pub fn picture_laws()
@@ -107,7 +108,7 @@ pub fn cache_laws()
 {}
 
 /// From each picture these lines can be answered so: the machine isn't empty. A new release is
-/// never out of memory.
+/// never out of memory, and what is refused with nothing to move always has its refusal.
 pub fn step_laws()
     ensures faults { FaultsAreAnswered }
     ensures known { KnownAreAnswered }
@@ -118,6 +119,7 @@ pub fn step_laws()
     ensures ticks { TicksAreAnswered }
     ensures resizes { ResizesAreAnswered }
     ensures releases { ReleasesAreSettled }
+    ensures refusals { RefusalsAreAnswered }
 {}
 
 /// What a tick and greater magazines leave is a picture of the same setup.
@@ -145,4 +147,11 @@ pub fn reap_laws()
     ensures none { ReapsNone }
     ensures add { ReapingsAdd }
     ensures fit { CachedUnitsFit }
+{}
+
+/// A client's line, by its list of steps over one thread's parts and book, is a step: it is never
+/// stuck, and nothing stops it. `D` is the type of the book's deeds.
+pub fn conversation_laws<D>()
+    ensures request { RequestRuns D }
+    ensures hello { HelloRuns D }
 {}

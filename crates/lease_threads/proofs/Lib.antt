@@ -1,5 +1,6 @@
 mod Receipts
 mod Runs
-mod Goods
+mod CallRuns
+mod CallEnds
 mod Spans
 mod Reaped

@@ -9,7 +9,7 @@ use Rattle.arena_tree.specs.Sound.{Sound}
 use Rattle.arena_tree.specs.Stops.{is_stopped}
 use Rattle.arena_tree.specs.Trees.{nodes_of, ChainFrom}
 use Rattle.arena_tree.specs.Plans.{Plan, Done, Ask, Step, Path, Ran}
-use Rattle.locked_parts.specs.Gates.{MayStop, NotesStops}
+use Rattle.locked_parts.specs.Gates.{NotesStops}
 use Rattle.locked_parts.specs.declared.gates.NextStep.{NextStep}
 use Rattle.quantum_cache.specs.Reaps.{ReapEnd, reap_arena_plan}
 use Rattle.lease_threads.specs.Reaping.{EndsSoundly, HasReaped, ReapsSoundly}

@@ -1,5 +1,5 @@
 -- Receipts of a book whose mark is of this root.
-use Rattle.std.proofs.Common.{◌≡◌, ◌∙◌, ◌<◌, ℕ, None, ap, sym, subst, refl, IfSome}
+use Rattle.std.proofs.Common.{◌≡◌, ◌∙◌, ◌<◌, ℕ, ap, sym, subst, IfSome}
 use Rattle.lease_terms.specs.Requests.{RequestId}
 use Rattle.lease_terms.specs.declared.refusals.Refusal.{Refusal}
 use Rattle.deed_core.specs.Tag.{Tag}
@@ -7,14 +7,12 @@ use Rattle.deed_core.specs.Request.{Fits}
 use Rattle.lease_book.specs.Receipts.{ReceiptState, IsEarned}
 use Rattle.lease_book.specs.BookState.{BookState, account_in}
 use Rattle.lease_book.specs.Entry.{Settlement, Grant, Return, Refuse, kept_settlement}
-use Rattle.lease_book.specs.Answers.{receipt, IsLook, IsAnswer, IsRepeated, IsHelloFault, answer_of}
+use Rattle.lease_book.specs.Answers.{receipt, IsAnswer, IsRepeated, IsHelloFault}
 use Rattle.lease_book.specs.Calls.{IsGranted, IsRefused, IsReleased}
 use Rattle.lease_book.specs.declared.answers.Answer.{Answer}
 use Rattle.lease_book.specs.declared.answers.Answer.TheVariants as answer
 use Rattle.lease_book.specs.declared.answers.HelloFault.{HelloFault}
 use Rattle.lease_book.specs.declared.answers.HelloFault.TheVariants as fault
-use Rattle.lease_book.specs.declared.answers.Look.{Look}
-use Rattle.lease_book.specs.declared.answers.Look.TheVariants as look
 use Rattle.lease_book.specs.declared.receipts.Terms.{Terms}
 use Rattle.lease_threads.specs.Replying.{mark_root, IsReceiptOf, IsBookAnswerTo, IsLateHello}
 use Rattle.lease_threads.specs.Settling.{new_receipt, IsRefusalReceipt, IsGrantReceipt}
@@ -39,13 +37,6 @@ module _ (book : BookState) (id : RequestId) (mark : book.mark.root ≡ mark_roo
   pub released : (now : BookState) (arena base : ℕ) (v : ReceiptState) (t : Tag) → IsReleased book now id arena base v t → IsReceiptOf id v
   released now arena base v t is = made (Return arena base) v tt is.receipt
 
-  pub looked : {D : Type 0} (l : Look D) → IsLook book (account_in id.client book) id l → IfSome (answer_of l) (IsBookAnswerTo id)
-  looked look.New is = tt
-  looked (look.Kept v) is = repeated v is
-  looked (look.Old current) is = λ e. is.other (e ∙ is.named)
-  looked (look.Stale last) is = is.below
-  looked (look.Gap last) is = is.above
-
   pub answered : {D : Type 0} (now : BookState) (why : ReceiptState → Type 0) (again : Type 0) → ((v : ReceiptState) → why v → IsReceiptOf id v) → (a : Answer D) → IsAnswer book now id why again a → IsBookAnswerTo id a
   answered now why again is (answer.Kept v) of = repeated v of.0
   answered now why again is (answer.Refused v) of = is v of
@@ -58,14 +49,6 @@ module _ (book : BookState) (id : RequestId) (mark : book.mark.root ≡ mark_roo
 pub late : (current incarnation : ℕ) (f : HelloFault) → IsHelloFault current incarnation f → IsLateHello incarnation f
 late current incarnation (fault.Old v) is = subst (λ n. incarnation < n) (sym is.1) is.0
 late current incarnation fault.NoMemory is = tt
-
--- what a look answers isn't settled by it
-pub looked_old : {D : Type 0} (l : Look D) → IfSome (answer_of l) (λ a. new_receipt a ≡ None)
-looked_old look.New = tt
-looked_old (look.Kept v) = refl
-looked_old (look.Old current) = refl
-looked_old (look.Stale last) = refl
-looked_old (look.Gap last) = refl
 
 -- what an answer settles is as the book's refusal says
 pub answered_new : {D : Type 0} (book now : BookState) (id : RequestId) (why : ReceiptState → Type 0) (again : Type 0) (P : ReceiptState → Type 0) → ((v : ReceiptState) → why v → P v) → (a : Answer D) → IsAnswer book now id why again a → IfSome (new_receipt a) P

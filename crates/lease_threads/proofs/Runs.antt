@@ -1,5 +1,5 @@
 -- What a list of steps of a running system leaves, and whose a Stop at its end is.
-use Rattle.std.proofs.Common.{◌≡◌, ◌∙◌, ℕ, List, Bool, true, false, Result, Err, inl, inr, sym, subst, ap}
+use Rattle.std.proofs.Common.{◌≡◌, ◌∙◌, ℕ, List, Bool, true, false, inl, inr, sym, subst, ap}
 use Rattle.arena_tree.specs.Chains.{Node}
 use Rattle.arena_tree.specs.Events.{Event, AnswerTo}
 use Rattle.arena_tree.specs.Plans.{Plan, Done, Ask, Step, Path, Ran}
@@ -37,6 +37,3 @@ stop_said may gate noted step tree count rounds is p s t a ran none some =
       | inl was ↦ absurd (let x : true ≡ false = sym was ∙ none in cc)
       | inr may ↦ may
     ]
-
-pub same_fault : {X E : Type 0} (a b : E) → ◌≡◌ {A = Result X E} (Err a) (Err b) → a ≡ b
-same_fault a b e = (let d : a ≡ b = cc in d)

@@ -2,7 +2,6 @@
 use Rattle.std.specs.Prelude.{◌≡◌, ◌≢◌, ℕ, List, Option, Some, None}
 use Rattle.deed_core.specs.Tag.{Tag}
 use Rattle.deed_core.specs.Request.{IsGood}
-use Rattle.deed_core.specs.declared.requests.Request.{Request}
 use Rattle.lease_terms.specs.declared.refusals.Refusal.{Refusal}
 use Rattle.lease_terms.specs.declared.refusals.Refusal.TheVariants as refusal
 use Rattle.arena_tree.specs.Chains.{quantum_in}
@@ -14,23 +13,13 @@ use Rattle.lease_book.specs.declared.answers.Answer.TheVariants as answer
 use Rattle.lease_book.specs.declared.receipts.KeptReply.{KeptReply}
 use Rattle.lease_book.specs.declared.receipts.KeptReply.TheVariants as kept
 use Rattle.lease_book.specs.declared.receipts.Terms.{Terms}
+use Rattle.lease_proto.specs.Requests.{demand_of}
 use Rattle.lease_proto.specs.declared.lines.Line.{Line}
 use Rattle.lease_proto.specs.declared.lines.Line.TheVariants as lines
 use Rattle.lease_proto.specs.declared.lines.LeaseLine.{LeaseLine}
 use Rattle.lease_proto.specs.declared.lines.Op.{Op}
 use Rattle.lease_proto.specs.declared.lines.Op.TheVariants as op
 use Rattle.lease_proto.specs.declared.lines.ReleaseLine.{ReleaseLine}
-
--- what a lease asks of its arena
-abbrev pub demand_of : LeaseLine → Request
-demand_of l = record {
-  size = l.size;
-  align = l.options.align;
-  phase = l.options.phase;
-  nocross = l.options.nocross;
-  min = l.options.min;
-  max = l.options.max;
-}
 
 -- the receipt of a request that was granted this segment on these terms
 pub record IsGrantReceipt (t : Tag) (terms : Terms) (v : ReceiptState) : Type 0 where
@@ -49,12 +38,6 @@ new_receipt answer.Again = None
 -- the receipt says that the request is refused so
 abbrev pub IsRefusalReceipt : Refusal → ReceiptState → Type 0
 IsRefusalReceipt why v = v.reply ≡ kept.Refused why
-
--- a refusal that a system finds itself: `leases` and `notyours` are for its book to find
-abbrev pub IsSystemRefusal : Refusal → Type 0
-IsSystemRefusal refusal.Leases = ⊥
-IsSystemRefusal refusal.NotYours = ⊥
-IsSystemRefusal _ = Unit {0}
 
 -- an arena has the lease's name, and takes such a request
 abbrev pub IsGoodLease : List TreeArena → LeaseLine → Type 0

@@ -7,7 +7,7 @@ use Rattle.deed_core.specs.Holding.{Holding}
 use Rattle.deed_core.specs.Tag.{Tag}
 use Rattle.magazine_layer.specs.Magazines.{BothEmpty, cache_rounds}
 use Rattle.arena_tree.specs.declared.trees.TreeArena.{TreeArena}
-use Rattle.locked_parts.specs.Kinds.{KindRoundsState}
+use Rattle.locked_parts.specs.Kinds.{OwnCacheState}
 
 -- its arenas by number, and the roots that they own, in order of setup: what stands beside the
 -- locks
@@ -23,7 +23,7 @@ root_ranges s = map (λ r. r.range) s.roots
 pub record CpuState : Type 0 where
   pub number : ℕ
   pub hand : Option Tag
-  pub caches : List KindRoundsState
+  pub caches : List OwnCacheState
 
 -- the units of its hand and of all its rounds
 abbrev pub cpu_units : CpuState → ℕ

@@ -10,7 +10,7 @@ use crate::systems::System;
 use deed_core::Segment;
 use deed_table::{Name, SeatDeed};
 use lease_proto::MOST_CPUS;
-use locked_parts::{KindRounds, end_rounds, new_rounds};
+use locked_parts::{OwnCache, end_rounds, new_rounds};
 use std::alloc::{AllocError, Global};
 use std::marker::Model;
 
@@ -20,7 +20,7 @@ use std::marker::Model;
 pub struct Cpu<N: Name> {
     number: u32,
     pub(crate) hand: Option<Segment<SeatDeed<N>>>,
-    pub(crate) caches: Vec<KindRounds<SeatDeed<N>>>,
+    pub(crate) caches: Vec<OwnCache<SeatDeed<N>>>,
 }
 
 impl<N: Name> Model for Cpu<N> {
@@ -98,7 +98,7 @@ impl<N: Name> Cpu<N> {
         }
     }
 
-    /// Takes what is left of a climb, if anything is, into the empty hand.
+    /// Takes what a list of steps left, if it left anything, into the empty hand.
     pub(crate) fn hold_left(&mut self, left: Option<Segment<SeatDeed<N>>>)
         requires { self.old.hand ≡ None }
         ensures { self.new

@@ -6,11 +6,14 @@ ghost use Rattle.lease_threads.specs.Replying.{TellsAnswer, IsForeign, again_of,
 ghost use Rattle.lease_threads.specs.Replying.{IsByQuantum, IsLateHello};
 ghost use Rattle.lease_threads.specs.Replying.{IsReceiptOf, IsBookAnswerTo, IsGreeting, IsAgain};
 ghost use Rattle.lease_threads.specs.Settling.{new_receipt};
+ghost use Rattle.lease_threads.specs.Calling.{IsOutcomeOf, TellsOutcome, outcome_receipt};
+ghost use Rattle.lease_threads.specs.Calling.{IsGreetedSo, greeting_of};
 
 use arena_tree::Tree;
 use deed_table::{Name, SeatDeed};
 use lease_book::{Answer, HelloFault, KeptReply, Receipt, Terms};
-use lease_proto::{Again, Granted, HelloLine, Old, OutOfTurn, RefusedRequest, Reply};
+use lease_call::{Greeting, Outcome};
+use lease_proto::{Again, Granted, HelloLine, Old, OutOfTurn, RefusedRequest, Reply, Welcome};
 use lease_terms::{Quantity, RequestId};
 use locked_parts::quantum_of;
 
@@ -40,7 +43,7 @@ pub(crate) fn again_to(id: RequestId) -> Reply
     })
 }
 
-/// Nothing came of the hello.
+/// The hello may be sent once more.
 pub(crate) fn hello_again(hello: &HelloLine) -> Reply
     ensures greeting { IsGreeting hello.now result }
     ensures again { IsAgain result }
@@ -53,8 +56,24 @@ pub(crate) fn hello_again(hello: &HelloLine) -> Reply
     })
 }
 
+/// The reply to what a hello comes to.
+pub(crate) fn greeted(hello: &HelloLine, greeting: Greeting) -> Reply
+    requires { IsGreetedSo hello.now greeting }
+    ensures greeting { IsGreeting hello.now result }
+    ensures exactly { result ≡ greeting_of hello.now greeting }
+{
+    match greeting {
+        Greeting::Welcome => Reply::Welcome(Welcome {
+            client: hello.client,
+            incarnation: hello.incarnation,
+        }),
+        Greeting::Late(fault) => not_welcome(hello, fault),
+        Greeting::Unswept => hello_again(hello),
+    }
+}
+
 /// The reply to a hello that the book didn't take.
-pub(crate) fn not_welcome(hello: &HelloLine, fault: HelloFault) -> Reply
+fn not_welcome(hello: &HelloLine, fault: HelloFault) -> Reply
     requires { IsLateHello hello.now.incarnation fault }
     ensures greeting { IsGreeting hello.now result }
     ensures exactly { result ≡ late_reply hello.now fault }
@@ -68,7 +87,7 @@ pub(crate) fn not_welcome(hello: &HelloLine, fault: HelloFault) -> Reply
     }
 }
 
-// The reply that was settled; None where no arena has the number and the quantum.
+/// The reply that was settled; None where no arena has the number and the quantum.
 fn settled(tree: &Tree, id: RequestId, kept: KeptReply, terms: Option<Terms>) -> Option<Reply>
     requires { IsEarned kept terms }
     ensures tells { IfSome result (TellsSettled tree.now id kept) }
@@ -93,7 +112,7 @@ fn settled(tree: &Tree, id: RequestId, kept: KeptReply, terms: Option<Terms>) ->
     }
 }
 
-// The quantum of these terms; 0, which is no arena's, where there are none.
+/// The quantum of these terms; 0, which is no arena's, where there are none.
 fn terms_quantum(terms: Option<Terms>) -> u64
     ensures { IfSome terms (λ t. result ≡ t.quantum) }
 {
@@ -103,8 +122,8 @@ fn terms_quantum(terms: Option<Terms>) -> u64
     }
 }
 
-// With a reply without a receipt nothing was settled.
-fn unsettled<N: Name>(reply: Reply) -> Told<N>
+/// With a reply without a receipt nothing was settled.
+pub(crate) fn unsettled<N: Name>(reply: Reply) -> Told<N>
     ensures reply { result.reply ≡ reply }
     ensures receipt { result.receipt ≡ None }
     ensures old { result.is_new ≡ false }
@@ -128,12 +147,7 @@ pub(crate) fn again<N: Name>(id: RequestId) -> Told<N>
 }
 
 /// The reply of a receipt, by which the request was settled now, or before.
-pub(crate) fn told<N: Name>(
-    tree: &Tree,
-    id: RequestId,
-    receipt: Receipt<SeatDeed<N>>,
-    is_new: bool,
-) -> Told<N>
+fn told<N: Name>(tree: &Tree, id: RequestId, receipt: Receipt<SeatDeed<N>>, is_new: bool) -> Told<N>
     requires { IsReceiptOf id receipt }
     ensures told { IsReplyTo tree.now id result.reply result.receipt }
     ensures exactly { IsToldAs tree.now id receipt result.reply result.receipt }
@@ -150,7 +164,7 @@ pub(crate) fn told<N: Name>(
 }
 
 /// The reply that the book's answer is.
-pub(crate) fn answered<N: Name>(tree: &Tree, id: RequestId, answer: Answer<SeatDeed<N>>) -> Told<N>
+fn answered<N: Name>(tree: &Tree, id: RequestId, answer: Answer<SeatDeed<N>>) -> Told<N>
     requires { IsBookAnswerTo id answer }
     ensures told { IsReplyTo tree.now id result.reply result.receipt }
     ensures exactly { TellsAnswer tree.now id answer result.reply result.receipt }
@@ -167,5 +181,24 @@ pub(crate) fn answered<N: Name>(tree: &Tree, id: RequestId, answer: Answer<SeatD
         Answer::Stale(last) => unsettled(Reply::Stale(OutOfTurn { id, last })),
         Answer::Gap(last) => unsettled(Reply::Gap(OutOfTurn { id, last })),
         Answer::Again => again(id),
+    }
+}
+
+/// The reply to what a request comes to.
+pub(crate) fn told_outcome<N: Name>(
+    tree: &Tree,
+    id: RequestId,
+    outcome: Outcome<SeatDeed<N>>,
+) -> Told<N>
+    requires { IsOutcomeOf id outcome }
+    ensures exactly { TellsOutcome tree.now id outcome result.reply result.receipt }
+    ensures told { IsReplyTo tree.now id result.reply result.receipt }
+    ensures new { result.is_new ≡ true
+        → (result.receipt ≢ None) × (outcome_receipt outcome ≡ result.receipt) }
+{
+    match outcome {
+        Outcome::Settled(receipt) => told(tree, id, receipt, true),
+        Outcome::Answered(answer) => answered(tree, id, answer),
+        Outcome::Again => again(id),
     }
 }

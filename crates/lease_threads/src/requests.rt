@@ -1,44 +1,34 @@
-//! Answering one line.
-ghost use Rattle.std.specs.Prelude.{◌≡◌, ◌≢◌, ◌<◌, ◌⊎◌, None, Some, length, true};
-ghost use Rattle.std.specs.Prelude.{IfOk, IfErr, IfSome, OnErr};
-ghost use Rattle.deed_core.specs.Request.{Fits};
-ghost use Rattle.arena_tree.specs.Chains.{quantum_in};
-ghost use Rattle.arena_tree.specs.Trees.{nodes_of};
+//! Answering one line: its list of steps is gone through, and what that comes to is told.
+ghost use Rattle.std.specs.Prelude.{◌≡◌, ◌≢◌, ◌+◌, None, Some, true, IfOk, IfSome, OnErr};
+ghost use Rattle.deed_table.specs.declared.deeds.SeatDeed.{SeatDeed};
+ghost use Rattle.lease_call.specs.Greeting.{hello_plan};
+ghost use Rattle.lease_call.specs.Requesting.{request_plan};
 ghost use Rattle.locked_parts.specs.Gates.{MayStop};
-ghost use Rattle.lease_threads.specs.Replying.{IsAnswerTo, IsReplyTo, IsGreeting, IsAgain};
-ghost use Rattle.lease_threads.specs.Replying.{IsReceiptOf, IsBookAnswerTo, IsLateHello};
-ghost use Rattle.lease_threads.specs.Settling as settling;
-ghost use Rattle.lease_threads.specs.Settling.{IsGrantReceipt, IsRefusalReceipt, IsSettledAsAsked};
-ghost use Rattle.lease_threads.specs.Settling.{SettlesLease, SettlesRelease, IsSystemRefusal};
-ghost use Rattle.lease_threads.specs.Settling.{new_receipt};
-ghost use Rattle.lease_book.specs.Receipts.{ReceiptState};
 ghost use Rattle.locked_parts.specs.Kinds.{AreForSame};
+ghost use Rattle.lease_threads.specs.Calling.{AnswersBy, GreetsBy, RunsLine, WentThrough};
+ghost use Rattle.lease_threads.specs.Calling.{IsGreetedSo, IsOutcomeOf, TellsEnd};
+ghost use Rattle.lease_threads.specs.Calling.{greeting_end, end_receipt};
+ghost use Rattle.lease_book.specs.declared.books.TheConstants.{MOST_LEASES};
+ghost use Rattle.lease_threads.specs.Replying.{IsAnswerTo, IsReplyTo, IsGreeting, IsAgain};
+ghost use Rattle.lease_threads.specs.Settling.{IsSettledAsAsked, Settles};
+ghost use Rattle.lease_book.specs.Receipts.{ReceiptState};
 
 use crate::cpus::Cpu;
-use crate::lists::Unserved;
-use crate::replies::{LineAnswer, Told, again, answered, hello_again, not_welcome, told};
+use crate::replies::{Told, again, greeted, hello_again, told_outcome, unsettled};
+use crate::shared_books::SharedBook;
 use crate::systems::System;
-use deed_core::{Request, Segment};
+use arena_tree::Tree;
+use deed_core::Segment;
 use deed_table::{Name, SeatDeed};
-use lease_book::{Answer, HelloFault, KeptReply, NotLeased, Receipt};
-use lease_proto::{HelloLine, LeaseLine, Line, Op, ReleaseLine, Reply, Welcome};
-use lease_terms::{ClientId, Quantity, Refusal, RequestId};
-use locked_parts::{EventName, Gate, RequestStopped, StepCount, quantum_of};
+use lease_book::{MOST_LEASES, Receipt};
+use lease_call::{CallFault, Greeting, Outcome};
+use lease_proto::{HelloLine, Line, Op, Reply};
+use lease_terms::RequestId;
+use locked_parts::{Gate, RequestStopped, Running, StepCount};
 use std::sync::Wait;
 
-// What a lease asks of its arena.
-fn demand_of(lease: &LeaseLine) -> Request
-    ensures { result ≡ settling.demand_of lease.now }
-{
-    Request {
-        size: lease.size.get(),
-        align: lease.options.align.get(),
-        phase: lease.options.phase.get(),
-        nocross: lease.options.nocross.get(),
-        min: lease.options.min.get(),
-        max: lease.options.max.get(),
-    }
-}
+/// What the list of steps of a line ended with.
+pub(crate) type Ended<N, T> = Result<T, CallFault<Segment<SeatDeed<N>>>>;
 
 impl<N: Name> System<N> {
     /// Answers one line of a client. The gate is asked before each step; where it says Stop the
@@ -52,14 +42,16 @@ impl<N: Name> System<N> {
         gate: &G,
         line: &Line,
     ) -> Result<(Reply, Option<Receipt<SeatDeed<N>>>), RequestStopped>
+        ensures runs { IfOk result (λ r.
+            RunsLine (SeatDeed N) self.now.arenas cpu.old.hand line.now r.0 r.1) }
         ensures answers { IfOk result (λ r. IsAnswerTo self.now.arenas line.now r.0 r.1) }
         ensures number { cpu.new.number ≡ cpu.old.number }
         ensures magazines { AreForSame cpu.old.caches cpu.new.caches }
         ensures held { IfOk result (λ r. IfSome cpu.new.hand (λ _. IsAgain r.0)) }
         ensures stopped { OnErr result (MayStop G.may_stop gate.now) }
     {
-        let LineAnswer { reply, receipt, .. } = self.answer(rt, cpu, gate, line)?;
-        Ok((reply, receipt))
+        let told = self.answer(rt, cpu, gate, line)?;
+        Ok((told.reply, told.receipt))
     }
 
     /// The same, and tells whether the line was settled by that. Then it is as the line asks: a
@@ -71,6 +63,8 @@ impl<N: Name> System<N> {
         gate: &G,
         line: &Line,
     ) -> Result<Told<N>, RequestStopped>
+        ensures runs { IfOk result (λ r.
+            RunsLine (SeatDeed N) self.now.arenas cpu.old.hand line.now r.reply r.receipt) }
         ensures answers { IfOk result (λ r.
             IsAnswerTo self.now.arenas line.now r.reply r.receipt) }
         ensures new { IfOk result (λ r. r.is_new ≡ true
@@ -80,288 +74,189 @@ impl<N: Name> System<N> {
         ensures held { IfOk result (λ r. IfSome cpu.new.hand (λ _. IsAgain r.reply)) }
         ensures stopped { OnErr result (MayStop G.may_stop gate.now) }
     {
-        let mut steps = StepCount::new(cpu.number());
         match line {
-            Line::Hello(hello) => {
-                let reply = self.greet(rt, cpu, gate, &mut steps, hello)?;
-                Ok(LineAnswer {
-                    reply,
-                    receipt: None,
-                    is_new: false,
-                })
-            }
-            Line::Request(id, op) => {
-                if !self.place_hand(rt, cpu, gate, &mut steps)? {
-                    return Ok(again(*id));
-                }
-                match op {
-                    Op::Lease(lease) => self.lease(rt, cpu, gate, &mut steps, *id, lease),
-                    Op::Release(release) => self.release(rt, cpu, gate, &mut steps, *id, release),
-                }
-            }
+            Line::Hello(hello) => Ok(unsettled(self.greet(rt, cpu, gate, hello)?)),
+            Line::Request(id, op) => self.serve(rt, cpu, gate, *id, op),
         }
     }
 
-    // Takes a hello, and frees the client's leases of older incarnations.
+    /// Answers a hello.
     fn greet<R: Wait, G: Gate>(
         &self,
         rt: &R,
         cpu: &mut Cpu<N>,
         gate: &G,
-        steps: &mut StepCount,
         hello: &HelloLine,
     ) -> Result<Reply, RequestStopped>
+        ensures runs { IfOk result
+            (GreetsBy (SeatDeed N) self.now.arenas cpu.old.hand hello.now) }
         ensures greeting { IfOk result (IsGreeting hello.now) }
         ensures number { cpu.new.number ≡ cpu.old.number }
         ensures magazines { AreForSame cpu.old.caches cpu.new.caches }
         ensures held { IfOk result (λ r. IfSome cpu.new.hand (λ _. IsAgain r)) }
         ensures stopped { OnErr result (MayStop G.may_stop gate.now) }
     {
-        if !self.place_hand(rt, cpu, gate, steps)? {
-            return Ok(hello_again(hello));
-        }
-        steps.ask(gate, EventName::Look)?;
-        if let Err(fault) = self.enter(rt, hello) {
-            return Ok(not_welcome(hello, fault));
-        }
-        if !self.sweep(rt, cpu, gate, steps, hello.client)? {
-            return Ok(hello_again(hello));
-        }
-        Ok(Reply::Welcome(Welcome {
-            client: hello.client,
-            incarnation: hello.incarnation,
-        }))
+        let mut steps = StepCount::new(cpu.number());
+        let ended = self.run_hello(rt, cpu, gate, &mut steps, hello);
+        tell_hello(cpu, &steps, hello, ended)
     }
 
-    fn enter<R: Wait>(&self, rt: &R, hello: &HelloLine) -> Result<(), HelloFault>
-        ensures { IfErr result (IsLateHello hello.now.incarnation) }
-    {
-        self.book.lock(rt).hello(hello)
-    }
-
-    // Says whether all leases of older incarnations were placed.
-    fn sweep<R: Wait, G: Gate>(
+    /// Answers a request.
+    fn serve<R: Wait, G: Gate>(
         &self,
         rt: &R,
         cpu: &mut Cpu<N>,
         gate: &G,
-        steps: &mut StepCount,
-        client: ClientId,
-    ) -> Result<bool, RequestStopped>
-        requires { cpu.old.hand ≡ None }
+        id: RequestId,
+        op: &Op,
+    ) -> Result<Told<N>, RequestStopped>
+        ensures runs { IfOk result (λ r. AnswersBy {D = SeatDeed N} self.now.arenas id
+            (request_plan self.now.arenas cpu.old.hand id op.now) r.reply r.receipt) }
+        ensures told { IfOk result (λ r. IsReplyTo self.now.arenas id r.reply r.receipt) }
+        ensures new { IfOk result (λ r. r.is_new ≡ true → (v : ReceiptState)
+            × (r.receipt ≡ Some v) × Settles self.now.arenas op.now v) }
         ensures number { cpu.new.number ≡ cpu.old.number }
         ensures magazines { AreForSame cpu.old.caches cpu.new.caches }
-        ensures empty { IfOk result (λ placed. placed ≡ true → cpu.new.hand ≡ None) }
+        ensures held { IfOk result (λ r. IfSome cpu.new.hand (λ _. IsAgain r.reply)) }
         ensures stopped { OnErr result (MayStop G.may_stop gate.now) }
     {
-        for _ in rt.forever() {
-            steps.ask(gate, EventName::Sweep)?;
-            match self.swept(rt, client) {
-                None => break,
-                Some(segment) => cpu.hold(segment),
-            }
-            if !self.place_hand(rt, cpu, gate, steps)? {
-                return Ok(false);
-            }
-        }
-        Ok(true)
+        let mut steps = StepCount::new(cpu.number());
+        let ended = self.run_request(rt, cpu, gate, &mut steps, id, op);
+        // For its clause: it is a tree.
+        let _ = self.tree().len();
+        tell(self.tree(), cpu, &steps, id, ended)
     }
 
-    fn swept<R: Wait>(&self, rt: &R, client: ClientId) -> Option<Segment<SeatDeed<N>>> {
-        self.book.lock(rt).sweep(client)
-    }
-
-    fn lease<R: Wait, G: Gate>(
+    /// Goes through the list of steps of a request.
+    fn run_request<R: Wait, G: Gate>(
         &self,
         rt: &R,
         cpu: &mut Cpu<N>,
         gate: &G,
         steps: &mut StepCount,
         id: RequestId,
-        lease: &LeaseLine,
-    ) -> Result<Told<N>, RequestStopped>
-        requires { cpu.old.hand ≡ None }
-        ensures told { IfOk result (λ r. IsReplyTo self.now.arenas id r.reply r.receipt) }
-        ensures new { IfOk result (λ r. r.is_new ≡ true → (v : ReceiptState)
-            × (r.receipt ≡ Some v) × SettlesLease self.now.arenas lease.now v.reply v.terms) }
+        op: &Op,
+    ) -> Ended<N, Outcome<SeatDeed<N>>>
+        ensures went { WentThrough self.now.arenas
+            (request_plan self.now.arenas cpu.old.hand id op.now) result }
         ensures number { cpu.new.number ≡ cpu.old.number }
         ensures magazines { AreForSame cpu.old.caches cpu.new.caches }
-        ensures held { IfOk result (λ r. IfSome cpu.new.hand (λ _. IsAgain r.reply)) }
-        ensures stopped { OnErr result (MayStop G.may_stop gate.now) }
+        ensures hand { cpu.new.hand ≡ None }
+        ensures stopped { steps.new.noted ≡ true → MayStop G.may_stop gate.now }
     {
-        steps.ask(gate, EventName::Look)?;
-        if let Some(answer) = self.look(rt, id) {
-            return Ok(answered(self.tree(), id, answer));
-        }
-        let Some(arena) = self.tree().find(&lease.arena) else {
-            return self.refuse(rt, gate, steps, id, Refusal::NoArena);
+        let hand = cpu.hand.take();
+        let mut running = Running {
+            parts: &self.parts,
+            rt,
+            gate,
+            caches: &mut cpu.caches,
+            steps: steps.anew(),
+            count: 0,
         };
-        let request = demand_of(lease);
-        match self.serve(rt, cpu, gate, steps, arena, &request) {
-            Ok(segment) => self.grant(rt, cpu, gate, steps, id, arena, &request, segment),
-            Err(Unserved::Refused) => {
-                let is_good = request.is_good(quantum_of(self.tree(), arena));
-                let why = if is_good {
-                    Refusal::NoFit
-                } else {
-                    Refusal::BadRequest
-                };
-                self.refuse(rt, gate, steps, id, why)
-            }
-            Err(Unserved::Again) => Ok(again(id)),
-            Err(Unserved::Stopped) => Err(RequestStopped),
-        }
+        let mut book = SharedBook { book: &self.book };
+        let ended = lease_call::request(&mut running, &mut book, self.parts.tree(), hand, id, op);
+        *steps = running.steps;
+        ended
     }
 
-    fn look<R: Wait>(&self, rt: &R, id: RequestId) -> Option<Answer<SeatDeed<N>>>
-        ensures receipt { IfSome result (IsBookAnswerTo id) }
-        ensures old { IfSome result (λ a. new_receipt a ≡ None) }
-    {
-        self.book.lock(rt).look(id)
-    }
-
-    // Settles a new request by a refusal that the book didn't find.
-    fn refuse<R: Wait, G: Gate>(
-        &self,
-        rt: &R,
-        gate: &G,
-        steps: &mut StepCount,
-        id: RequestId,
-        why: Refusal,
-    ) -> Result<Told<N>, RequestStopped>
-        requires { IsSystemRefusal why }
-        ensures told { IfOk result (λ r. IsReplyTo self.now.arenas id r.reply r.receipt) }
-        ensures new { IfOk result (λ r. r.is_new ≡ true → (v : ReceiptState)
-            × (r.receipt ≡ Some v) × IsRefusalReceipt why v) }
-        ensures stopped { OnErr result (MayStop G.may_stop gate.now) }
-    {
-        steps.ask(gate, EventName::Settle)?;
-        let answer = self.settle_refusal(rt, id, why);
-        Ok(answered(self.tree(), id, answer))
-    }
-
-    fn settle_refusal<R: Wait>(&self, rt: &R, id: RequestId, why: Refusal) -> Answer<SeatDeed<N>>
-        requires { IsSystemRefusal why }
-        ensures receipt { IsBookAnswerTo id result }
-        ensures new { IfSome (new_receipt result) (IsRefusalReceipt why) }
-    {
-        self.book.lock(rt).refuse(id, why)
-    }
-
-    // Settles a new request by a segment of its arena, or frees that again.
-    fn grant<R: Wait, G: Gate>(
+    /// Goes through the list of steps of a hello.
+    fn run_hello<R: Wait, G: Gate>(
         &self,
         rt: &R,
         cpu: &mut Cpu<N>,
         gate: &G,
         steps: &mut StepCount,
-        id: RequestId,
-        arena: u32,
-        request: &Request,
-        segment: Segment<SeatDeed<N>>,
-    ) -> Result<Told<N>, RequestStopped>
-        requires within { arena < length self.now.arenas }
-        requires hand { cpu.old.hand ≡ None }
-        requires fits { Fits (quantum_in (nodes_of self.now.arenas) arena) request.now
-            segment.holding.range.base segment.holding.range.len }
-        requires of_arena { segment.arena ≡ arena }
-        ensures told { IfOk result (λ r. IsReplyTo self.now.arenas id r.reply r.receipt) }
-        ensures new { IfOk result (λ r. r.is_new ≡ true → (v : ReceiptState)
-            × (r.receipt ≡ Some v) × (IsRefusalReceipt Refusal.Leases v ⊎ IsGrantReceipt segment
-            (record {
-              quantum = quantum_in (nodes_of self.now.arenas) arena;
-              request = request.now;
-            }) v)) }
-        ensures held_at_stop { OnErr result (cpu.new.hand ≢ None) }
+        hello: &HelloLine,
+    ) -> Ended<N, Greeting>
+        ensures went { WentThrough {D = SeatDeed N} self.now.arenas
+            (hello_plan self.now.arenas cpu.old.hand hello.now (MOST_LEASES + 1)) result }
         ensures number { cpu.new.number ≡ cpu.old.number }
         ensures magazines { AreForSame cpu.old.caches cpu.new.caches }
-        ensures held { IfOk result (λ r. IfSome cpu.new.hand (λ _. IsAgain r.reply)) }
-        ensures stopped { OnErr result (MayStop G.may_stop gate.now) }
+        ensures hand { cpu.new.hand ≡ None }
+        ensures stopped { steps.new.noted ≡ true → MayStop G.may_stop gate.now }
     {
-        if steps.stops(gate, EventName::Settle) {
+        let hand = cpu.hand.take();
+        let mut running = Running {
+            parts: &self.parts,
+            rt,
+            gate,
+            caches: &mut cpu.caches,
+            steps: steps.anew(),
+            count: 0,
+        };
+        let mut book = SharedBook { book: &self.book };
+        let turns = MOST_LEASES as u64 + 1;
+        let tree = self.parts.tree();
+        let ended = lease_call::hello(&mut running, &mut book, tree, hand, hello, turns);
+        *steps = running.steps;
+        ended
+    }
+}
+
+/// Tells what a hello's list of steps ended with. A segment that it left goes into the empty hand.
+fn tell_hello<N: Name>(
+    cpu: &mut Cpu<N>,
+    steps: &StepCount,
+    hello: &HelloLine,
+    ended: Ended<N, Greeting>,
+) -> Result<Reply, RequestStopped>
+    requires hand { cpu.old.hand ≡ None }
+    requires greeting { IfOk ended (IsGreetedSo hello.now) }
+    ensures exactly { IfOk result (λ r. r ≡ greeting_end hello.now ended) }
+    ensures greeting { IfOk result (IsGreeting hello.now) }
+    ensures number { cpu.new.number ≡ cpu.old.number }
+    ensures magazines { AreForSame cpu.old.caches cpu.new.caches }
+    ensures held { IfOk result (λ r. IfSome cpu.new.hand (λ _. IsAgain r)) }
+    ensures stopped { OnErr result (steps.now.noted ≡ true) }
+{
+    match ended {
+        Ok(greeting) => Ok(greeted(hello, greeting)),
+        Err(CallFault::Stuck(segment)) => {
             cpu.hold(segment);
-            return Err(RequestStopped);
+            Ok(hello_again(hello))
         }
-        let quantum = quantum_of(self.tree(), arena);
-        match self.settle(rt, id, quantum, request, segment) {
-            Ok(receipt) => Ok(told(self.tree(), id, receipt, true)),
-            Err(NotLeased { segment, answer }) => {
-                cpu.hold(segment);
-                if !self.place_hand(rt, cpu, gate, steps)? {
-                    return Ok(again(id));
-                }
-                Ok(answered(self.tree(), id, answer))
+        Err(CallFault::Stopped(left)) => {
+            cpu.hold_left(left);
+            if steps.noted {
+                return Err(RequestStopped);
             }
+            Ok(hello_again(hello))
         }
     }
+}
 
-    fn settle<R: Wait>(
-        &self,
-        rt: &R,
-        id: RequestId,
-        quantum: u64,
-        request: &Request,
-        segment: Segment<SeatDeed<N>>,
-    ) -> Result<Receipt<SeatDeed<N>>, NotLeased<Segment<SeatDeed<N>>, SeatDeed<N>>>
-        requires { Fits quantum request.now
-            segment.holding.range.base segment.holding.range.len }
-        ensures receipt { IfOk result (IsReceiptOf id) }
-        ensures grant { IfOk result (IsGrantReceipt segment
-            (record { quantum = quantum; request = request.now })) }
-        ensures answer { IfErr result (λ e. IsBookAnswerTo id e.answer) }
-        ensures new { IfErr result (λ e. IfSome (new_receipt e.answer)
-            (IsRefusalReceipt Refusal.Leases)) }
-    {
-        self.book.lock(rt).settle(id, quantum, request, segment)
-    }
-
-    fn release<R: Wait, G: Gate>(
-        &self,
-        rt: &R,
-        cpu: &mut Cpu<N>,
-        gate: &G,
-        steps: &mut StepCount,
-        id: RequestId,
-        release: &ReleaseLine,
-    ) -> Result<Told<N>, RequestStopped>
-        requires { cpu.old.hand ≡ None }
-        ensures told { IfOk result (λ r. IsReplyTo self.now.arenas id r.reply r.receipt) }
-        ensures new { IfOk result (λ r. r.is_new ≡ true → (v : ReceiptState)
-            × (r.receipt ≡ Some v) × SettlesRelease self.now.arenas release.now v.reply) }
-        ensures number { cpu.new.number ≡ cpu.old.number }
-        ensures magazines { AreForSame cpu.old.caches cpu.new.caches }
-        ensures held { IfOk result (λ r. IfSome cpu.new.hand (λ _. IsAgain r.reply)) }
-        ensures stopped { OnErr result (MayStop G.may_stop gate.now) }
-    {
-        let Some(arena) = self.tree().find(&release.arena) else {
-            return self.refuse(rt, gate, steps, id, Refusal::NoArena);
-        };
-        steps.ask(gate, EventName::Release)?;
-        match self.released(rt, id, arena, release.base) {
-            Ok((receipt, segment)) => {
-                cpu.hold(segment);
-                if !self.place_hand(rt, cpu, gate, steps)? {
-                    return Ok(again(id));
-                }
-                Ok(told(self.tree(), id, receipt, true))
+/// Tells what a request's list of steps ended with. A segment that it left goes into the empty
+/// hand.
+fn tell<N: Name>(
+    tree: &Tree,
+    cpu: &mut Cpu<N>,
+    steps: &StepCount,
+    id: RequestId,
+    ended: Ended<N, Outcome<SeatDeed<N>>>,
+) -> Result<Told<N>, RequestStopped>
+    requires hand { cpu.old.hand ≡ None }
+    requires outcome { IfOk ended (IsOutcomeOf id) }
+    ensures exactly { IfOk result (λ r. TellsEnd tree.now id ended r.reply r.receipt) }
+    ensures told { IfOk result (λ r. IsReplyTo tree.now id r.reply r.receipt) }
+    ensures new { IfOk result (λ r. r.is_new ≡ true
+        → (r.receipt ≢ None) × (end_receipt ended ≡ r.receipt)) }
+    ensures number { cpu.new.number ≡ cpu.old.number }
+    ensures magazines { AreForSame cpu.old.caches cpu.new.caches }
+    ensures held { IfOk result (λ r. IfSome cpu.new.hand (λ _. IsAgain r.reply)) }
+    ensures stopped { OnErr result (steps.now.noted ≡ true) }
+{
+    match ended {
+        Ok(outcome) => Ok(told_outcome(tree, id, outcome)),
+        Err(CallFault::Stuck(segment)) => {
+            cpu.hold(segment);
+            Ok(again(id))
+        }
+        Err(CallFault::Stopped(left)) => {
+            cpu.hold_left(left);
+            if steps.noted {
+                return Err(RequestStopped);
             }
-            Err(answer) => Ok(answered(self.tree(), id, answer)),
+            Ok(again(id))
         }
-    }
-
-    fn released<R: Wait>(
-        &self,
-        rt: &R,
-        id: RequestId,
-        arena: u32,
-        base: Quantity,
-    ) -> Result<(Receipt<SeatDeed<N>>, Segment<SeatDeed<N>>), Answer<SeatDeed<N>>>
-        ensures receipt { IfOk result (λ r. IsReceiptOf id r.0) }
-        ensures released { IfOk result (λ r. r.0.reply ≡ KeptReply.Released) }
-        ensures answer { IfErr result (IsBookAnswerTo id) }
-        ensures new { IfErr result (λ a.
-            IfSome (new_receipt a) (IsRefusalReceipt Refusal.NotYours)) }
-    {
-        self.book.lock(rt).release(id, arena, base)
     }
 }

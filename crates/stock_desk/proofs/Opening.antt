@@ -1,4 +1,4 @@
--- What a setup gives is a picture, of which nothing is kept.
+-- What a setup gives is a picture, in which nothing is kept.
 use Rattle.std.proofs.Common.{◌≡◌, sym, subst, ap, ◌∙◌, List, [], ◌∷◌, length, All, arith}
 use Rattle.std.specs.List.{flat_map}
 use Rattle.std.proofs.lemmas.List.{append-nil}
@@ -10,13 +10,14 @@ use Rattle.arena_tree.specs.Settings.{SetupState}
 use Rattle.arena_tree.specs.Trees.{IsTree}
 use Rattle.stock.specs.Accounts.{IsAccounted}
 use Rattle.stock.specs.Endings.{IsReaped, IsReapedCache}
-use Rattle.stock.specs.Setups.{IsSetUpFrom, IsNewCache, plans_for}
+use Rattle.stock.specs.Setups.{IsSetUpFrom, IsNewCache, numbered_deeds, plans_for}
 use Rattle.stock.specs.Spaces.{SpaceState}
 use Rattle.stock.specs.OwnCaches.{all_own_rounds}
 use Rattle.lease_book.specs.BookState.{BookState, IsHistory, segments_of_accounts}
 use Rattle.lease_machine.specs.Picture.{NumberedCpu, Picture, IsPicture, caches_of, fresh_cpu}
 use Rattle.lease_machine.specs.RoomLaws.{NothingIsKept}
 use Rattle.lease_machine.proofs.LawProofs.{fresh_is_picture, fresh_cpu_fits}
+use Rattle.stock_desk.specs.Openings.{IsOpenedFrom}
 
 module _ (setup : SetupState) (deeds : List Holding) (spaces : List SpaceState) (up : IsSetUpFrom setup deeds 3 spaces) where
   -- no cache of it has anything
@@ -37,9 +38,9 @@ module _ (setup : SetupState) (deeds : List Holding) (spaces : List SpaceState) 
         subst (λ (cs : List NumberedCpu). IsPicture (begun cs)) (sym one)
         (fresh_is_picture tree spaces b (subst IsTree (sym named) is) (up.plans ∙ ap plans_for (sym named)) accounted history)
 
-    pub begins_unused : NothingIsKept (begun cpus)
-    begins_unused = record {
-      leases = ap segments_of_accounts history.accounts;
-      rounds = ap (λ (cs : List NumberedCpu). all_own_rounds (flat_map caches_of cs)) one ∙ ap all_own_rounds (append-nil (caches_of (fresh_cpu 0 spaces))) ∙ fresh_cpu_fits.none spaces 0;
-      reaped = all_reaped;
-    }
+pub opened_unused : (setup : SetupState) (d : Picture) → IsOpenedFrom setup d → NothingIsKept d
+opened_unused setup d is = record {
+  leases = ap segments_of_accounts is.book.accounts;
+  rounds = ap (λ (cs : List NumberedCpu). all_own_rounds (flat_map caches_of cs)) is.cpus ∙ ap all_own_rounds (append-nil (caches_of (fresh_cpu 0 d.spaces))) ∙ fresh_cpu_fits.none d.spaces 0;
+  reaped = all_reaped setup (numbered_deeds 0 setup.spans) d.spaces is.stock;
+}

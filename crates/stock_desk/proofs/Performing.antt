@@ -16,10 +16,9 @@ use Rattle.stock.specs.Spaces.{SpaceState}
 use Rattle.lease_machine.specs.Picture.{NumberedCpu, Picture, IsPicture, IsBookOf, SameSetup}
 use Rattle.lease_machine.specs.Operators.{Resizes, with_depots_by, with_cpu}
 use Rattle.lease_machine.specs.Held.{IsHeld}
-use Rattle.lease_machine.proofs.LawProofs.{ticks_keep, resizes_keep, selected_is_picture}
+use Rattle.lease_machine.proofs.LawProofs.{picture_of, ticks_keep, resizes_keep, selected_is_picture}
 use Rattle.stock_desk.specs.Operating.{StaysPicture, IsPerformed}
 use Rattle.stock_desk.specs.Supplies.{SupplyState, picture_with}
-use Rattle.stock_desk.proofs.BookMoves.{picture_of}
 
 pub error_short : (w : ErrorWord) → length (error_text w) ≤ LINE_ROOM
 error_short (word.Line fault.TooLong) = omega arith

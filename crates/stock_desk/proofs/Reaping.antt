@@ -12,7 +12,7 @@ use Rattle.lease_machine.proofs.LawProofs.{reap_reaps, reaps_none, reapings_add,
 use Rattle.arena_tree.specs.declared.limits.TheConstants.{MOST_ARENAS}
 use Rattle.stock_desk.specs.Operating.{IsReapedOnce, IsReapedSo}
 use Rattle.stock_desk.specs.Parts.{local_of}
-use Rattle.stock_desk.proofs.TakingFrom.{is_after, same_parts}
+use Rattle.stock_desk.proofs.SelectedParts.{is_after, same_parts}
 
 pub reaped_so : (d : Picture) (k : ℕ) (c : NumberedCpu) → position (is_cpu d.selected) d.cpus ≡ Some k → slice_get d.cpus k ≡ Some c → IsHeld [] d → (s : LocalState) (r : Reaping) → RunsTo d.tree (reap_plan d.tree (2 ^ 64 - 1)) (local_of d.spaces c.caches) s (Ok r)
     → IsReapedOnce r d (record d { spaces = s.spaces; cpus = set d.cpus k (record { number = c.number; caches = s.cpu }) })

@@ -1,17 +1,10 @@
 -- Lists of steps that were gone through over a stock and a CPU.
-use Rattle.std.proofs.Common.{◌≡◌, ℕ, ◌<◌, List, [], ◌∷◌, Some, refl, sym, ap, subst, ◌∙◌, length}
-use Rattle.std.proofs.lemmas.List.{length-map}
-use Rattle.deed_core.specs.Tag.{Tag}
-use Rattle.arena_tree.specs.declared.levels.Level.{Level}
-use Rattle.arena_tree.specs.declared.part_faults.ClimbFault.{ClimbFault}
-use Rattle.arena_tree.specs.declared.part_faults.ClimbFault.TheVariants.{BadRequest, NoFit, NoMemory, Stuck, Stopped}
-use Rattle.arena_tree.specs.Tags.{tag_climb_fault}
-use Rattle.std.specs.Prelude.{None}
+use Rattle.std.proofs.Common.{◌≡◌, ℕ, List, [], ◌∷◌, refl, sym, ap, ◌∙◌}
 use Rattle.arena_tree.specs.declared.trees.TreeArena.{TreeArena}
-use Rattle.arena_tree.specs.Chains.{Node, first_id}
+use Rattle.arena_tree.specs.Chains.{Node}
 use Rattle.arena_tree.specs.Events.{Event, AnswerTo}
 use Rattle.arena_tree.specs.Plans.{Plan, Done, Ask, Path, Step, Ran}
-use Rattle.arena_tree.specs.Trees.{nodes_of, node_of, ChainFrom}
+use Rattle.arena_tree.specs.Trees.{nodes_of, node_of}
 use Rattle.stock.specs.Setups.{plans_for}
 use Rattle.stock.specs.Spaces.{plans_of}
 use Rattle.local_parts.specs.States.{LocalState, tree_of}
@@ -40,21 +33,3 @@ pub ran_here : {S A : Type 0} (arenas : List TreeArena) (see : S → LocalState)
     → ((s t : S) (e : Event) (x : AnswerTo e) → step s e x t → LocalStep (see s) e x (see t))
     → (p : Plan A) (s t : S) (a : A) → tree s ≡ nodes_of arenas → Ran step tree count rounds p s t a → RunsTo arenas p (see s) (see t) a
 ran_here arenas see step tree count rounds is p s t a nodes ran = run_seen arenas see step tree count rounds is p s t a nodes ran.path
-
--- a chain begins with its arena
-pub chain_first : (arenas : List TreeArena) (id : ℕ) (chain : List Level) → ChainFrom arenas (Some id) chain → first_id chain ≡ Some id
-chain_first arenas id [] c = absurd c
-chain_first arenas id (l ∷ up) c = ap (λ (x : Level). Some x.id) c.2
-
--- an arena of the tree is among those that the parts reach
-pub within_nodes : (tree : List TreeArena) (s : LocalState) (arena : ℕ) → IsLocalOf tree s → arena < length tree → arena < length (tree_of (plans_of s.spaces) tree)
-within_nodes tree s arena is within = subst (λ n. arena < n) (sym (ap length (local_nodes tree s is) ∙ length-map tree node_of)) within
-
--- a segment is known by itself
-pub same_fault : (f : ClimbFault Tag) → tag_climb_fault (λ t. t) f ≡ f
-same_fault BadRequest = refl
-same_fault NoFit = refl
-same_fault NoMemory = refl
-same_fault (Stuck t) = refl
-same_fault (Stopped None) = refl
-same_fault (Stopped (Some t)) = refl

@@ -1,40 +1,26 @@
 //! Replies to requests and hellos.
-ghost use Rattle.std.specs.Prelude.{◌≡◌};
-ghost use Rattle.lease_history.specs.Told.{reply_to};
-ghost use Rattle.lease_machine.specs.Machine as machine;
+ghost use Rattle.std.specs.Prelude.{◌≡◌, length};
+ghost use Rattle.lease_history.specs.Told.{IsTellable, reply_to, reply_to_answer};
+ghost use Rattle.lease_history.specs.Told.{hello_refusal};
+ghost use Rattle.lease_proto.specs.declared.replies.Reply.TheVariants as replies;
+ghost use Rattle.lease_machine.specs.Conversations.{CanName, CanTell, reply_of_outcome};
 ghost use Rattle.lease_machine.specs.Picture.{arena_named};
-ghost use Rattle.lease_machine.specs.Replies.{again_of};
-ghost use Rattle.stock_desk.specs.Hellos.{hello_refusal};
-ghost use Rattle.stock_desk.specs.Telling.{IsGivenIn, CanName, reply_to_answer};
 
 use arena_tree::Tree;
-use deed_core::{PlainDeed, Request};
+use deed_core::PlainDeed;
 use lease_book::{Answer, HelloFault, KeptReply};
-use lease_proto::{Again, Granted, HelloLine, LeaseLine, Old, OutOfTurn, RefusedRequest, Reply};
-use lease_terms::{Quantity, RequestId};
+use lease_call::Outcome;
+use lease_proto::{Granted, HelloLine, Old, OutOfTurn, RefusedRequest, Reply, Welcome};
+use lease_terms::RequestId;
 
-/// What a lease asks of its arena.
-pub(crate) fn demand_of(lease: &LeaseLine) -> Request
-    ensures { result ≡ machine.demand_of lease.now }
+/// The reply to a hello that is taken.
+pub(crate) fn welcome(hello: &HelloLine) -> Reply
+    ensures { result ≡ replies.Welcome
+        (record { client = hello.now.client; incarnation = hello.now.incarnation }) }
 {
-    Request {
-        size: lease.size.get(),
-        align: lease.options.align.get(),
-        phase: lease.options.phase.get(),
-        nocross: lease.options.nocross.get(),
-        min: lease.options.min.get(),
-        max: lease.options.max.get(),
-    }
-}
-
-/// Nothing came of the request, out of memory.
-pub(crate) fn again(id: RequestId) -> Reply
-    ensures { result ≡ again_of id }
-{
-    Reply::Again(Again {
-        client: id.client,
-        incarnation: id.incarnation,
-        number: id.number.quantity(),
+    Reply::Welcome(Welcome {
+        client: hello.client,
+        incarnation: hello.incarnation,
     })
 }
 
@@ -47,17 +33,13 @@ pub(crate) fn refused(hello: &HelloLine, fault: &HelloFault) -> Reply
             client: hello.client,
             current: *current,
         }),
-        HelloFault::NoMemory => Reply::Again(Again {
-            client: hello.client,
-            incarnation: hello.incarnation,
-            number: Quantity::ZERO,
-        }),
+        HelloFault::NoMemory => Reply::hello_again(hello),
     }
 }
 
 /// The reply that was settled for the request.
-pub(crate) fn settled(tree: &Tree, id: RequestId, reply: KeptReply) -> Reply
-    requires { IsGivenIn tree.now reply }
+fn settled(tree: &Tree, id: RequestId, reply: KeptReply) -> Reply
+    requires { IsTellable (length tree.now) reply }
     ensures { result ≡ reply_to (arena_named tree.now) id reply }
 {
     match reply {
@@ -77,9 +59,9 @@ pub(crate) fn settled(tree: &Tree, id: RequestId, reply: KeptReply) -> Reply
 
 /// The reply that the book's answer is.
 #[cold]
-pub(crate) fn answered(tree: &Tree, id: RequestId, answer: Answer<PlainDeed>) -> Reply
+fn answered(tree: &Tree, id: RequestId, answer: Answer<PlainDeed>) -> Reply
     requires { CanName tree.now answer }
-    ensures { result ≡ reply_to_answer tree.now id answer }
+    ensures { result ≡ reply_to_answer (arena_named tree.now) id answer }
 {
     match answer {
         Answer::Kept(receipt) => settled(tree, id, receipt.reply()),
@@ -90,6 +72,18 @@ pub(crate) fn answered(tree: &Tree, id: RequestId, answer: Answer<PlainDeed>) ->
         }),
         Answer::Stale(last) => Reply::Stale(OutOfTurn { id, last }),
         Answer::Gap(last) => Reply::Gap(OutOfTurn { id, last }),
-        Answer::Again => again(id),
+        Answer::Again => Reply::again(id),
+    }
+}
+
+/// The reply to what a request came to.
+pub(crate) fn told(tree: &Tree, id: RequestId, outcome: Outcome<PlainDeed>) -> Reply
+    requires { CanTell tree.now outcome }
+    ensures { result ≡ reply_of_outcome tree.now id outcome }
+{
+    match outcome {
+        Outcome::Settled(receipt) => settled(tree, id, receipt.reply()),
+        Outcome::Answered(answer) => answered(tree, id, answer),
+        Outcome::Again => Reply::again(id),
     }
 }

@@ -8,7 +8,6 @@ ghost use Rattle.lease_proto.specs.declared.limits.TheConstants.{LINE_ROOM};
 ghost use Rattle.lease_proto.specs.declared.operators.ServedLine.TheVariants as served;
 ghost use Rattle.lease_machine.specs.Machine.{LeaseStep, ServedStep};
 ghost use Rattle.lease_machine.specs.Picture.{IsPicture};
-ghost use Rattle.lease_machine.specs.RoomLaws.{NothingIsKept};
 ghost use Rattle.stock_desk.specs.Openings.{IsOpenedFrom};
 ghost use Rattle.stock_desk.specs.Operating.{StaysPicture};
 
@@ -59,7 +58,6 @@ impl Desk {
     pub fn open(alloc: Global, setup: Setup) -> Result<Desk, AllocError>
         ensures opened { IfOk result (IsOpenedFrom setup) }
         ensures picture { IfOk result IsPicture }
-        ensures unused { IfOk result NothingIsKept }
         ensures mark { IfOk result (λ desk. desk.book.mark.root ≡ MOST_ARENAS * MOST_SPANS) }
     {
         let supply = open_supply(alloc, setup)?;

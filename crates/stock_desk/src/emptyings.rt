@@ -6,16 +6,16 @@ ghost use Rattle.stock.specs.Accounts.{Accounts};
 ghost use Rattle.stock.specs.OwnCaches.{OwnCacheState};
 ghost use Rattle.stock.specs.Setups.{plans_for};
 ghost use Rattle.stock.specs.Spaces.{plans_of};
-ghost use Rattle.local_parts.specs.Cpus.{IsCpuOf, cpu_rounds};
-ghost use Rattle.local_calls.specs.Runs.{IsLocalOf, RunsTo};
+ghost use Rattle.local_parts.specs.Cpus.{IsCpuOf, HasNoRounds, cpu_rounds};
+ghost use Rattle.local_calls.specs.Runs.{IsLocalOf, IsAccountedWith, RunsTo};
 ghost use Rattle.stock_desk.specs.Emptyings.{rounds_of_all};
 ghost use Rattle.stock_desk.specs.Parts.{local_of};
 
-use crate::calls::drain_over;
 use crate::cpus::Cpu;
 use arena_tree::Tree;
 use deed_core::PlainDeed;
 use local_parts::{CpuCaches, Local};
+use quantum_cache::drain;
 use std::alloc::Global;
 use stock::Stock;
 
@@ -58,22 +58,39 @@ pub(crate) fn empty(
 {
     // For its clause: what is always so of a stock.
     let _ = stock.count();
+    drain_with(alloc, tree, stock, &mut caches);
+    match caches.close() {
+        Ok(()) => {}
+        Err(_) => unreachable!(),
+    }
+}
+
+/// Puts all rounds of the CPU into their slabs. It takes no memory.
+fn drain_with(
+    alloc: Global,
+    tree: &Tree,
+    stock: &mut Stock<PlainDeed>,
+    cpu: &mut CpuCaches<PlainDeed>,
+)
+    requires local { IsLocalOf tree.now (local_of stock.old cpu.old) }
+    requires out { (others : List Tag)
+        × IsAccountedWith (local_of stock.old cpu.old) None others }
+    ensures ran { (turns : ℕ) → length (cpu_rounds cpu.old) < turns
+        → RunsTo tree.now (drain_plan turns tree.now)
+        (local_of stock.old cpu.old) (local_of stock.new cpu.new) (Ok tt) }
+    ensures empty { HasNoRounds cpu.new }
+    ensures out { (others : List Tag) → Accounts stock.old (cpu_rounds cpu.old ++ others)
+        → Accounts stock.new others }
+    ensures fixed { plans_of stock.new ≡ plans_of stock.old }
+{
     let mut parts = Local {
         stock: &mut *stock,
-        cpu: &mut caches,
+        cpu: &mut *cpu,
         tree,
         alloc,
         steps: 0,
     };
-    drain_over(&mut parts);
-    let Local {
-        stock: _,
-        cpu: _,
-        tree: _,
-        alloc: _,
-        steps: _,
-    } = parts;
-    match caches.close() {
+    match drain(&mut parts, tree) {
         Ok(()) => {}
         Err(_) => unreachable!(),
     }

@@ -1,51 +1,89 @@
 //! The answer to a hello.
-ghost use Rattle.std.specs.Prelude.{◌≡◌, ◌≤◌, List, All};
-ghost use Rattle.deed_core.specs.Tag.{Tag};
-ghost use Rattle.lease_book.specs.BookState.{account_in};
-ghost use Rattle.lease_machine.specs.Machine.{HelloStep, Sweeps};
+ghost use Rattle.std.specs.Prelude.{◌≡◌};
+ghost use Rattle.lease_call.specs.Greeting.{greet_plan};
+ghost use Rattle.local_calls.specs.Runs.{IsLocalOf};
+ghost use Rattle.lease_machine.specs.Conversations.{RunsCall, AnswersHello};
+ghost use Rattle.lease_machine.specs.Machine.{HelloStep};
 ghost use Rattle.lease_machine.specs.Picture.{IsPicture, SameSetup};
+ghost use Rattle.stock_desk.specs.Parts.{local_of};
 ghost use Rattle.stock_desk.specs.Supplies.{picture_with};
 
-use crate::answers::refused;
+use crate::answers::{refused, welcome};
+use crate::own_books::OwnBook;
 use crate::supplies::Supply;
-use deed_core::PlainDeed;
-use lease_book::Book;
-use lease_proto::{HelloLine, Reply, Welcome};
-use lease_terms::ClientId;
+use arena_tree::Tree;
+use deed_core::{PlainDeed, Segment};
+use lease_book::{Book, MOST_LEASES};
+use lease_call::{CallFault, Greeting, hello};
+use lease_proto::{HelloLine, Reply};
+use local_parts::{CpuCaches, Local};
+use std::alloc::Global;
+use stock::Stock;
 
-/// Takes a hello, and ends the client's leases of older incarnations.
-pub(crate) fn greet(supply: &mut Supply, book: &mut Book<PlainDeed>, hello: &HelloLine) -> Reply
-    requires picture { IsPicture (picture_with book.old supply.old) }
-    ensures picture { IsPicture (picture_with book.new supply.new) }
-    ensures setup { SameSetup (picture_with book.old supply.old)
-        (picture_with book.new supply.new) }
-    ensures step { HelloStep hello.now
-        (picture_with book.old supply.old) (picture_with book.new supply.new) result }
-{
-    match book.hello(hello.client, hello.incarnation) {
-        Ok(()) => {
-            sweep(supply, book, hello.client);
-            Reply::Welcome(Welcome {
-                client: hello.client,
-                incarnation: hello.incarnation,
-            })
+/// What a hello's list of steps ended with.
+type Greeted = Result<Greeting, CallFault<Segment<PlainDeed>>>;
+
+impl Supply {
+    /// Answers a hello.
+    pub(crate) fn greet(&mut self, book: &mut Book<PlainDeed>, line: &HelloLine) -> Reply
+        requires picture { IsPicture (picture_with book.old self.old) }
+        ensures picture { IsPicture (picture_with book.new self.new) }
+        ensures setup { SameSetup (picture_with book.old self.old)
+            (picture_with book.new self.new) }
+        ensures step { HelloStep line.now
+            (picture_with book.old self.old) (picture_with book.new self.new) result }
+    {
+        match self.hear(book, line) {
+            Ok(Greeting::Welcome) => welcome(line),
+            Ok(Greeting::Late(fault)) => refused(line, &fault),
+            Ok(Greeting::Unswept) => unreachable!(),
+            Err(_) => unreachable!(),
         }
-        Err(fault) => refused(hello, &fault),
+    }
+
+    /// Goes through the hello's list of steps, over the selected CPU's parts and the book.
+    fn hear(&mut self, book: &mut Book<PlainDeed>, line: &HelloLine) -> Greeted
+        requires { IsPicture (picture_with book.old self.old) }
+        ensures { AnswersHello line.now (picture_with book.old self.old)
+            (picture_with book.new self.new) result }
+    {
+        // As many sweeps as find each lease that a client may have, and then none.
+        let turns = MOST_LEASES as u64 + 1;
+        let index = self.selected_index();
+        let cpu = &mut self.cpus[index];
+        hello_with(
+            self.alloc,
+            &self.tree,
+            &mut self.stock,
+            &mut cpu.caches,
+            book,
+            line,
+            turns,
+        )
     }
 }
 
-/// Ends the client's leases of older incarnations, one at a time, and puts each back.
-fn sweep(supply: &mut Supply, book: &mut Book<PlainDeed>, client: ClientId)
-    requires picture { IsPicture (picture_with book.old supply.old) }
-    ensures picture { IsPicture (picture_with book.new supply.new) }
-    ensures setup { SameSetup (picture_with book.old supply.old)
-        (picture_with book.new supply.new) }
-    ensures swept { (swept : List Tag) × Sweeps client swept
-        (picture_with book.old supply.old) (picture_with book.new supply.new) }
-    ensures left { All (λ l. (account_in client book.old).incarnation ≤ l.incarnation)
-        (account_in client book.new).leases }
+/// Goes through the hello's list of steps with so many sweeps, over these parts and the book.
+fn hello_with(
+    alloc: Global,
+    tree: &Tree,
+    stock: &mut Stock<PlainDeed>,
+    cpu: &mut CpuCaches<PlainDeed>,
+    book: &mut Book<PlainDeed>,
+    line: &HelloLine,
+    turns: u64,
+) -> Greeted
+    requires local { IsLocalOf tree.now (local_of stock.old cpu.old) }
+    ensures ran { RunsCall {D = PlainDeed} tree.now (greet_plan tree.now line.now turns)
+        book.old (local_of stock.old cpu.old) book.new (local_of stock.new cpu.new) result }
 {
-    while let Some((_, segment)) = book.sweep(client) {
-        supply.put_back(segment);
-    }
+    let mut parts = Local {
+        stock: &mut *stock,
+        cpu: &mut *cpu,
+        tree,
+        alloc,
+        steps: 0,
+    };
+    let mut own = OwnBook { book: &mut *book };
+    hello(&mut parts, &mut own, tree, None, line, turns)
 }

@@ -2,10 +2,10 @@
 //! together answer the lines of the lease protocol and of its operator.
 //!
 //! Begin with desks, which has the desk itself, and responding, what a server asks of it. Each step
-//! has a module of its own: the calls over one thread's parts (calls), an operator's choice of a
-//! CPU (cpus), his intervals and magazine sizes (depots), what he is told of the arenas and clients
-//! (telling), replies (answers, settling, replying), segments that are given and taken back
-//! (supplies, takings), leases, hellos and releases (leasing, hellos, releasing), the answers to an
+//! has a module of its own: what segments come from (supplies), the book as `lease_call` asks it
+//! (own_books), the answers to requests and hellos by its lists of steps (requests, hellos) and how
+//! they are told (answers, replying), an operator's choice of a CPU (cpus), his intervals and
+//! magazine sizes (depots), what he is told of the arenas and clients (telling), the answers to an
 //! operator (operating), CPUs that go offline (offlines), what is reaped (reapings), what a setup
 //! gives (openings), and how leases (returns) and CPUs (emptyings) end. What a line may be answered
 //! is stated in the crate `lease_machine`.
@@ -19,24 +19,21 @@
 #![tactic(auto)]
 
 mod answers;
-mod calls;
 mod cpus;
 mod depots;
 mod desks;
 mod emptyings;
 mod hellos;
-mod leasing;
 mod offlines;
 mod openings;
 mod operating;
+mod own_books;
 mod reapings;
-mod releasing;
 mod replying;
+mod requests;
 mod responding;
 mod returns;
-mod settling;
 mod supplies;
-mod takings;
 mod telling;
 
 pub use desks::Desk;

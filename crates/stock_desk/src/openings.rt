@@ -2,7 +2,6 @@
 ghost use Rattle.std.specs.Prelude.{◌≡◌, [], ◌∷◌, IfOk};
 ghost use Rattle.lease_book.specs.BookState.{BookState, IsHistory};
 ghost use Rattle.lease_machine.specs.Picture.{IsPicture, fresh_cpu};
-ghost use Rattle.lease_machine.specs.RoomLaws.{NothingIsKept};
 ghost use Rattle.stock_desk.specs.Openings.{IsOpenedFrom};
 ghost use Rattle.stock_desk.specs.Supplies.{picture_with};
 
@@ -22,8 +21,6 @@ pub(crate) fn open_supply(alloc: Global, setup: Setup) -> Result<Supply, AllocEr
         → IsOpenedFrom setup (picture_with b supply)) }
     ensures picture { IfOk result (λ supply. (b : BookState) → IsHistory [] b
         → IsPicture (picture_with b supply)) }
-    ensures unused { IfOk result (λ supply. (b : BookState) → IsHistory [] b
-        → NothingIsKept (picture_with b supply)) }
 {
     // For its clause: what is so of every tree.
     let _ = setup.tree();

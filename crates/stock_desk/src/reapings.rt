@@ -9,12 +9,11 @@ ghost use Rattle.stock_desk.specs.Operating.{IsReapedOnce, IsReapedSo};
 ghost use Rattle.stock_desk.specs.Parts.{local_of};
 ghost use Rattle.stock_desk.specs.Supplies.{picture_with};
 
-use crate::calls::reap_over;
 use crate::supplies::Supply;
 use arena_tree::Tree;
 use deed_core::PlainDeed;
 use local_parts::{CpuCaches, Local};
-use quantum_cache::Reaping;
+use quantum_cache::{Reaping, reap};
 use std::alloc::Global;
 use stock::Stock;
 
@@ -68,13 +67,8 @@ fn reap_with(
         alloc,
         steps: 0,
     };
-    let reaping = reap_over(&mut parts);
-    let Local {
-        stock: _,
-        cpu: _,
-        tree: _,
-        alloc: _,
-        steps: _,
-    } = parts;
-    reaping
+    match reap(&mut parts, tree, u64::MAX) {
+        Ok(reaping) => reaping,
+        Err(_) => unreachable!(),
+    }
 }

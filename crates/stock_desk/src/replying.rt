@@ -3,13 +3,10 @@ ghost use Rattle.lease_machine.specs.Machine.{ClientStep};
 ghost use Rattle.lease_machine.specs.Picture.{IsPicture, SameSetup};
 ghost use Rattle.stock_desk.specs.Supplies.{picture_with};
 
-use crate::hellos::greet;
-use crate::leasing::lease;
-use crate::releasing::release;
 use crate::supplies::Supply;
 use deed_core::PlainDeed;
 use lease_book::Book;
-use lease_proto::{Line, Op, Reply};
+use lease_proto::{Line, Reply};
 
 /// Replies to the line of a client.
 pub(crate) fn reply(supply: &mut Supply, book: &mut Book<PlainDeed>, line: &Line) -> Reply
@@ -21,8 +18,7 @@ pub(crate) fn reply(supply: &mut Supply, book: &mut Book<PlainDeed>, line: &Line
         (picture_with book.old supply.old) (picture_with book.new supply.new) result }
 {
     match line {
-        Line::Hello(hello) => greet(supply, book, hello),
-        Line::Request(id, Op::Lease(op)) => lease(supply, book, *id, op),
-        Line::Request(id, Op::Release(op)) => release(supply, book, *id, op),
+        Line::Hello(hello) => supply.greet(book, hello),
+        Line::Request(id, op) => supply.answer(book, *id, op),
     }
 }

@@ -53,12 +53,4 @@ impl Supply {
             None => unreachable!(),
         }
     }
-
-    /// Goes to the allocated range of an arena at a base. It is for speed alone.
-    pub(crate) fn go_to(&mut self, arena: u32, base: u64)
-        requires within { arena < length self.old.spaces }
-        ensures unchanged { self.new ≡ self.old }
-    {
-        self.stock.go_to(arena as usize, base);
-    }
 }

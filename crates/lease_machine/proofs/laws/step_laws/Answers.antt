@@ -1,3 +1,4 @@
+use Rattle.lease_machine.proofs.Settling.{refusals_are_answered}
 use Rattle.lease_machine.proofs.Stepping.{faults_are_answered, known_are_answered, old_hellos_are_answered, audits_are_answered, clients_are_told, cpus_are_selected, resizes_are_answered, releases_are_settled}
 use Rattle.lease_machine.proofs.Ticking.{ticks_are_answered}
 use Rattle.lease_machine.proofs.laws.step_laws.Goals as goal
@@ -28,3 +29,6 @@ returns-clause-resizes c = resizes_are_answered
 
 pub returns-clause-releases : goal.returns-clause-releases
 returns-clause-releases c = releases_are_settled
+
+pub returns-clause-refusals : goal.returns-clause-refusals
+returns-clause-refusals c = refusals_are_answered

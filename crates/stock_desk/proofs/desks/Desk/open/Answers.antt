@@ -8,6 +8,3 @@ returns-clause-opened c = c.in_ok-supply.ensures.opened c.new-2.result c.new-2.e
 
 pub returns-clause-picture : goal.returns-clause-picture
 returns-clause-picture c = c.in_ok-supply.ensures.picture c.new-2.result c.new-2.ensures.empty
-
-pub returns-clause-unused : goal.returns-clause-unused
-returns-clause-unused c = c.in_ok-supply.ensures.unused c.new-2.result c.new-2.ensures.empty

@@ -6,7 +6,7 @@ use Rattle.lease_machine.specs.Held.{IsHeld}
 use Rattle.stock_desk.specs.Parts.{local_of}
 use Rattle.stock_desk.specs.Supplies.{SupplyState, picture_with}
 use Rattle.stock_desk.specs.Operating.{IsReapedOnce}
-use Rattle.stock_desk.proofs.TakingFrom.{take_out}
+use Rattle.stock_desk.proofs.SelectedParts.{parts_out}
 use Rattle.stock_desk.proofs.Reaping.{reaped_so}
 use Rattle.stock_desk.proofs.supplies.Supply.reap_once.Goals as goal
 
@@ -18,7 +18,7 @@ reap_with-requires-clause-out c =
     let first : position (is_cpu c.self.inside.selected) c.self.inside.cpus.items ≡ Some c.selected_index-index.result = subst (λ (s : SupplyState). position (is_cpu s.selected) s.cpus ≡ Some c.selected_index-index.result) (sym c.self.view_is) c.selected_index-index.ensures.index in
     let within : c.selected_index-index.result < length c.self.inside.cpus.items = subst (λ (s : SupplyState). c.selected_index-index.result < length s.cpus) (sym c.self.view_is) c.selected_index-index.ensures.within in
     let at : slice_get c.self.inside.cpus.items c.selected_index-index.result ≡ Some cpu = slice_get_here c.self.inside.cpus.items c.selected_index-index.result c.index_mut-cpu.result.now within c.index_mut-cpu.ensures.value ∙ ap (λ (x : NumberedCpu). Some x) (sym c.cpu.view_is) in
-    take_out (picture_with b (record { tree = c.self.inside.tree; spaces = c.self.inside.stock; cpus = c.self.inside.cpus.items; selected = c.self.inside.selected })) c.selected_index-index.result cpu first at held
+    parts_out (picture_with b (record { tree = c.self.inside.tree; spaces = c.self.inside.stock; cpus = c.self.inside.cpus.items; selected = c.self.inside.selected })) c.selected_index-index.result cpu first at held
 
 pub returns : goal.returns
 returns c b now =

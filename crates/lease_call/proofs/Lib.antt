@@ -1,0 +1,7 @@
+pub mod LawProofs
+mod CallPaths
+mod GoneThrough
+mod Sweeping
+mod TreeChains
+mod Takings
+mod CallBounds

@@ -1,0 +1,30 @@
+-- The calls of the book, each with what it can be answered.
+use Rattle.std.specs.Prelude.{ℕ, Option, Result}
+use Rattle.deed_core.specs.Tag.{Tag}
+use Rattle.lease_terms.specs.Requests.{RequestId}
+use Rattle.lease_terms.specs.declared.refusals.Refusal.{Refusal}
+use Rattle.arena_tree.specs.declared.part_faults.Stopped.{Stopped}
+use Rattle.lease_book.specs.Receipts.{ReceiptState}
+use Rattle.lease_book.specs.declared.answers.Answer.{Answer}
+use Rattle.lease_book.specs.declared.receipts.Terms.{Terms}
+use Rattle.lease_call.specs.declared.call_faults.NotGreeted.{NotGreeted}
+use Rattle.lease_call.specs.declared.call_faults.NotReleased.{NotReleased}
+use Rattle.lease_call.specs.declared.call_faults.NotSettled.{NotSettled}
+
+-- each is one event of the book; `given` is the segment in the hand
+pub data BookCall : Type 0 where
+  Look : (id : RequestId) → BookCall
+  Settle : (id : RequestId) (given : Tag) (terms : Terms) → BookCall
+  Refuse : (id : RequestId) (why : Refusal) → BookCall
+  Release : (id : RequestId) (arena base : ℕ) → BookCall
+  Hello : (client incarnation : ℕ) → BookCall
+  Sweep : (client : ℕ) → BookCall
+
+-- what a call of a book of D's can be answered
+abbrev pub AnswerOf : Type 0 → BookCall → Type 0
+AnswerOf D (Look id) = Result (Option (Answer D)) Stopped
+AnswerOf D (Settle id given terms) = Result ReceiptState (NotSettled Tag D)
+AnswerOf D (Refuse id why) = Result (Answer D) Stopped
+AnswerOf D (Release id arena base) = Result (ReceiptState × Tag) (NotReleased D)
+AnswerOf D (Hello client incarnation) = Result (Unit {0}) NotGreeted
+AnswerOf D (Sweep client) = Result (Option (RequestId × Tag)) Stopped

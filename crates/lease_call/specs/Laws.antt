@@ -1,0 +1,53 @@
+-- Laws of the lists of steps of lines, over all trees: how many locks of parts they take. A call of
+-- the book takes none of these, and what was in the hand before is a free of its own.
+use Rattle.std.specs.Prelude.{ℕ, ◌+◌, ◌*◌, ◌≤◌, List, Option, Some, None, Ok, Err, length}
+use Rattle.lease_terms.specs.Requests.{RequestId}
+use Rattle.arena_tree.specs.Events.{AnswerTo, locks}
+use Rattle.arena_tree.specs.Trees.{index_in}
+use Rattle.arena_tree.specs.declared.limits.TheConstants.{LONGEST_CHAIN}
+use Rattle.arena_tree.specs.declared.trees.TreeArena.{TreeArena}
+use Rattle.quantum_cache.specs.Caches.{chain_in}
+use Rattle.lease_proto.specs.declared.lines.HelloLine.{HelloLine}
+use Rattle.lease_proto.specs.declared.lines.LeaseLine.{LeaseLine}
+use Rattle.lease_proto.specs.declared.lines.ReleaseLine.{ReleaseLine}
+use Rattle.lease_call.specs.CallPlans.{CallPlan, Done, Part, Call}
+use Rattle.lease_call.specs.Calls.{AnswerOf}
+use Rattle.lease_call.specs.Greeting.{HelloEnd, greet_plan}
+use Rattle.lease_call.specs.Leasing.{lease_plan}
+use Rattle.lease_call.specs.Releasing.{CallEnd, release_plan}
+use Rattle.lease_call.specs.declared.outcomes.Outcome.TheVariants.{Settled, Answered, Again}
+
+-- after so many locks, there are at most so many in all, by what it ends with
+abbrev pub CallWithin : {D A : Type 0} → (A → ℕ) → CallPlan D A → ℕ → Type 0
+CallWithin most (Done a) n = n ≤ most a
+CallWithin most (Part e f) n = (x : AnswerTo e) → CallWithin most (f x) (n + locks e)
+CallWithin {D = D} most (Call k f) n = (x : AnswerOf D k) → CallWithin most (f x) n
+
+-- how many arenas there are from the one of this name upwards; 0 without one
+abbrev pub depth_at : List TreeArena → Option ℕ → ℕ
+depth_at arenas None = 0
+depth_at arenas (Some id) = length (chain_in arenas id)
+
+-- those of an allocation; where the book doesn't lease what was taken, that goes back
+abbrev pub lease_most : {D : Type 0} → ℕ → CallEnd D → ℕ
+lease_most depth (Ok (Settled v)) = 8 + 2 * depth
+lease_most depth (Ok (Answered a)) = 8 + 2 * depth + LONGEST_CHAIN
+lease_most depth (Ok Again) = 8 + 2 * depth
+lease_most depth (Err e) = 8 + 2 * depth + LONGEST_CHAIN
+
+-- A lease of an arena with d arenas in its chain takes at most 8 + 2 d locks, or four more where it
+-- isn't granted.
+abbrev pub LeaseIsShort : Type 0 → Type 0
+LeaseIsShort D = (arenas : List TreeArena) (id : RequestId) (l : LeaseLine)
+    → CallWithin {D = D} (lease_most (depth_at arenas (index_in l.arena arenas)))
+    (lease_plan arenas id l) 0
+
+-- A release takes at most four.
+abbrev pub ReleaseIsShort : Type 0 → Type 0
+ReleaseIsShort D = (arenas : List TreeArena) (id : RequestId) (l : ReleaseLine)
+    → CallWithin {D = D} (λ (r : CallEnd D). LONGEST_CHAIN) (release_plan arenas id l) 0
+
+-- A hello takes at most four for each sweep.
+abbrev pub HelloIsShort : Type 0 → Type 0
+HelloIsShort D = (arenas : List TreeArena) (h : HelloLine) (turns : ℕ)
+    → CallWithin {D = D} (λ (r : HelloEnd). turns * LONGEST_CHAIN) (greet_plan arenas h turns) 0

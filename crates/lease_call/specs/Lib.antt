@@ -1,0 +1,13 @@
+pub mod Calls
+pub mod CallPlans
+pub mod CallTags
+pub mod BookEvents
+pub mod Answered
+pub mod Placing
+pub mod Hands
+pub mod Releasing
+pub mod Leasing
+pub mod Taking
+pub mod Requesting
+pub mod Greeting
+pub mod Laws

@@ -1,0 +1,35 @@
+//! Why a call or a list of steps ended without its result. `S` is a segment, which comes back.
+
+use lease_book::{Answer, HelloFault, NotLeased};
+
+/// Why a hello wasn't taken.
+pub enum NotGreeted {
+    /// The book doesn't take it.
+    Late(HelloFault),
+    /// Nothing was done.
+    Stopped,
+}
+
+/// Why no lease ended.
+pub enum NotReleased<D> {
+    /// The book answers otherwise.
+    Answered(Answer<D>),
+    /// Nothing was done.
+    Stopped,
+}
+
+/// Why no lease was made.
+pub enum NotSettled<S, D> {
+    /// The book answers otherwise, and hands the segment back.
+    NotLeased(NotLeased<S, D>),
+    /// Nothing was done.
+    Stopped(S),
+}
+
+/// Why a line came to nothing.
+pub enum CallFault<S> {
+    /// A part refused this segment.
+    Stuck(S),
+    /// A step wasn't done; the segment is the one that it would have placed.
+    Stopped(Option<S>),
+}

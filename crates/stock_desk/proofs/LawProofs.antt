@@ -1,0 +1,2 @@
+-- What the proofs of the crates above cite of this crate.
+pub use Rattle.stock_desk.proofs.Opening.{opened_unused}
