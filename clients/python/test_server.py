@@ -34,6 +34,7 @@ class Served(unittest.TestCase):
     """Each test has a server of its own; at its end it closes with status 0."""
 
     workers = 4
+    options = ()
     config_lines = CONFIG
 
     def setUp(self):
@@ -41,7 +42,8 @@ class Served(unittest.TestCase):
         self.config = os.path.join(self.folder.name, "config")
         with open(self.config, "w", encoding="ascii") as opened:
             opened.write(self.config_lines)
-        self.server = self.start([PROGRAM, "serve", "127.0.0.1:0", self.config, str(self.workers)])
+        words = [PROGRAM, "serve", *self.options, "127.0.0.1:0", self.config, str(self.workers)]
+        self.server = self.start(words)
         told, _, address = self.server.stdout.readline().strip().partition(" ")
         self.assertEqual(told, "listening")
         self.port = int(address.rpartition(":")[2])
@@ -51,6 +53,8 @@ class Served(unittest.TestCase):
                                 text=True)
 
     def tearDown(self):
+        if self.server.stdin and self.server.stdin.closed:
+            self.server.stdin = None
         out, _ = self.server.communicate(timeout=60)
         self.folder.cleanup()
         self.assertEqual((out, self.server.returncode), ("closed\n", 0))
@@ -224,6 +228,135 @@ class Nonblocking(Served):
             with self.assertRaises(subprocess.TimeoutExpired):
                 self.server.wait(0.3)
             client.release_all()
+
+
+def small_buffers(link):
+    """Has so few answers wait in the system that its peer soon waits to write more."""
+    link.setsockopt(socket.SOL_SOCKET, socket.SO_RCVBUF, 4096)
+
+
+class Slow(Served):
+    """Each peer that is slow is cut off in its time, 1 second of a line and 3 of silence."""
+
+    options = ("--line-limit", "1", "--idle-limit", "3")
+
+    def opened(self, text=b"", answer=b""):
+        link = socket.create_connection(("127.0.0.1", self.port), 20)
+        link.sendall(text)
+        self.assertEqual(link.recv(len(answer)) if answer else b"", answer)
+        return link
+
+    def ends_between(self, link, least, most, each=lambda: None):
+        """The connection is ended in time, while `each` is done five times a second."""
+        begun = time.monotonic()
+        link.settimeout(0.2)
+        while True:
+            try:
+                each()
+                if not link.recv(4096):
+                    break
+            except TimeoutError:
+                self.assertLess(time.monotonic() - begun, 20)
+            except OSError:
+                break
+        link.close()
+        self.assertTrue(least <= time.monotonic() - begun <= most, time.monotonic() - begun)
+
+    def test_no_byte(self):
+        self.ends_between(self.opened(), 0.9, 2.5)
+
+    def test_a_first_line_by_drips(self):
+        link = self.opened()
+        self.ends_between(link, 0.9, 2.5, lambda: link.sendall(b"h"))
+
+    def test_a_later_line_by_drips(self):
+        link = self.opened(b"hello 1 1\n", b"welcome 1 1\n")
+        time.sleep(1.5)
+        self.ends_between(link, 0.9, 2.5, lambda: link.sendall(b"h"))
+
+    def test_silence_between_lines(self):
+        link = self.opened(b"hello 1 1\n", b"welcome 1 1\n")
+        self.ends_between(link, 2.9, 4.5)
+
+    def test_answers_that_are_not_taken(self):
+        link = self.opened(b"hello 1 1\n", b"welcome 1 1\n")
+        small_buffers(link)
+        begun = time.monotonic()
+        with self.assertRaises(ConnectionError):
+            while time.monotonic() - begun < 20:
+                link.sendall(b"hello 1 1\n" * 1000)
+        link.close()
+        self.assertTrue(0.9 <= time.monotonic() - begun <= 4)
+
+    def test_many_of_them_leave_the_others(self):
+        held = [self.opened() for _ in range(3 * self.workers)]
+        with self.client(1, patience=20) as client:
+            client.lease("m", 4096)
+        for it in held:
+            it.close()
+
+
+class Graceful(Served):
+    """A stop with a grace of 1 second, while other clients are connected."""
+
+    options = ("--grace", "1")
+    workers = 8
+
+    def stops_within(self, most):
+        begun = time.monotonic()
+        self.server.stdin.close()
+        self.server.wait(20)
+        self.assertLess(time.monotonic() - begun, most)
+
+    def opened(self, number):
+        link = socket.create_connection(("127.0.0.1", self.port), 20)
+        link.sendall(b"hello %d 1\n" % number)
+        self.assertEqual(link.recv(100), b"welcome %d 1\n" % number)
+        return link
+
+    def test_idle_ones_end_at_once(self):
+        links = [self.opened(number) for number in range(1, 9)]
+        self.stops_within(0.9)
+        for it in links:
+            self.assertEqual(it.recv(100), b"")
+            it.close()
+
+    def test_lines_in_flight_are_answered(self):
+        link = self.opened(1)
+        link.sendall(b"lease 1 1 1 m 8\n" + b"hello 1 1\n" * 99)
+        # (so that they have come before the end of its input does)
+        time.sleep(0.2)
+        self.stops_within(0.9)
+        with link, link.makefile("rb") as answers:
+            self.assertEqual(answers.read(), b"granted 1 1 1 m 0 8\n" + b"welcome 1 1\n" * 99)
+
+    def test_answers_that_are_not_taken(self):
+        link = self.opened(1)
+        small_buffers(link)
+        link.settimeout(1)
+        with self.assertRaises(TimeoutError):
+            while True:
+                link.sendall(b"hello 1 1\n" * 1000)
+        self.stops_within(3)
+        link.close()
+
+    def test_lines_that_go_on_coming(self):
+        link = self.opened(1)
+
+        def flood():
+            try:
+                while True:
+                    link.sendall(b"hello 1 1\n" * 100)
+                    link.recv(65536)
+            except OSError:
+                pass
+
+        flooding = threading.Thread(target=flood)
+        flooding.start()
+        time.sleep(0.3)
+        self.stops_within(3)
+        flooding.join()
+        link.close()
 
 
 @unittest.skipUnless(has_serve(), "VMEMD names no program with serve")

@@ -4,29 +4,38 @@
 //! `ClientLines` (replying) makes a responder of one, which reads lines and writes replies, so that
 //! the line server can serve any stream by it. `serve_connection` (connections) serves one, over
 //! any reader, writer and `Link` (links), by which its peer is told where the answers end;
-//! `worker_loop` (loops) those of a listener, one after another.
+//! `worker_loop` (loops) those of a `Door` (doors), one after another, each through a reader and a
+//! writer that wait for its peer no longer than a `Pace` allows (pacing), and while it stands on a
+//! `Roll` (rolls), by which all can be ended.
 //! `SystemWorker` (system_workers) is a worker of a running system, and `accept_loop` its loop.
 //!
 //! What a line may be answered is stated in specs/Replying.antt, and what a connection leaves in
-//! specs/Connections.antt. Of a socket no contract can say what it gives or takes.
+//! specs/Connections.antt. Of a socket no contract can say what it gives or takes, and of a clock
+//! none what it tells.
 //!
 //! Each byte is looked at a few times, and a line costs what its worker does. A `SystemWorker` does
 //! a request of its system for each; after a connection it reaps each arena, by at most
 //! `REAP_LIMIT` looks, and ticks each depot. A connection has its worker to itself until it ends,
-//! or is silent for `SILENCE_LIMIT` seconds, and takes memory for the replies to the lines of one
-//! read.
+//! or its peer is too slow for its pace, and takes memory for the replies to the lines of one read.
+//! Pacing asks the clock once for each answer, and once for each read that ends within a line.
 #![tactic(auto)]
 
 mod connections;
+mod doors;
 mod links;
 mod loops;
+mod pacing;
 mod replying;
+mod rolls;
 mod system_workers;
 mod workers;
 
 pub use connections::serve_connection;
+pub use doors::Door;
 pub use links::Link;
-pub use loops::{ACCEPT_PAUSE, SILENCE_LIMIT, worker_loop};
+pub use loops::{ACCEPT_PAUSE, worker_loop};
+pub use pacing::{Limited, Pace, PacedReader, PacedWriter};
 pub use replying::ClientLines;
+pub use rolls::{NotEntered, Roll, SharedStream};
 pub use system_workers::{REAP_LIMIT, SystemWorker, accept_loop};
 pub use workers::Worker;

@@ -1,6 +1,7 @@
 //! A worker of a running system.
 ghost use Rattle.std.specs.Prelude.{◌≡◌};
 
+use crate::doors::Door;
 use crate::loops::worker_loop;
 use crate::workers::Worker;
 use deed_table::Name;
@@ -8,9 +9,7 @@ use lease_proto::{Line, Reply};
 use lease_threads::{Cpu, OpenGate, System};
 use std::alloc::Global;
 use std::marker::Model;
-use std::net::TcpListener;
 use std::sync::Wait;
-use std::sync::atomic::AtomicBool;
 use std::time::Clock;
 
 /// In how many steps a worker reaps an arena after a connection, at most.
@@ -82,16 +81,15 @@ fn reap_each<N: Name, R: Wait>(rt: &R, system: &System<N>, cpu: &mut Cpu<N>) {
     }
 }
 
-/// Serves one connection of the listener after another by the system, as `worker_loop` does, and
-/// gives the CPU back once the flag is raised and the accepted connection has ended.
+/// Serves one connection of the door after another by the system, as `worker_loop` does, and gives
+/// the CPU back once the door is closed and the accepted connection has ended.
 pub fn accept_loop<N: Name, R: Wait + Clock>(
     rt: &R,
     alloc: Global,
-    listener: &TcpListener,
+    door: Door<'_>,
     system: &System<N>,
     cpu: Cpu<N>,
-    stop: &AtomicBool,
 ) -> Cpu<N> {
     let worker = SystemWorker::new(rt, system, cpu);
-    worker_loop(rt, alloc, listener, worker, stop).into_cpu()
+    worker_loop(rt, alloc, door, worker).into_cpu()
 }

@@ -4,7 +4,7 @@
 //! `lines` has lines, replies and streams of the protocol, `desk` what a desk answers over roots,
 //! `desk_caches` over imports and caches, `desk_limits` at its limits and out of memory, by
 //! `asking`; `serving` has streams of lines, failing ones too, and `connections` those of a worker,
-//! one after another.
+//! one after another; `pacing` has slow peers.
 #![tactic(auto)]
 
 #[cfg(test)]
@@ -19,5 +19,7 @@ mod desk_caches;
 mod desk_limits;
 #[cfg(test)]
 mod lines;
+#[cfg(test)]
+mod pacing;
 #[cfg(test)]
 mod serving;

@@ -1,5 +1,5 @@
 -- What the proof of `given` cites.
-use Rattle.std.proofs.Common.{◌≡◌, ◌∙◌, ◌<◌, ◌^◌, ap, ap₂, refl, sym, ℕ, List, [], Option, Some, None, Result, Ok, Err}
+use Rattle.std.proofs.Common.{arith, ◌≡◌, ◌∙◌, ◌<◌, ◌≤◌, ◌^◌, ap, ap₂, refl, sym, ℕ, List, [], Option, Some, None, Result, Ok, Err}
 use Rattle.std.specs.Option.{option_map, unwrap_or}
 use Rattle.std.specs.Result.{result_unwrap_or}
 use Rattle.std.specs.Borrow.{Bor}
@@ -12,6 +12,7 @@ use Rattle.clap.specs.Words.{ReadsOne, Row, Text, found_of, rows_of, subcommand_
 use Rattle.clap.specs.declared.parser.matches.ArgMatches.{ArgMatches}
 use Rattle.clap.specs.declared.parser.matches.ArgMatches.TheViews.{out-ArgMatches, out-SubCommand}
 use Rattle.clap.specs.declared.parser.matches.SubCommand.{SubCommand}
+use Rattle.vmemd.specs.Commands.{GivesNumber, GivesOption}
 
 -- the name that was found is that of what was found
 pub name_of_rows : (m : ArgMatches) → subcommand_name_of m ≡ option_map (λ p. p.0) (subcommand_rows_of m)
@@ -36,11 +37,24 @@ text_given None empty text none is = none ∙ ap (λ o. unwrap_or o []) is
 text_given (Some s) empty text none is = ap (λ o. unwrap_or o []) is
 
 -- the number that a word says is read as that number
-pub number_given : {E : Type 0} (gives : List ℕ → Result ℕ E → Type 0) (n : ℕ) (read : Option ℕ)
-    → ReadsOne gives (decimal n) read → ((text : List ℕ) (r : Result ℕ E) → gives text r → ParsesUnsigned 8 10 text r)
-    → n < 2 ^ 8 → n < 2 ^ 64 → read ≡ Some n
-number_given {E} gives n (Some v) h parses small fits =
-    ap (λ (r : Result ℕ E). Some (result_unwrap_or r 0)) (parse-decimal 8 n (decimal n) (Ok v) small fits refl (parses (decimal n) (Ok v) h))
-number_given {E} gives n None h parses small fits =
-    let bad : ◌≡◌ {A = Result ℕ E} (Err h.0) (Ok n) = parse-decimal 8 n (decimal n) (Err h.0) small fits refl (parses (decimal n) (Err h.0) h.1) in
+pub number_read : {E : Type 0} (width : ℕ) (gives : List ℕ → Result ℕ E → Type 0) (n : ℕ) (read : Option ℕ)
+    → ReadsOne gives (decimal n) read → ((text : List ℕ) (r : Result ℕ E) → gives text r → ParsesUnsigned width 10 text r)
+    → n < 2 ^ width → n < 2 ^ 64 → read ≡ Some n
+number_read {E} width gives n (Some v) h parses small fits =
+    ap (λ (r : Result ℕ E). Some (result_unwrap_or r 0)) (parse-decimal width n (decimal n) (Ok v) small fits refl (parses (decimal n) (Ok v) h))
+number_read {E} width gives n None h parses small fits =
+    let bad : ◌≡◌ {A = Result ℕ E} (Err h.0) (Ok n) = parse-decimal width n (decimal n) (Err h.0) small fits refl (parses (decimal n) (Err h.0) h.1) in
     cc
+
+-- the same of a word that may not be there, up to a greatest number
+pub number_says : {E : Type 0} (gives : List ℕ → Result ℕ E → Type 0) (said : Option (List ℕ)) (most : ℕ) (read : Option ℕ)
+    → ((text : List ℕ) → said ≡ Some text → ReadsOne gives text read) → ((text : List ℕ) (r : Result ℕ E) → gives text r → ParsesUnsigned 32 10 text r)
+    → most < 2 ^ 32 → (n : ℕ) → said ≡ Some (decimal n) → n ≤ most → read ≡ Some n
+number_says gives said most read value parses fits n is high = number_read 32 gives n read (value (decimal n) is) parses (omega arith) (omega arith)
+
+-- with another number where an option gives none
+pub gives_number : (rows : List Row) (word : Text) (most otherwise : ℕ) (given : Option ℕ) → 1 ≤ otherwise → otherwise ≤ most → GivesOption rows word most given
+    → GivesNumber rows word most otherwise (unwrap_or given otherwise)
+gives_number rows word most otherwise None low high (within, none, says) = (low, high, λ is. refl, λ n is l h. (let bad : None ≡ Some n = says n is l h in cc))
+gives_number rows word most otherwise (Some v) low high (within, none, says) =
+    (within.0, within.1, λ is. (let bad : Some v ≡ None = none is in cc), λ n is l h. ap (λ o. unwrap_or o otherwise) (says n is l h))

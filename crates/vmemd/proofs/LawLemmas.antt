@@ -7,6 +7,7 @@ use Rattle.lease_machine.specs.Picture.{Picture, IsPicture, SameSetup}
 use Rattle.lease_machine.specs.Laws.{Runs}
 use Rattle.lease_machine.proofs.LawProofs.{pictures_stay, setup_stays, units_have_one_home, leases_are_apart, audit_is_told, audit_tells_leases, audit_is_whole}
 use Rattle.lease_machine.proofs.LawProofs.{lines_repeat, answers_agree, grants_fit, repeats_fit, first_lease_is_served, freed_is_whole, tick_and_reap_empty}
+use Rattle.stock_desk.proofs.LawProofs.{opened_unused}
 use Rattle.vmemd.specs.Desks.{IsDeskOf}
 use Rattle.vmemd.proofs.SpanLemmas.{span_there}
 use Rattle.vmemd.proofs.UncachedLemmas.{nothing_kept}
@@ -70,7 +71,7 @@ script_first_lease start mid new s hello greeting lease text h id l none is_hell
     let begun : start ≡ s.desk = (subst (λ (frames : List Frame). Runs s.desk frames s.text start) none s.serves).1 in
     let opened : IsDeskOf s.made start = subst (λ (d : Picture). IsDeskOf s.made d) (sym begun) s.opened in
     let there = span_there s.made s.desk start l s.opened (setup_stays s.desk start s.frames s.text s.serves) fits in
-    first_lease_is_served start mid new hello greeting lease text h id l fits.arena there.space opened.picture opened.unused opened.opened.book.accounts
+    first_lease_is_served start mid new hello greeting lease text h id l fits.arena there.space opened.picture (opened_unused s.made start opened.opened) opened.opened.book.accounts
     there.names is_hello greets asks answers there.span fits.base there.owns there.serves
 
 pub script_freed_whole : ScriptFreedIsWhole

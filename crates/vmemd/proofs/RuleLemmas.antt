@@ -1,22 +1,28 @@
 -- The rules of leases over a whole script.
-use Rattle.std.proofs.Common.{◌≡◌, refl, sym, subst, ap, ◌∙◌, List, [], ◌∷◌, ℕ, true, arith}
+use Rattle.std.proofs.Common.{◌≡◌, refl, sym, subst, ap, ◌∙◌, inl, inr, Option, Some, None, List, [], ◌∷◌, ◌++◌, ℕ, true, arith, append_assoc}
+use Rattle.std.proofs.lemmas.List.{append-nil}
 use Rattle.std.proofs.lemmas.List.Elements.{All-push}
+use Rattle.std.specs.Io.KnownBytes.{Appends}
+use Rattle.std.specs.List.{flat_map}
 use Rattle.arena_tree.specs.declared.trees.TreeArena.{TreeArena}
 use Rattle.arena_tree.specs.Settings.{SetupState}
 use Rattle.lease_terms.specs.Names.{is_name}
 use Rattle.lease_proto.specs.declared.setup_lines.SetupLine.{SetupLine}
 use Rattle.lease_proto.specs.declared.setup_lines.SetupLine.TheVariants.{Root, Child, Span}
+use Rattle.lease_proto.specs.Frames.{Frame, frames_in, frames_of, frames_of_rest, rest_in, with_line_feed}
 use Rattle.lease_proto.specs.SetupTexts.{IsSetupLine}
-use Rattle.lease_proto.proofs.LawProofs.{setups_are_texts}
+use Rattle.lease_proto.proofs.LawProofs.{frames_in-append, setups_are_texts}
 use Rattle.lease_machine.specs.Picture.{Picture}
 use Rattle.lease_machine.specs.AnswerLaws.{AreNamed}
 use Rattle.lease_machine.specs.GrantLaws.{GrantsApart}
+use Rattle.lease_machine.specs.Laws.{Runs}
 use Rattle.lease_machine.proofs.LawProofs.{runs_keep_rules, grants_stay_apart, clients_get_replies, pictures_stay, setup_stays}
-use Rattle.vmemd.specs.Scripts.{Makes}
+use Rattle.vmemd.specs.declared.faults.ScriptFault.TheVariants.{Setup, Read, Write, Memory}
+use Rattle.vmemd.specs.Scripts.{Makes, OpensDesk}
 use Rattle.vmemd.specs.Settings.{TakesSetupLine}
-use Rattle.vmemd.specs.Desks.{no_arenas}
+use Rattle.vmemd.specs.Desks.{IsDeskOf, no_arenas}
 use Rattle.vmemd.specs.Laws.{Script}
-use Rattle.vmemd.specs.RuleLaws.{EndsAreScripts, ScriptKeepsRules, ScriptClientsGetReplies, ScriptGrantsStayApart}
+use Rattle.vmemd.specs.RuleLaws.{EndsAreScripts, FailsAreScripts, IsWrittenInPart, ScriptKeepsRules, ScriptClientsGetReplies, ScriptGrantsStayApart}
 
 pub ends_are_scripts : EndsAreScripts
 ends_are_scripts input before after (lines, desk, last, opens, writes) = record {
@@ -36,6 +42,56 @@ ends_are_scripts input before after (lines, desk, last, opens, writes) = record 
   frames = refl;
   written = writes.2;
 }
+
+-- the frames of lines, and of more behind them
+frames_on : (lines more : List ℕ) → frames_of (lines ++ more) ≡ frames_in [] lines ++ (frames_in (rest_in [] lines) more ++ frames_of_rest (rest_in [] (lines ++ more)))
+frames_on lines more =
+    let last = frames_of_rest (rest_in [] (lines ++ more)) in
+    ap (λ (fs : List Frame). fs ++ last) (frames_in-append [] lines more) ∙ append_assoc (frames_in [] lines) (frames_in (rest_in [] lines) more) last
+
+-- a desk that was opened answered the first frames of all lines
+in_part : (part lines input all : List ℕ) (desk last : Picture) (frames later : List Frame) (front unwritten : List ℕ) (before after : Option (List ℕ))
+    → (opens : OpensDesk TakesSetupLine IsDeskOf no_arenas part lines desk) → input ≡ flat_map with_line_feed opens.setup.lines ++ all → frames_of all ≡ frames ++ later
+    → Runs desk frames (front ++ unwritten) last → Appends before after front → IsWrittenInPart input before after
+in_part part lines input all desk last frames later front unwritten before after opens split is serves written = record {
+  last = last;
+  script = record {
+    setup = opens.setup.lines;
+    made = opens.made;
+    desk = desk;
+    frames = frames;
+    text = front ++ unwritten;
+    makes = opens.setup.makes;
+    opened = opens.opened;
+    serves = serves;
+  };
+  lines = all;
+  split = split;
+  later = later;
+  frames = is;
+  front = front;
+  unwritten = unwritten;
+  text = refl;
+  written = written;
+}
+
+-- all of its text
+whole : (desk last : Picture) (frames : List Frame) (text : List ℕ) → Runs desk frames text last → Runs desk frames (text ++ []) last
+whole desk last frames text serves = subst (λ (t : List ℕ). Runs desk frames t last) (sym (append-nil text)) serves
+
+pub fails_are_scripts : FailsAreScripts
+fails_are_scripts input left before after (Setup line word) fails = inl fails.1
+fails_are_scripts input None before after Read (part, read, so_far) = absurd read
+fails_are_scripts input (Some more) before after Read (part, read, inl none) = inl none.4
+fails_are_scripts input (Some more) before after Read (part, read, inr (lines, desk, last, opens, writes)) =
+    let split : input ≡ flat_map with_line_feed opens.setup.lines ++ (lines ++ more) =
+    read ∙ ap (λ (l : List ℕ). l ++ more) opens.setup.split ∙ append_assoc (flat_map with_line_feed opens.setup.lines) lines more in
+    inr (in_part part lines input (lines ++ more) desk last (frames_in [] lines) _ writes.0 [] before after opens split (frames_on lines more) (whole desk last (frames_in [] lines) writes.0 writes.1) writes.2)
+fails_are_scripts input left before after Write (lines, desk, opens, (served, later, split, (last, front, unwritten, serves, written))) =
+    inr (in_part input lines input lines desk last served later front unwritten before after opens opens.setup.split split serves written)
+fails_are_scripts input left before after Memory (inl none) = inl none.1
+fails_are_scripts input left before after Memory (inr (lines, desk, opens, (served, later, last, split, writes))) =
+    inr (in_part input lines input lines desk last served later writes.0 [] before after opens opens.setup.split split (whole desk last served writes.0 writes.1) writes.2)
 
 pub script_keeps_rules : ScriptKeepsRules
 script_keeps_rules last s = runs_keep_rules s.desk last s.frames s.text s.opened.picture s.serves

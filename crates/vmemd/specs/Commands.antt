@@ -1,6 +1,6 @@
 -- The words of the command line, and how a program ends that they are for no part of.
 use Rattle.std.specs.Prelude.{◌≡◌, ◌≢◌, ◌⊎◌, ℕ, Bool, List, ◌∷◌, [], Option, Some, true, false}
-use Rattle.std.specs.Prelude.{codes, pos, unwrap_or, ◌≤◌}
+use Rattle.std.specs.Prelude.{None, IfSome, codes, pos, unwrap_or, ◌≤◌}
 use Rattle.std.specs.Fmt.{decimal}
 use Rattle.std.specs.Io.KnownBytes.{Appends, Keeps}
 use Rattle.clap.specs.Words.{App, Kinds, IsAmong, Rule, new_app, new_rule, with_rule}
@@ -10,7 +10,9 @@ use Rattle.clap.specs.declared.builder.value_parser.ValueParser.TheVariants.{Sig
 use Rattle.clap.specs.declared.error.Error.{Error}
 use Rattle.clap.specs.declared.error.kind.ErrorKind.{ErrorKind}
 use Rattle.clap.specs.declared.error.kind.ErrorKind.TheVariants as kind
-use Rattle.vmemd.specs.declared.commands.TheConstants.{MOST_WORKERS}
+use Rattle.vmemd.specs.declared.commands.TheConstants.{MOST_WORKERS, MOST_SECONDS}
+use Rattle.vmemd.specs.declared.commands.TheConstants.{LINE_LIMIT, IDLE_LIMIT}
+use Rattle.vmemd.specs.declared.commands.ServeWords.{ServeWords}
 use Rattle.vmemd.specs.declared.commands.GivenWords.{GivenWords}
 use Rattle.vmemd.specs.declared.commands.GivenWords.TheVariants.{Script, Serve}
 use Rattle.vmemd.specs.declared.commands.WordsFault.{WordsFault}
@@ -39,10 +41,25 @@ workers_word = record (required_word (codes "WORKERS")) {
   parser = Some (Signed (pos 1) (pos MOST_WORKERS));
 }
 
--- the subcommand `serve ADDRESS CONFIG WORKERS`
-abbrev pub serve_command : App
-serve_command = with_rule (with_rule (with_rule (new_app (codes "serve"))
+-- an option of so many seconds, from 1 on
+abbrev pub seconds_word : List ℕ → Rule
+seconds_word id = record (new_rule id) {
+  long = Some id;
+  value_names = 1;
+  action = Some Set;
+  parser = Some (Signed (pos 1) (pos MOST_SECONDS));
+}
+
+-- the words of `serve ADDRESS CONFIG WORKERS`
+abbrev pub bare_serve : App
+bare_serve = with_rule (with_rule (with_rule (new_app (codes "serve"))
     (required_word (codes "ADDRESS"))) (required_word (codes "CONFIG"))) workers_word
+
+-- the subcommand `serve`, with its options
+abbrev pub serve_command : App
+serve_command =
+    with_rule (with_rule (with_rule bare_serve (seconds_word (codes "line-limit")))
+    (seconds_word (codes "idle-limit"))) (seconds_word (codes "grace"))
 
 -- the program's command, which has to have one of the subcommands `script` and `serve`
 abbrev pub program : App
@@ -53,19 +70,33 @@ program = with_subcommand (with_subcommand bare_program (new_app (codes "script"
 abbrev pub script_words : List (List ℕ)
 script_words = codes "vmemd" ∷ codes "script" ∷ []
 
--- there is a worker and no more than there may be, and they are as many as WORKERS says
-abbrev pub GivesWorkers : List Row → ℕ → Type 0
-GivesWorkers rows workers = (1 ≤ workers) × (workers ≤ MOST_WORKERS) × ((n : ℕ)
-    → one_of (codes "WORKERS") rows ≡ Some (decimal n) → 1 ≤ n → n ≤ MOST_WORKERS → workers ≡ n)
+-- a number from 1 to the most: what the word says, where it says such a one, and the other where
+-- the word isn't there
+abbrev pub GivesNumber : List Row → List ℕ → ℕ → ℕ → ℕ → Type 0
+GivesNumber rows word most otherwise number = (1 ≤ number) × (number ≤ most)
+    × (one_of word rows ≡ None → number ≡ otherwise)
+    × ((n : ℕ) → one_of word rows ≡ Some (decimal n) → 1 ≤ n → n ≤ most → number ≡ n)
+
+-- the same of a word without which there is no number
+abbrev pub GivesOption : List Row → List ℕ → ℕ → Option ℕ → Type 0
+GivesOption rows word most given = IfSome given (λ n. (1 ≤ n) × (n ≤ most))
+    × (one_of word rows ≡ None → given ≡ None)
+    × ((n : ℕ) → one_of word rows ≡ Some (decimal n) → 1 ≤ n → n ≤ most → given ≡ Some n)
+
+-- what the values of the words of `serve` ask for
+abbrev pub AsksToServe : List Row → ServeWords → Type 0
+AsksToServe rows asked = (asked.address.now ≡ unwrap_or (first_of (codes "ADDRESS") rows) [])
+    × (asked.config.now ≡ unwrap_or (first_of (codes "CONFIG") rows) [])
+    × GivesNumber rows (codes "WORKERS") MOST_WORKERS 1 asked.workers
+    × GivesNumber rows (codes "line-limit") MOST_SECONDS LINE_LIMIT asked.line_limit
+    × GivesNumber rows (codes "idle-limit") MOST_SECONDS IDLE_LIMIT asked.idle_limit
+    × GivesOption rows (codes "grace") MOST_SECONDS asked.grace
 
 -- what is given, by the name of the command that clap finds and the values of its words: all but
 -- `serve` is a script
 abbrev pub IsGivenBy : Option (List ℕ × List Row) → GivenWords → Type 0
-IsGivenBy found (Serve address config workers) = (rows : List Row)
-    × (found ≡ Some (codes "serve", rows))
-    × (address.now ≡ unwrap_or (first_of (codes "ADDRESS") rows) [])
-    × (config.now ≡ unwrap_or (first_of (codes "CONFIG") rows) [])
-    × GivesWorkers rows workers
+IsGivenBy found (Serve asked) = (rows : List Row) × (found ≡ Some (codes "serve", rows))
+    × AsksToServe rows asked
 IsGivenBy found Script = (rows : List Row) → found ≢ Some (codes "serve", rows)
 
 -- help or the version was asked for

@@ -3,7 +3,6 @@ use Rattle.std.specs.Prelude.{ℕ, List, [], Option}
 use Rattle.arena_tree.specs.Settings.{SetupState}
 use Rattle.lease_machine.specs.Picture.{Picture, IsPicture}
 use Rattle.lease_machine.specs.Machine.{LeaseStep}
-use Rattle.lease_machine.specs.RoomLaws.{NothingIsKept}
 use Rattle.stock_desk.specs.Openings.{IsOpenedFrom}
 use Rattle.vmemd.specs.Scripts.{RunsWhole, RunFails}
 use Rattle.vmemd.specs.Settings.{TakesSetupLine, RefusesSetupLine, CanTakeSetupLine}
@@ -17,7 +16,6 @@ no_arenas = record { arenas = []; spans = [] }
 pub record IsDeskOf (setup : SetupState) (desk : Picture) : Type 0 where
   pub opened : IsOpenedFrom setup desk
   pub picture : IsPicture desk
-  pub unused : NothingIsKept desk
 
 -- A script is answered to its end.
 abbrev pub ScriptEnds : List ℕ → Option (List ℕ) → Option (List ℕ) → Type 0

@@ -1,7 +1,7 @@
 -- What holds over a whole script.
 use Rattle.std.specs.Prelude.{◌≡◌, ◌≢◌, ◌⊎◌, ◌≤◌, ◌+◌, ℕ, List, [], ◌++◌, All, AllPairs, Contains}
 use Rattle.std.specs.Prelude.{codes, sum_by, slice_get, Some, Ok}
-use Rattle.deed_core.specs.Covering.{covering_held, units_held}
+use Rattle.deed_core.specs.Covering.{units_held}
 use Rattle.deed_core.specs.Extent.{end_of}
 use Rattle.deed_core.specs.Request.{Fits}
 use Rattle.tag_arena.specs.ArenaState.{spans_of}
@@ -12,7 +12,6 @@ use Rattle.arena_tree.specs.Trees.{index_in}
 use Rattle.stock.specs.Spaces.{SpaceState}
 use Rattle.stock.specs.Sums.{total}
 use Rattle.stock.specs.Laws.{ApartUpChain}
-use Rattle.stock_audit.specs.Chains.{unit_of_arena}
 use Rattle.lease_terms.specs.Requests.{RequestId}
 use Rattle.lease_terms.specs.declared.refusals.Refusal.TheVariants.{NoFit}
 use Rattle.lease_book.specs.Answers.{IsNew}
@@ -28,10 +27,10 @@ use Rattle.lease_proto.specs.declared.replies.Reply.{Reply}
 use Rattle.lease_proto.specs.Faults.{error_text}
 use Rattle.lease_proto.specs.Frames.{Frame}
 use Rattle.lease_proto.specs.Operators.{served_of}
-use Rattle.lease_machine.specs.Picture.{Picture, held_outside}
+use Rattle.lease_machine.specs.Picture.{Picture}
 use Rattle.lease_machine.specs.Operators.{sums_in, audit_texts_of}
 use Rattle.lease_machine.specs.Machine.{LeaseStep, demand_of}
-use Rattle.lease_machine.specs.Laws.{Runs}
+use Rattle.lease_machine.specs.Laws.{Runs, UnitsAtHome}
 use Rattle.lease_machine.specs.AnswerLaws.{reply_bytes, IsUnkept, IsRequestLine, AreOfOthers}
 use Rattle.lease_machine.specs.AnswerLaws.{NamesRequest, FitsLine}
 use Rattle.lease_machine.specs.RoomLaws.{NothingIsKept, refusal_to}
@@ -73,11 +72,7 @@ ScriptLeasesStayApart = (last : Picture) → Script last
 
 -- and each unit of an arena's spans is in one home, and no other unit in any
 abbrev pub ScriptUnitsHaveOneHome : Type 0
-ScriptUnitsHaveOneHome = (last : Picture) → Script last → (k : ℕ) (s : SpaceState)
-    → slice_get last.spaces k ≡ Some s → (u : ℕ)
-    → (total (unit_of_arena u last.spaces (held_outside last) s)
-    ≡ covering_held u (spans_of s.arena))
-    × (covering_held u (spans_of s.arena) ≤ 1)
+ScriptUnitsHaveOneHome = (last : Picture) → Script last → UnitsAtHome last
 
 -- the line `audit` is answered by what is told of each arena, unless out of memory, and nothing
 -- changes

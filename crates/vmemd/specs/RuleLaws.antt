@@ -1,19 +1,20 @@
 -- The rules of leases over a whole script.
-use Rattle.std.specs.Prelude.{◌≡◌, ◌≢◌, ℕ, List, ◌++◌, Option, Ok}
+use Rattle.std.specs.Prelude.{◌≡◌, ◌≢◌, ◌⊎◌, ℕ, List, [], ◌++◌, Option, Some, Ok}
 use Rattle.std.specs.List.{flat_map}
 use Rattle.std.specs.Io.KnownBytes.{Appends}
 use Rattle.lease_proto.specs.declared.lines.Line.{Line}
 use Rattle.lease_proto.specs.declared.operators.ServedLine.TheVariants as served
 use Rattle.lease_proto.specs.declared.replies.Granted.{Granted}
 use Rattle.lease_proto.specs.declared.replies.Reply.{Reply}
-use Rattle.lease_proto.specs.Frames.{frames_of, with_line_feed}
+use Rattle.lease_proto.specs.Frames.{Frame, frames_of, with_line_feed}
 use Rattle.lease_proto.specs.Operators.{served_of}
 use Rattle.lease_server.specs.Serving.{ServesLines}
 use Rattle.lease_machine.specs.Picture.{Picture}
 use Rattle.lease_machine.specs.AnswerLaws.{IsReadAs, RepliesTo}
 use Rattle.lease_machine.specs.Rules.{KeepsRules}
 use Rattle.lease_machine.specs.GrantLaws.{GrantsTwice, GrantsApart}
-use Rattle.vmemd.specs.Desks.{ScriptEnds}
+use Rattle.vmemd.specs.declared.faults.ScriptFault.{ScriptFault}
+use Rattle.vmemd.specs.Desks.{ScriptEnds, ScriptFails}
 use Rattle.vmemd.specs.Laws.{Script, AnswersNext}
 
 -- an input is a script's setup lines and then the lines that its desk answers, and its text is
@@ -30,6 +31,26 @@ pub record IsWritten (input : List ℕ) (before after : Option (List ℕ)) : Typ
 abbrev pub EndsAreScripts : Type 0
 EndsAreScripts = (input : List ℕ) (before after : Option (List ℕ))
     → ScriptEnds input before after → IsWritten input before after
+
+-- an input is a script's setup lines and then lines of which its desk answers the first, and of its
+-- text a front is written
+pub record IsWrittenInPart (input : List ℕ) (before after : Option (List ℕ)) : Type 0 where
+  pub last : Picture
+  pub script : Script last
+  pub lines : List ℕ
+  pub split : input ≡ flat_map with_line_feed script.setup ++ lines
+  pub later : List Frame
+  pub frames : frames_of lines ≡ script.frames ++ later
+  pub front : List ℕ
+  pub unwritten : List ℕ
+  pub text : script.text ≡ front ++ unwritten
+  pub written : Appends before after front
+
+-- so is each whose answers end early, or nothing is written
+abbrev pub FailsAreScripts : Type 0
+FailsAreScripts = (input : List ℕ) (left before after : Option (List ℕ)) (fault : ScriptFault)
+    → ScriptFails (Some input) left before after fault
+    → Appends before after [] ⊎ IsWrittenInPart input before after
 
 -- each line of a script, with what is written for it, keeps the rules of leases
 abbrev pub ScriptKeepsRules : Type 0

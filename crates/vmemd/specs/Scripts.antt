@@ -1,6 +1,6 @@
 -- What a script sets up and writes.
-use Rattle.std.specs.Prelude.{◌≡◌, ◌⊎◌, ◌≤◌, ◌+◌, Bool, true, false, ℕ, List, [], ◌∷◌, ◌++◌, length}
-use Rattle.std.specs.Prelude.{Option, Result, Ok, Err, IfSome}
+use Rattle.std.specs.Prelude.{◌≡◌, ◌⊎◌, ◌+◌, ◌-◌, ◌^◌, Bool, true, false, ℕ, List, [], ◌∷◌, ◌++◌}
+use Rattle.std.specs.Prelude.{length, min, Option, Result, Ok, Err, IfSome}
 use Rattle.std.specs.List.{flat_map}
 use Rattle.std.specs.Io.KnownBytes.{Appends, Consumes}
 use Rattle.lease_proto.specs.declared.faults.LineFault.{LineFault}
@@ -38,17 +38,18 @@ serving_fault serving.Turns = Read
 serving_fault serving.Write = Write
 serving_fault serving.Memory = Memory
 
--- a reader has failed, or was read as often as it may be
-abbrev pub IsSpent : Bool → ℕ → Type 0
-IsSpent failed reads = (failed ≡ true) ⊎ (MOST_READS ≤ reads)
+-- a reader has failed, or was read as often as it may be since it had been read `before` times; the
+-- count of reads stops at 2^64 - 1
+abbrev pub IsSpent : Bool → ℕ → ℕ → Type 0
+IsSpent failed before reads = (failed ≡ true) ⊎ (reads ≡ min (before + MOST_READS) (2 ^ 64 - 1))
 
--- by whether the reader failed, how often it was read, and whether the writer failed: the fault is
--- of what failed
-abbrev pub Blames : Bool → ℕ → Bool → ScriptFault → Type 0
-Blames reader reads writer (Setup line word) = (reader ≡ false) × (writer ≡ false)
-Blames reader reads writer Read = IsSpent reader reads × (writer ≡ false)
-Blames reader reads writer Write = (reader ≡ false) × (writer ≡ true)
-Blames reader reads writer Memory = (reader ≡ false) × (writer ≡ false)
+-- by whether the reader failed, how often it had been read before and is now, and whether the
+-- writer failed: the fault is of what failed
+abbrev pub Blames : Bool → ℕ → ℕ → Bool → ScriptFault → Type 0
+Blames reader before reads writer (Setup line word) = (reader ≡ false) × (writer ≡ false)
+Blames reader before reads writer Read = IsSpent reader before reads × (writer ≡ false)
+Blames reader before reads writer Write = (reader ≡ false) × (writer ≡ true)
+Blames reader before reads writer Memory = (reader ≡ false) × (writer ≡ false)
 
 -- what doesn't take a line refuses it so, or is out of memory for one that it can take
 abbrev pub RefusedBy : (ConfigFault → Type 0) → Type 0 → SettingFault → Type 0

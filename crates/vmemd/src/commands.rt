@@ -1,10 +1,11 @@
 //! The words of the command line.
 
-ghost use Rattle.std.specs.Prelude.{◌≡◌, ◌≢◌, [], IfOk, IfErr, OnOk, false, map};
-ghost use Rattle.clap.specs.Words.{app_of, fault_of, kind_of, rule_of, subcommand_of};
-ghost use Rattle.clap.specs.Words.{subcommand_rows_of};
+ghost use Rattle.std.specs.Prelude.{◌≡◌, ◌≢◌, ◌≤◌, [], IfOk, IfErr, OnOk, false, map};
+ghost use Rattle.clap.specs.Words.{app_of, fault_of, found_of, kind_of, rows_of, rule_of};
+ghost use Rattle.clap.specs.Words.{subcommand_of, subcommand_rows_of};
 ghost use Rattle.vmemd.specs.Commands.{program, script_words, FailsWords, IsGivenBy, ShowsError};
-ghost use Rattle.vmemd.specs.Commands.{required_word, workers_word};
+ghost use Rattle.vmemd.specs.Commands.{required_word, seconds_word, workers_word, serve_command};
+ghost use Rattle.vmemd.specs.Commands.{AsksToServe, GivesNumber, GivesOption};
 ghost use Rattle.vmemd.specs.declared.commands.TheConstants.{MOST_WORKERS};
 ghost use Rattle.lease_proto.specs.declared.limits.TheConstants.{MOST_CPUS};
 
@@ -14,7 +15,16 @@ use lease_proto::MOST_CPUS;
 use std::alloc::{AllocError, AllocFailed, Global};
 
 /// How many workers a server has at most: each goes by a CPU of its own.
-pub const MOST_WORKERS: u8 = MOST_CPUS as u8;
+pub const MOST_WORKERS: u32 = MOST_CPUS;
+
+/// How many seconds an option takes at most: a day.
+pub const MOST_SECONDS: u32 = 86_400;
+
+/// How many seconds a peer of a server has for a line, and for taking an answer.
+pub const LINE_LIMIT: u32 = 10;
+
+/// How many seconds it may be silent between two lines.
+pub const IDLE_LIMIT: u32 = 600;
 
 /// That many are all CPUs.
 pub fn worker_law()
@@ -26,13 +36,21 @@ pub fn worker_law()
 pub enum GivenWords<'a> {
     /// `script`: answer standard input on standard output.
     Script,
-    /// `serve ADDRESS CONFIG WORKERS`: answer connections to the address. Workers are 1 to
-    /// `MOST_WORKERS`.
-    Serve {
-        address: &'a str,
-        config: &'a str,
-        workers: u8,
-    },
+    /// `serve ADDRESS CONFIG WORKERS`: answer connections to the address.
+    Serve(ServeWords<'a>),
+}
+
+/// What the words of `serve` ask for.
+#[derive(Clone, Copy, Debug, PartialEq, Eq)]
+pub struct ServeWords<'a> {
+    pub address: &'a str,
+    pub config: &'a str,
+    /// 1 to `MOST_WORKERS`.
+    pub workers: u32,
+    /// In seconds, 1 to `MOST_SECONDS`, as the next two.
+    pub line_limit: u32,
+    pub idle_limit: u32,
+    pub grace: Option<u32>,
 }
 
 /// Why the words are for no part of the program.
@@ -100,7 +118,8 @@ there are no comments. A setup line after that is answered by error word.
                                            SOURCE
 QMAX is 0, or a multiple of QUANTUM and at most 16 of it: then a lease of at most QMAX units with no
 option comes from a cache of its size. A cache cuts slabs into chunks, and keeps chunks that came
-back in magazines of CPUs and in a depot, from which they are leased again.
+back in magazines of CPUs and in a depot, from which they are leased again. Where no slab fits any
+more, the lease comes from the arena itself, as a larger one does.
 
 POLICY says which units a lease or a slab gets, of all free ones that fit it:
   best     the lowest in the shortest free range (measured whole), of equally short ones the lowest
@@ -157,8 +176,9 @@ Answers to clients:
                                 V. V is 0 before its first hello
   stale C I N V                 N was used already: the last request was V, and V + 1 is next
   gap C I N V                   N is too high: the last request was V, and V + 1 is next
-  again C I N                   out of memory, and nothing was done; send the line once more.
-                                N is 0 for a hello
+  again C I N                   out of memory; send the line once more. In a script nothing was
+                                done; a server may have done it, and the line sent once more gets
+                                its answer. N is 0 for a hello
 Each refused answer counts as the answer to its N; old, stale, gap, again and error don't. Where
 several are so, the first of these is the answer: old; stale, gap or the first answer to N; noarena;
 badrequest or notyours; nofit; leases. Wherever memory runs out on the way, it is again.
@@ -224,18 +244,28 @@ connections than workers wait until one ends.
 
 Once it listens it prints listening ADDRESS, with the real port. The lines of clients and their
 answers are those of a script; lines of operators are answered by error word. A connection that
-fails, or says nothing for ten minutes, ends alone; leases don't end with a connection. One that
-takes no answer ends later: a write that was taken in part waits ten minutes anew for the rest.
+fails ends alone, and leases don't end with it. It is ended where its first line isn't whole in time
+once it is served, or the rest of a line that was begun, or where what is answered at once isn't
+taken in time (--line-limit); and where no other line is begun in time (--idle-limit). SECONDS are 1
+to 86400.
 
 What comes on standard input is ignored. When it ends, no further connection is served, those being
-served end when their clients end them, all leases end, and it prints closed. So keep standard input
-open as long as the server is to run. Where a number can't be put back at once then, it says
-vmemd: shut, tries until it can, and ends with status 1.";
+served end when their clients end them, all leases end, and it prints closed. With --grace it ends
+them itself: what was sent by then is answered, and those that haven't ended in time are cut off. So
+keep standard input open as long as the server is to run. Where a number can't be put back at once
+then, it says vmemd: shut, tries until it can, and ends with status 1.";
+
+const LINE_LIMIT_HELP: &str = "How long a line and taking an answer may take (10 without it)";
+
+const IDLE_LIMIT_HELP: &str = "How long a client may be silent between lines (600 without it)";
+
+const GRACE_HELP: &str = "Ends connections at the end of the input, the last after so long";
 
 const STATUS_HELP: &str = "\
 Exit status: 0 at the end of the input, and after help or the version; 1 where reading, writing or
 listening fails, or out of memory; 2 for other words than these and for a refused setup line.";
 
+/// The whole command.
 fn command<'a>(alloc: Global) -> Result<Command<'a>, AllocError>
     ensures { IfOk result (λ c. app_of c ≡ program) }
 {
@@ -243,15 +273,7 @@ fn command<'a>(alloc: Global) -> Result<Command<'a>, AllocError>
         .about("Answer standard input on standard output")
         .long_about(SCRIPT_HELP)
         .after_help(STATUS_HELP);
-    let address = required(alloc, "ADDRESS").help("Where to listen, as 127.0.0.1:7070");
-    let config = required(alloc, "CONFIG").help("A file of setup lines");
-    let serve = Command::new(alloc, "serve")
-        .about("Answer clients over TCP")
-        .long_about(SERVE_HELP)
-        .after_help(STATUS_HELP)
-        .arg(address)?
-        .arg(config)?
-        .arg(workers(alloc))?;
+    let serve = serve(alloc)?;
     Command::new(alloc, "vmemd")
         .version(VERSION)
         .about(PROGRAM_HELP)
@@ -263,20 +285,62 @@ fn command<'a>(alloc: Global) -> Result<Command<'a>, AllocError>
         .subcommand(serve)
 }
 
+/// The subcommand `serve`.
+fn serve<'a>(alloc: Global) -> Result<Command<'a>, AllocError>
+    ensures { IfOk result (λ c. app_of c ≡ serve_command) }
+{
+    let address = required(alloc, "ADDRESS", "Where to listen, as 127.0.0.1:7070");
+    let config = required(alloc, "CONFIG", "A file of setup lines");
+    let line = seconds(alloc, "line-limit", LINE_LIMIT_HELP);
+    let idle = seconds(alloc, "idle-limit", IDLE_LIMIT_HELP);
+    let grace = seconds(alloc, "grace", GRACE_HELP);
+    Command::new(alloc, "serve")
+        .about("Answer clients over TCP")
+        .long_about(SERVE_HELP)
+        .after_help(STATUS_HELP)
+        .arg(address)?
+        .arg(config)?
+        .arg(workers(alloc))?
+        .arg(line)?
+        .arg(idle)?
+        .arg(grace)
+}
+
+/// How many workers serve.
 fn workers<'a>(alloc: Global) -> Arg<'a>
     ensures rule { rule_of result ≡ workers_word }
     ensures local { result.global ≡ false }
 {
-    required(alloc, "WORKERS")
-        .value_parser(clap::value_parser!(u8).range(1..=i64::from(MOST_WORKERS)))
-        .help("How many connections are served at a time, 1 to 64")
+    required(
+        alloc,
+        "WORKERS",
+        "How many connections are served at a time, 1 to 64",
+    )
+    .value_parser(clap::value_parser!(u32).range(1..=i64::from(MOST_WORKERS)))
 }
 
-fn required<'a>(alloc: Global, id: &'a str) -> Arg<'a>
+/// A word that has to stand in its place.
+fn required<'a>(alloc: Global, id: &'a str, help: &'a str) -> Arg<'a>
     ensures rule { rule_of result ≡ required_word id.entry.now }
     ensures local { result.global ≡ false }
 {
-    Arg::new(alloc, id).required(true).action(ArgAction::Set)
+    Arg::new(alloc, id)
+        .required(true)
+        .action(ArgAction::Set)
+        .help(help)
+}
+
+/// An option of so many seconds.
+fn seconds<'a>(alloc: Global, id: &'a str, help: &'a str) -> Arg<'a>
+    ensures rule { rule_of result ≡ seconds_word id.entry.now }
+    ensures local { result.global ≡ false }
+{
+    Arg::new(alloc, id)
+        .long(id)
+        .value_name("SECONDS")
+        .action(ArgAction::Set)
+        .help(help)
+        .value_parser(clap::value_parser!(u32).range(1..=i64::from(MOST_SECONDS)))
 }
 
 /// Reads the words, of which the first is the program's name.
@@ -297,21 +361,48 @@ pub fn read_words<'a>(alloc: Global, words: &'a [&'a str]) -> Result<GivenWords<
     }
 }
 
-/// What matches ask for. clap has seen that the words of `serve` are there, and that its number is
-/// 1 to `MOST_WORKERS`.
+/// What matches ask for.
 fn given<'a>(matches: &ArgMatches<'a>) -> GivenWords<'a>
     ensures { IsGivenBy (subcommand_rows_of matches.now) result }
 {
     match matches.subcommand() {
-        Some(("serve", of)) => GivenWords::Serve {
-            address: of.get_str("ADDRESS").unwrap_or(""),
-            config: of.get_str("CONFIG").unwrap_or(""),
-            workers: of
-                .get_one::<u8>("WORKERS")
-                .unwrap_or(1)
-                .clamp(1, MOST_WORKERS),
-        },
+        Some(("serve", of)) => GivenWords::Serve(serve_given(of)),
         _ => GivenWords::Script,
+    }
+}
+
+/// What the matches of `serve` ask for. clap has seen that its words are there, and that its
+/// numbers are in range.
+fn serve_given<'a>(of: &ArgMatches<'a>) -> ServeWords<'a>
+    ensures { AsksToServe (rows_of (found_of of.now)) result }
+{
+    ServeWords {
+        address: of.get_str("ADDRESS").unwrap_or(""),
+        config: of.get_str("CONFIG").unwrap_or(""),
+        workers: number_given(of, "WORKERS", MOST_WORKERS, 1),
+        line_limit: number_given(of, "line-limit", MOST_SECONDS, LINE_LIMIT),
+        idle_limit: number_given(of, "idle-limit", MOST_SECONDS, IDLE_LIMIT),
+        grace: option_given(of, "grace", MOST_SECONDS),
+    }
+}
+
+/// The number that a word gives, or the other one where it gives none.
+fn number_given(of: &ArgMatches<'_>, id: &str, most: u32, otherwise: u32) -> u32
+    requires { (1 ≤ otherwise) × (otherwise ≤ most) }
+    ensures { GivesNumber (rows_of (found_of of.now)) id.now most otherwise result }
+{
+    option_given(of, id, most).unwrap_or(otherwise)
+}
+
+/// The number that a word gives.
+fn option_given(of: &ArgMatches<'_>, id: &str, most: u32) -> Option<u32>
+    ensures { GivesOption (rows_of (found_of of.now)) id.now most result }
+{
+    let number = of.get_one::<u32>(id)?;
+    if 1 <= number && number <= most {
+        Some(number)
+    } else {
+        None
     }
 }
 

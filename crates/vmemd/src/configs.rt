@@ -60,7 +60,7 @@ pub fn read_config<R: Read>(alloc: Global, reader: &mut Watched<R>) -> Result<Se
     ensures err { IfErr result (ConfigRefuses (R.remaining (inner_of reader.old))
         (R.remaining (inner_of reader.new))) }
     ensures failed { IsErrOf result ScriptFault.Read
-        → IsSpent (has_failed reader.new) (reads_of reader.new) }
+        → IsSpent (has_failed reader.new) (reads_of reader.old) (reads_of reader.new) }
     ensures blames { IfErr result (λ fault. (fault ≡ ScriptFault.Read)
         ⊎ (has_failed reader.new ≡ has_failed reader.old)) }
     ensures works { OnOk result (has_failed reader.new ≡ has_failed reader.old) }
@@ -83,7 +83,7 @@ fn take_all<R: Read, S: SetupBuilder>(
     ensures err { IfErr result (ConfigFails S.takes S.refuses S.can setup.old
         (R.remaining (inner_of reader.old)) (R.remaining (inner_of reader.new)) setup.new) }
     ensures failed { IsErrOf result ScriptFault.Read
-        → IsSpent (has_failed reader.new) (reads_of reader.new) }
+        → IsSpent (has_failed reader.new) (reads_of reader.old) (reads_of reader.new) }
     ensures blames { IfErr result (λ fault. (fault ≡ ScriptFault.Read)
         ⊎ (has_failed reader.new ≡ has_failed reader.old)) }
     ensures works { OnOk result (has_failed reader.new ≡ has_failed reader.old) }

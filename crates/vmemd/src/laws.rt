@@ -4,15 +4,16 @@ ghost use Rattle.vmemd.specs.Laws.{ScriptAuditIsTold, ScriptAuditIsWhole};
 ghost use Rattle.vmemd.specs.Laws.{ScriptLinesRepeat, ScriptAnswersAgree, ScriptGrantsFit};
 ghost use Rattle.vmemd.specs.Laws.{ScriptRepeatsFit, ScriptFirstLeaseIsServed, ScriptFreedIsWhole};
 ghost use Rattle.vmemd.specs.Laws.{ScriptReturnedIsWhole, ScriptEmptiedIsWhole};
-ghost use Rattle.vmemd.specs.RuleLaws.{EndsAreScripts, ScriptKeepsRules, ScriptGrantsStayApart};
-ghost use Rattle.vmemd.specs.RuleLaws.{ScriptClientsGetReplies};
+ghost use Rattle.vmemd.specs.RuleLaws.{EndsAreScripts, FailsAreScripts, ScriptKeepsRules};
+ghost use Rattle.vmemd.specs.RuleLaws.{ScriptGrantsStayApart, ScriptClientsGetReplies};
 
-/// What `run_script` writes to an input's end is a script, and each line of a script, with what is
-/// written for it, keeps the rules of leases. A client's line is answered by one line, which is
-/// read as a reply to it. So what two requests are granted doesn't overlap, while no line ends the
-/// first lease.
+/// What `run_script` writes to an input's end is a script, and what it writes where it ends early
+/// is a front of one. Each line of a script, with what is written for it, keeps the rules of
+/// leases. A client's line is answered by one line, which is read as a reply to it. So what two
+/// requests are granted doesn't overlap, while no line ends the first lease.
 pub fn rule_laws()
     ensures ends { EndsAreScripts }
+    ensures fails { FailsAreScripts }
     ensures keeps { ScriptKeepsRules }
     ensures replies { ScriptClientsGetReplies }
     ensures apart { ScriptGrantsStayApart }

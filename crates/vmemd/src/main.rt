@@ -43,15 +43,16 @@ pub mod signals;
 #[cfg(test)]
 mod tests;
 
-use crate::commands::{GivenWords, WordsFault, read_words};
+use crate::commands::{GivenWords, ServeWords, WordsFault, read_words};
 use crate::configs::read_config;
 use crate::endings::{end_run, end_script, end_words};
 use crate::faults::ScriptFault;
 use crate::inputs::PatientReader;
-use crate::running::{Console, RunFault, run_serve};
+use crate::running::{Console, Plan, RunFault, run_serve};
 use crate::scripts::run_script;
 use arena_tree::Setup;
 use lease_server::Watched;
+use lease_tcp::Pace;
 use log::{Log, info};
 use std::fs::File;
 use std::io;
@@ -61,7 +62,7 @@ use std::process::ExitCode;
 use std::rt::Files;
 use std::sync::Wait;
 use std::thread::Threads;
-use std::time::Clock;
+use std::time::{Clock, Duration};
 
 fn main(rt: HostRuntime) -> ExitCode {
     match read_arguments(&rt) {
@@ -104,13 +105,7 @@ fn answer_words<
     };
     match read_words(rt.alloc(), words.as_slice()) {
         Ok(GivenWords::Script) => end_script(rt, answer_input(rt)),
-        Ok(
-            GivenWords::Serve {
-                address,
-                config,
-                workers,
-            },
-        ) => serve(rt, address, config, u32::from(workers)),
+        Ok(GivenWords::Serve(asked)) => serve(rt, &asked),
         Err(fault) => end_words(rt, &mut Watched::new(io::writer(rt)), &fault),
     }
 }
@@ -144,10 +139,10 @@ fn serve<
         + Clock
         + Sync
         + AllocGlobal,
->(rt: &R, address: &str, config: &str, workers: u32) -> ExitCode
-    requires { (1 ≤ workers) × (workers ≤ MOST_WORKERS) }
+>(rt: &R, asked: &ServeWords<'_>) -> ExitCode
+    requires { (1 ≤ asked.now.workers) × (asked.now.workers ≤ MOST_WORKERS) }
 {
-    let setup = match setup_of(rt, config) {
+    let setup = match setup_of(rt, asked.config) {
         Ok(setup) => setup,
         Err(fault) => return end_script(rt, Err(fault)),
     };
@@ -155,7 +150,15 @@ fn serve<
         input: Watched::new(PatientReader::new(rt, rt.reader())),
         out: Watched::new(io::writer(rt)),
     };
-    let ended = run_serve(rt, address, setup, workers, console).ended;
+    let plan = Plan {
+        workers: asked.workers,
+        pace: Pace {
+            line: Duration::from_secs(u64::from(asked.line_limit)),
+            idle: Duration::from_secs(u64::from(asked.idle_limit)),
+        },
+        grace: asked.grace,
+    };
+    let ended = run_serve(rt, asked.address, setup, plan, console).ended;
     if matches!(ended, Ok(()) | Err(RunFault::Shut)) {
         info!(rt; "vmemd closed");
     }

@@ -33,8 +33,8 @@ pub fn run_script<R: Read, W: Write>(
     // A fault is told of what failed.
     ensures works { OnOk result ((has_failed reader.new ≡ false)
         × (has_failed writer.new ≡ false)) }
-    ensures blames { IfErr result (Blames (has_failed reader.new) (reads_of reader.new)
-        (has_failed writer.new)) }
+    ensures blames { IfErr result (Blames (has_failed reader.new) (reads_of reader.old)
+        (reads_of reader.new) (has_failed writer.new)) }
     // The input isn't read without end.
     ensures bound { reads_of reader.new ≤ reads_of reader.old + MOST_READS }
 {

@@ -51,7 +51,7 @@ pub fn take_setup<R: Read, S: SetupBuilder>(
         (R.remaining (inner_of reader.old)) (R.remaining (inner_of reader.new)) setup.new) }
     ensures works { OnOk result (has_failed reader.new ≡ has_failed reader.old) }
     ensures failed { IsErrOf result ScriptFault.Read
-        → IsSpent (has_failed reader.new) (reads_of reader.new) }
+        → IsSpent (has_failed reader.new) (reads_of reader.old) (reads_of reader.new) }
     ensures blames { IfErr result (λ fault. (fault ≡ ScriptFault.Read)
         ⊎ (has_failed reader.new ≡ has_failed reader.old)) }
     ensures counted { IfOk result (λ input. (input.reads ≤ MOST_READS)

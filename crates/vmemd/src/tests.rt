@@ -6,7 +6,9 @@ mod tables;
 mod telling;
 
 use self::tables::{ASKED, MISTAKEN, REFUSED, ROWS};
-use crate::commands::{GivenWords, MOST_WORKERS, WordsFault, read_words};
+use crate::commands::{
+    GivenWords, IDLE_LIMIT, LINE_LIMIT, MOST_SECONDS, MOST_WORKERS, WordsFault, read_words,
+};
 use crate::faults::{ConfigFault, ScriptFault};
 use crate::inputs::PatientReader;
 use crate::scripts::run_script;
@@ -14,7 +16,6 @@ use arena_tree::{LONGEST_CHAIN, MOST_ARENAS, MOST_CACHES, MOST_SPANS};
 use lease_book::MOST_LEASES;
 use lease_proto::{LAST_CPU, LONGEST_LINE, LineFault};
 use lease_server::Watched;
-use lease_tcp::SILENCE_LIMIT;
 use lease_terms::{LARGEST, LAST_CLIENT, LONGEST_NAME};
 use std::alloc::{AllocError, Global};
 use std::io;
@@ -423,12 +424,13 @@ fn the_help_tells_the_limits(rt: HostRuntime) -> Result<(), Fail> {
 #[test]
 fn the_help_of_a_server_tells_its_limits(rt: HostRuntime) -> Result<(), Fail> {
     let alloc = rt.alloc();
-    assert_eq!(rt; SILENCE_LIMIT, 10 * 60);
     let help = help_of(alloc, &["vmemd", "serve", "--help"])?;
     for limit in [
         format!(in alloc; "WORKERS, 1 to {MOST_WORKERS},")?,
         format!(in alloc; "connections are served at a time, 1 to {MOST_WORKERS}\n")?,
-        format!(in alloc; "says nothing for ten minutes,")?,
+        format!(in alloc; "SECONDS are 1\nto {MOST_SECONDS}.")?,
+        format!(in alloc; "taking an answer may take ({LINE_LIMIT} without it)\n")?,
+        format!(in alloc; "silent between lines ({IDLE_LIMIT} without it)\n")?,
     ] {
         assert!(rt; help.contains(limit.as_str()), "{limit}");
     }

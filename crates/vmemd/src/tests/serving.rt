@@ -3,15 +3,16 @@
 use super::{Mishap, Pieces};
 use crate::commands::MOST_WORKERS;
 use crate::configs::read_config;
-use crate::running::{Console, run_serve};
+use crate::running::{Console, Plan, run_serve};
 use lease_server::Watched;
+use lease_tcp::Pace;
 use std::alloc::AllocGlobal;
 use std::io::{Read, Write};
 use std::net::{Net, Shutdown, TcpListener, TcpStream};
 use std::process::Abort;
 use std::sync::Wait;
 use std::thread::Threads;
-use std::time::Clock;
+use std::time::{Clock, Duration};
 use std::{io, thread};
 
 /// The longest line of a server's console.
@@ -102,7 +103,7 @@ fn run_server<
         + Sync
         + AllocGlobal,
 >(rt: &R, config: &'static [u8], workers: u32, console: &TcpStream) {
-    assert!(rt; 1 <= workers && workers <= u32::from(MOST_WORKERS));
+    assert!(rt; 1 <= workers && workers <= MOST_WORKERS);
     let mut reader = Watched::new(Pieces {
         rest: config,
         size: 4096,
@@ -114,7 +115,15 @@ fn run_server<
         input: Watched::new(console),
         out: Watched::new(console),
     };
-    let ran = run_serve(rt, "127.0.0.1:0", setup, workers, streams);
+    let plan = Plan {
+        workers,
+        pace: Pace {
+            line: Duration::from_secs(10),
+            idle: Duration::from_secs(10),
+        },
+        grace: None,
+    };
+    let ran = run_serve(rt, "127.0.0.1:0", setup, plan, streams);
     console.shutdown(Shutdown::Both).expect(rt, "an end");
     assert!(rt; ran.ended.is_ok(), "a fault");
     let closed = ran.closed.expect(rt, "roots");

@@ -1,19 +1,19 @@
 //! What is told on standard error where a server ends or doesn't begin, whole, with the status.
 
 use super::{Mishap, Pieces};
-use crate::commands::{GivenWords, WordsFault, read_words};
+use crate::commands::{GivenWords, ServeWords, WordsFault, read_words};
 use crate::configs::read_config;
 use crate::endings::{end_run, end_script, end_words};
 use crate::faults::ScriptFault;
 use crate::running::{RunFault, tell_stuck};
 use crate::signals::Signals;
 use lease_server::Watched;
-use std::alloc::Global;
+use std::alloc::{AllocGlobal, Global};
 use std::cell::RefCell;
 use std::fmt::Display;
 use std::io;
 use std::io::ErrorKind;
-use std::process::ExitCode;
+use std::process::{Abort, ExitCode};
 use std::test::Fail;
 
 /// Keeps what is told on standard error.
@@ -162,28 +162,65 @@ fn words_that_could_not_be_read(rt: HostRuntime) {
     }
 }
 
+/// Words after `serve x y 64`, and what they ask for: the limits of a line and of silence, and the
+/// grace.
+const OPTIONS: [(&[&str], u32, u32, Option<u32>); 4] = [
+    (&[], 10, 600, None),
+    (&["--line-limit", "1"], 1, 600, None),
+    (
+        &["--idle-limit=86400", "--grace", "86400"],
+        10,
+        86_400,
+        Some(86_400),
+    ),
+    (
+        &["--grace=1", "--idle-limit", "5", "--line-limit", "86400"],
+        86_400,
+        5,
+        Some(1),
+    ),
+];
+
 #[test]
 fn words_of_a_server(rt: HostRuntime) -> Result<(), Fail> {
     let alloc = rt.alloc();
-    match read_words(alloc, &["vmemd", "serve", "x", "y", "64"]) {
-        Ok(words) => {
-            let wanted = GivenWords::Serve {
-                address: "x",
-                config: "y",
-                workers: 64,
-            };
-            assert_eq!(rt; words, wanted);
-        }
-        Err(_fault) => return Err(Fail::from("`serve` was not taken")),
+    for (options, line_limit, idle_limit, grace) in &OPTIONS {
+        let mut words = Vec::from_slice(alloc, &["vmemd", "serve", "x", "y", "64"])?;
+        words.extend_from_slice(options)?;
+        let Ok(words) = read_words(alloc, words.as_slice()) else {
+            return Err(Fail::from("`serve` was not taken"));
+        };
+        let wanted = ServeWords {
+            address: "x",
+            config: "y",
+            workers: 64,
+            line_limit: *line_limit,
+            idle_limit: *idle_limit,
+            grace: *grace,
+        };
+        assert_eq!(rt; words, GivenWords::Serve(wanted));
     }
     for workers in ["0", "65", "-1", "x", ""] {
-        let Err(fault) = read_words(alloc, &["vmemd", "serve", "x", "y", workers]) else {
-            return Err(Fail::from("other workers were taken"));
-        };
-        let told = Told::new(alloc);
-        let code = end_words(&told, &mut Watched::new(Vec::new(alloc)), &fault);
-        assert!(rt; !told.into_text().is_empty(), "{workers}");
-        assert_eq!(rt; code, ExitCode::from(2), "{workers}");
+        let words = ["vmemd", "serve", "x", "y", workers];
+        is_mistaken(&rt, &words)?;
     }
+    for option in ["--line-limit", "--idle-limit", "--grace"] {
+        for seconds in ["0", "86401", "-1", "x", "", "1.5"] {
+            let words = ["vmemd", "serve", "x", "y", "1", option, seconds];
+            is_mistaken(&rt, &words)?;
+        }
+    }
+    Ok(())
+}
+
+/// These words are refused: something is told, and the status is 2.
+fn is_mistaken(rt: &(impl Abort + AllocGlobal), words: &[&str]) -> Result<(), Fail> {
+    let Err(fault) = read_words(rt.alloc(), words) else {
+        return Err(Fail::from("other words were taken"));
+    };
+    let told = Told::new(rt.alloc());
+    let code = end_words(&told, &mut Watched::new(Vec::new(rt.alloc())), &fault);
+    assert!(rt; !told.into_text().is_empty());
+    assert_eq!(rt; code, ExitCode::from(2));
     Ok(())
 }

@@ -1,8 +1,11 @@
-use Rattle.vmemd.proofs.RuleLemmas.{ends_are_scripts, script_keeps_rules, script_clients_replies, script_grants_apart}
+use Rattle.vmemd.proofs.RuleLemmas.{ends_are_scripts, fails_are_scripts, script_keeps_rules, script_clients_replies, script_grants_apart}
 use Rattle.vmemd.proofs.laws.rule_laws.Goals as goal
 
 pub returns-clause-ends : goal.returns-clause-ends
 returns-clause-ends c = ends_are_scripts
+
+pub returns-clause-fails : goal.returns-clause-fails
+returns-clause-fails c = fails_are_scripts
 
 pub returns-clause-keeps : goal.returns-clause-keeps
 returns-clause-keeps c = script_keeps_rules

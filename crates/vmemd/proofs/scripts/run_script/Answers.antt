@@ -29,7 +29,7 @@ returns-in_err-desk-clause-err g c =
 
 pub returns-in_err-served-clause-err : goal.returns-in_err-served-clause-err
 returns-in_err-served-clause-err g c =
-    let opened : IsDeskOf c.take_setup.new.setup c.in_ok-desk.desk = record { opened = c.in_ok-desk.ensures.opened; picture = c.in_ok-desk.ensures.picture; unused = c.in_ok-desk.ensures.unused } in
+    let opened : IsDeskOf c.take_setup.new.setup c.in_ok-desk.desk = record { opened = c.in_ok-desk.ensures.opened; picture = c.in_ok-desk.ensures.picture } in
     let p = err_from_is_err_and c.from_residual-in_err-served.result c.from_residual-in_err-served.ensures.1 in
     let unread = g.R.Read.remaining (inner_of c.args.reader.now) in
     let mid = g.R.Read.remaining (inner_of c.take_setup.new.reader) in
@@ -42,7 +42,7 @@ returns-in_err-served-clause-err g c =
 
 pub returns-clause-ok : goal.returns-clause-ok
 returns-clause-ok g c =
-    let opened : IsDeskOf c.take_setup.new.setup c.in_ok-desk.desk = record { opened = c.in_ok-desk.ensures.opened; picture = c.in_ok-desk.ensures.picture; unused = c.in_ok-desk.ensures.unused } in
+    let opened : IsDeskOf c.take_setup.new.setup c.in_ok-desk.desk = record { opened = c.in_ok-desk.ensures.opened; picture = c.in_ok-desk.ensures.picture } in
     let unread = g.R.Read.remaining (inner_of c.args.reader.now) in
     let mid = g.R.Read.remaining (inner_of c.take_setup.new.reader) in
     let taken = subst (λ (s : SetupState). TakesSetup TakesSetupLine s unread mid c.take_setup.new.setup c.in_ok-input.input) c.new-setup.ensures c.in_ok-input.ensures.ok in

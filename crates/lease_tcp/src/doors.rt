@@ -1,0 +1,25 @@
+//! Where workers take connections.
+
+use crate::pacing::Pace;
+use crate::rolls::Roll;
+use std::net::TcpListener;
+use std::sync::atomic::{AtomicBool, Ordering};
+
+/// What workers take connections from, and how they wait for their peers.
+#[derive(Clone, Copy)]
+pub struct Door<'a> {
+    /// The socket that is listened at.
+    pub listener: &'a TcpListener,
+    /// Raised once no further connection is to be served.
+    pub stop: &'a AtomicBool,
+    pub pace: Pace,
+    /// The connections that are served.
+    pub roll: &'a Roll,
+}
+
+impl Door<'_> {
+    /// Whether no further connection is to be served.
+    pub(crate) fn is_closed(&self) -> bool {
+        self.stop.load(Ordering::SeqCst)
+    }
+}

@@ -1,0 +1,174 @@
+//! A stream whose peer is waited for no longer than it is allowed. Pacing changes no byte: a paced
+//! reader has to give what its stream has, and a paced writer wrote what its stream took.
+ghost use Rattle.std.specs.Prelude.{◌≡◌, ◌<◌, ◌≤◌, IfOk};
+ghost use Rattle.std.specs.Duration.{as_nanos};
+
+use std::io;
+use std::io::{ErrorKind, Read, Write};
+use std::net::TcpStream;
+use std::time::{Clock, Duration, Instant};
+
+/// A stream each of whose reads and writes waits no longer than is set.
+pub trait Limited {
+    /// Sets how long a read may wait.
+    fn limit_reads(&self, limit: Duration) -> io::Result<()>;
+
+    /// Sets how long a write may wait.
+    fn limit_writes(&self, limit: Duration) -> io::Result<()>;
+}
+
+impl Limited for &TcpStream {
+    fn limit_reads(&self, limit: Duration) -> io::Result<()> {
+        self.set_read_timeout(Some(limit))
+    }
+
+    fn limit_writes(&self, limit: Duration) -> io::Result<()> {
+        self.set_write_timeout(Some(limit))
+    }
+}
+
+/// How long a peer is waited for.
+#[derive(Clone, Copy, Debug, PartialEq, Eq)]
+pub struct Pace {
+    /// For its first whole line, for the rest of a line that it began, and for it to take the whole
+    /// of an answer.
+    pub line: Duration,
+    /// For it to begin another line.
+    pub idle: Duration,
+}
+
+/// What a reader waits for.
+#[derive(Clone, Copy)]
+enum Awaited {
+    /// Another line.
+    Line,
+    /// The rest of a line, since then.
+    Rest(Instant),
+    /// Nothing more: it couldn't be told when a line was begun.
+    Nothing,
+}
+
+/// The reading side. It knows of a line only whether it is whole, and asks the clock and sets the
+/// stream's limit just where what it waits for changes.
+#[derive(Drop)]
+pub struct PacedReader<'a, S, C: Clock> {
+    clock: &'a C,
+    stream: S,
+    pace: Pace,
+    awaited: Awaited,
+    limit: Option<Duration>,
+}
+
+impl<'a, S, C: Clock> PacedReader<'a, S, C> {
+    /// The first line is waited for from now on.
+    pub fn new(clock: &'a C, stream: S, pace: Pace) -> PacedReader<'a, S, C>
+        ensures { result.stream ≡ stream }
+    {
+        PacedReader {
+            clock,
+            stream,
+            pace,
+            awaited: rest_from_now(clock),
+            limit: None,
+        }
+    }
+}
+
+impl<S: Read + Limited, C: Clock> Read for PacedReader<'_, S, C> {
+    ghost remaining = { λ r. S.remaining r.stream };
+
+    fn read(&mut self, buf: &mut [u8]) -> io::Result<usize> {
+        let limit = match self.awaited {
+            Awaited::Line => self.pace.idle,
+            Awaited::Rest(since) => left_of(self.clock, since, self.pace.line)?,
+            Awaited::Nothing => return Err(io::Error::from(ErrorKind::TimedOut)),
+        };
+        if self.limit != Some(limit) {
+            self.stream.limit_reads(limit)?;
+            self.limit = Some(limit);
+        }
+        let count = self.stream.read(buf)?;
+        if count > 0 {
+            self.awaited = awaited_after(self.clock, self.awaited, &buf[..count]);
+        }
+        Ok(count)
+    }
+}
+
+/// What is waited for after these bytes, of which there are some.
+fn awaited_after<C: Clock>(clock: &C, before: Awaited, bytes: &[u8]) -> Awaited {
+    if bytes.ends_with(b"\n") {
+        return Awaited::Line;
+    }
+    match before {
+        Awaited::Rest(since) if !bytes.contains(&b'\n') => Awaited::Rest(since),
+        _ => rest_from_now(clock),
+    }
+}
+
+/// The rest of a line, from now on.
+fn rest_from_now<C: Clock>(clock: &C) -> Awaited {
+    match Instant::now(clock) {
+        Ok(now) => Awaited::Rest(now),
+        Err(_) => Awaited::Nothing,
+    }
+}
+
+/// The writing side. What is written up to a flush is one answer.
+#[derive(Drop)]
+pub struct PacedWriter<'a, S, C: Clock> {
+    clock: &'a C,
+    stream: S,
+    pace: Pace,
+    begun: Option<Instant>,
+    limit: Option<Duration>,
+}
+
+impl<'a, S, C: Clock> PacedWriter<'a, S, C> {
+    /// No answer is begun.
+    pub fn new(clock: &'a C, stream: S, pace: Pace) -> PacedWriter<'a, S, C>
+        ensures { result.stream ≡ stream }
+    {
+        PacedWriter {
+            clock,
+            stream,
+            pace,
+            begun: None,
+            limit: None,
+        }
+    }
+}
+
+impl<S: Write + Limited, C: Clock> Write for PacedWriter<'_, S, C> {
+    ghost contents = { λ w. S.contents w.stream };
+
+    fn write(&mut self, buf: &[u8]) -> io::Result<usize> {
+        let limit = match self.begun {
+            None => {
+                self.begun = Some(Instant::now(self.clock)?);
+                self.pace.line
+            }
+            Some(since) => left_of(self.clock, since, self.pace.line)?,
+        };
+        if self.limit != Some(limit) {
+            self.stream.limit_writes(limit)?;
+            self.limit = Some(limit);
+        }
+        self.stream.write(buf)
+    }
+
+    fn flush(&mut self) -> io::Result<()> {
+        self.begun = None;
+        self.stream.flush()
+    }
+}
+
+/// What is left of a limit; an error where nothing is.
+fn left_of<C: Clock>(clock: &C, since: Instant, limit: Duration) -> io::Result<Duration>
+    ensures { IfOk result (λ left. (0 < as_nanos left) × (as_nanos left ≤ as_nanos limit)) }
+{
+    match limit.checked_sub(since.elapsed(clock)?) {
+        Some(left) if !left.is_zero() => Ok(left),
+        _ => Err(io::Error::from(ErrorKind::TimedOut)),
+    }
+}

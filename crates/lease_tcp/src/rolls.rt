@@ -1,0 +1,132 @@
+//! The connections that are served now, so that an end can reach each of them.
+ghost use Rattle.std.specs.Prelude.{◌≡◌, ◌+◌, ◌≤◌, ◌↔◌, true, OnOk, OnErr, IsErrOf};
+ghost use Rattle.slab.specs.Slab.{slab_len};
+
+use slab::Slab;
+use std::alloc::Global;
+use std::net::{Shutdown, TcpStream};
+use std::sync::{Arc, Mutex, Wait};
+use std::thread;
+use std::time::{Clock, Duration};
+
+/// How long, in milliseconds, is waited before it is looked again whether connections have ended.
+const END_PAUSE: u64 = 10;
+
+/// How often it is looked in a second.
+const LOOKS: u64 = 100;
+
+/// A connection, which its thread and a roll have.
+pub type SharedStream = Arc<TcpStream, Global>;
+
+/// Why a connection isn't served.
+#[derive(Clone, Copy, Debug, PartialEq, Eq)]
+pub enum NotEntered {
+    /// There are as many as there may be.
+    Full,
+    /// All are to end.
+    Ended,
+    /// Out of memory.
+    Memory,
+}
+
+/// What lies under the lock of a roll: never more connections than there may be.
+#[derive(Drop)]
+struct Rows {
+    streams: Slab<SharedStream>,
+    most: usize,
+    ended: bool,
+    ghost within: { slab_len streams ≤ most },
+}
+
+/// The connections that are served now, at most so many.
+#[derive(Drop)]
+pub struct Roll {
+    rows: Mutex<Rows>,
+}
+
+impl Roll {
+    /// No connection is served yet.
+    pub fn new(alloc: Global, most: usize) -> Roll {
+        let rows = Rows {
+            streams: Slab::new(alloc),
+            most,
+            ended: false,
+        };
+        Roll {
+            rows: Mutex::new(rows),
+        }
+    }
+
+    /// Enters a connection, and gives its key.
+    pub fn enter<R: Wait>(&self, rt: &R, stream: &SharedStream) -> Result<usize, NotEntered> {
+        self.rows.lock(rt).enter(stream)
+    }
+
+    /// The connection of this key has ended.
+    pub fn leave<R: Wait>(&self, rt: &R, key: usize) {
+        self.rows.lock(rt).leave(key);
+    }
+
+    /// Has all connections end, after what they sent by now is answered. Those that haven't within
+    /// so many seconds are cut off. No further one is entered.
+    pub fn end<R: Wait + Clock>(&self, rt: &R, grace: u32) {
+        self.shut(rt, Shutdown::Read);
+        for _ in 0..u64::from(grace) * LOOKS {
+            if self.is_empty(rt) {
+                return;
+            }
+            thread::sleep(rt, Duration::from_millis(END_PAUSE));
+        }
+        self.shut(rt, Shutdown::Both);
+    }
+
+    /// Lets no further one enter, and shuts each down so.
+    fn shut<R: Wait>(&self, rt: &R, how: Shutdown) {
+        let mut guard = self.rows.lock(rt);
+        guard.ended = true;
+        for (_, stream) in guard.streams.iter() {
+            let _ = stream.shutdown(how);
+        }
+    }
+
+    /// Whether none is served.
+    fn is_empty<R: Wait>(&self, rt: &R) -> bool {
+        self.rows.lock(rt).streams.is_empty()
+    }
+}
+
+impl Rows {
+    /// Enters a connection. It is refused as one too many just where there are as many as there may
+    /// be.
+    fn enter(&mut self, stream: &SharedStream) -> Result<usize, NotEntered>
+        ensures more { OnOk result (slab_len self.new.streams ≡ slab_len self.old.streams + 1) }
+        ensures same { OnErr result (slab_len self.new.streams ≡ slab_len self.old.streams) }
+        ensures full { IsErrOf result NotEntered.Full
+            → slab_len self.old.streams ≡ self.old.most }
+        ensures ended { IsErrOf result NotEntered.Ended ↔ (self.old.ended ≡ true) }
+        ensures kept { (self.new.most ≡ self.old.most) × (self.new.ended ≡ self.old.ended) }
+    {
+        if self.ended {
+            return Err(NotEntered::Ended);
+        }
+        if self.streams.len() >= self.most {
+            return Err(NotEntered::Full);
+        }
+        let Ok(own) = Arc::try_clone(stream) else {
+            return Err(NotEntered::Memory);
+        };
+        match self.streams.insert(own) {
+            Ok(key) => Ok(key),
+            Err(_) => Err(NotEntered::Memory),
+        }
+    }
+
+    /// The connection of this key has ended.
+    fn leave(&mut self, key: usize)
+        ensures fewer { slab_len self.new.streams ≤ slab_len self.old.streams }
+        ensures kept { (self.new.most ≡ self.old.most) × (self.new.ended ≡ self.old.ended) }
+    {
+        let left = self.streams.try_remove(key);
+        drop(left);
+    }
+}

@@ -1,0 +1,215 @@
+//! Slow peers, by a clock of their own: how long a paced writer waits for them.
+
+use lease_server::{ServeFault, Watched, deliver};
+use lease_tcp::{Limited, Pace, PacedWriter};
+use std::cell::Cell;
+use std::io;
+use std::io::{ErrorKind, Write};
+use std::time::{Clock, Duration};
+
+/// 10 seconds for a line and an answer, 600 between lines.
+fn pace() -> Pace {
+    Pace {
+        line: Duration::from_secs(10),
+        idle: Duration::from_secs(600),
+    }
+}
+
+/// A clock that shows the milliseconds for which was waited. It can't be read from some time on.
+#[derive(Drop)]
+struct Hands {
+    now: Cell<u64>,
+    fails_from: u64,
+}
+
+impl Hands {
+    fn new(fails_from: u64) -> Hands {
+        Hands {
+            now: Cell::new(0),
+            fails_from,
+        }
+    }
+
+    fn turn(&self, by: u64) {
+        self.now.set(self.now.get().saturating_add(by));
+    }
+}
+
+impl Clock for Hands {
+    fn monotonic(&self) -> io::Result<Duration> {
+        if self.now.get() >= self.fails_from {
+            return Err(io::Error::from(ErrorKind::Other));
+        }
+        Ok(Duration::from_millis(self.now.get()))
+    }
+
+    fn since_1970(&self) -> io::Result<Duration> {
+        self.monotonic()
+    }
+}
+
+/// A stream at which is waited by a clock, and what was seen of it.
+#[derive(Drop)]
+struct Wire<'a> {
+    clock: &'a Hands,
+    limit: Cell<u64>,
+    /// How often a limit was set.
+    sets: Cell<u64>,
+    /// How many bytes were taken.
+    taken: Cell<usize>,
+}
+
+impl<'a> Wire<'a> {
+    fn new(clock: &'a Hands) -> Wire<'a> {
+        Wire {
+            clock,
+            limit: Cell::new(0),
+            sets: Cell::new(0),
+            taken: Cell::new(0),
+        }
+    }
+
+    fn set(&self, limit: Duration) {
+        let limit = u64::try_from(limit.as_millis()).unwrap_or(u64::MAX);
+        self.limit.set(limit);
+        self.sets.set(self.sets.get().saturating_add(1));
+    }
+
+    /// Waits for so long, or until the limit.
+    fn wait(&self, pause: u64) -> io::Result<()> {
+        self.clock.turn(pause.min(self.limit.get()));
+        if pause > self.limit.get() {
+            return Err(io::Error::from(ErrorKind::WouldBlock));
+        }
+        Ok(())
+    }
+}
+
+/// Takes so many bytes, each time so many milliseconds after the time before; then none.
+#[derive(Drop)]
+struct Taker<'a> {
+    wire: &'a Wire<'a>,
+    parts: &'static [(u64, usize)],
+}
+
+impl Limited for Taker<'_> {
+    fn limit_reads(&self, _limit: Duration) -> io::Result<()> {
+        Ok(())
+    }
+
+    fn limit_writes(&self, limit: Duration) -> io::Result<()> {
+        self.wire.set(limit);
+        Ok(())
+    }
+}
+
+impl Write for Taker<'_> {
+    fn write(&mut self, buf: &[u8]) -> io::Result<usize> {
+        let Some(((pause, room), rest)) = self.parts.split_first() else {
+            return Ok(0);
+        };
+        self.wire.wait(*pause)?;
+        self.parts = rest;
+        let count = buf.len().min(*room);
+        self.wire
+            .taken
+            .set(self.wire.taken.get().saturating_add(count));
+        Ok(count)
+    }
+
+    fn flush(&mut self) -> io::Result<()> {
+        Ok(())
+    }
+}
+
+/// How a peer takes three answers of ten bytes.
+struct Taken {
+    shows: &'static str,
+    parts: &'static [(u64, usize)],
+    fails_from: u64,
+    taken: usize,
+    ended: u64,
+    is_whole: bool,
+    sets: u64,
+}
+
+const TAKEN: [Taken; 6] = [
+    Taken {
+        shows: "each at once",
+        parts: &[(10_000, 10), (10_000, 10), (1, 10)],
+        fails_from: u64::MAX,
+        taken: 30,
+        ended: 20_001,
+        is_whole: true,
+        sets: 1,
+    },
+    Taken {
+        shows: "each in parts, and each has its own time",
+        parts: &[(5_000, 5), (4_999, 5), (9_999, 1), (1, 10), (1, 10)],
+        fails_from: u64::MAX,
+        taken: 30,
+        ended: 20_000,
+        is_whole: true,
+        sets: 5,
+    },
+    Taken {
+        shows: "none",
+        parts: &[(10_001, 10)],
+        fails_from: u64::MAX,
+        taken: 0,
+        ended: 10_000,
+        is_whole: false,
+        sets: 1,
+    },
+    Taken {
+        shows: "a part of one, and no more in time",
+        parts: &[(6_000, 5), (4_001, 5)],
+        fails_from: u64::MAX,
+        taken: 5,
+        ended: 10_000,
+        is_whole: false,
+        sets: 2,
+    },
+    Taken {
+        shows: "a byte now and then",
+        parts: &[(1, 10), (4_000, 1), (4_000, 1), (4_000, 1)],
+        fails_from: u64::MAX,
+        taken: 12,
+        ended: 10_001,
+        is_whole: false,
+        sets: 3,
+    },
+    Taken {
+        shows: "no clock after the first",
+        parts: &[(3, 10), (1, 10)],
+        fails_from: 2,
+        taken: 10,
+        ended: 3,
+        is_whole: false,
+        sets: 1,
+    },
+];
+
+#[test]
+fn slow_takers(rt: HostRuntime) {
+    for row in &TAKEN {
+        let hands = Hands::new(row.fails_from);
+        let wire = Wire::new(&hands);
+        let parts = row.parts;
+        let taker = Taker { wire: &wire, parts };
+        let mut writer = Watched::new(PacedWriter::new(&hands, taker, pace()));
+        let all = deliver_three(&mut writer);
+        assert_eq!(rt; all.is_ok(), row.is_whole, "{}", row.shows);
+        assert_eq!(rt; wire.taken.get(), row.taken, "{}", row.shows);
+        assert_eq!(rt; hands.now.get(), row.ended, "{}", row.shows);
+        assert_eq!(rt; wire.sets.get(), row.sets, "{}", row.shows);
+    }
+}
+
+/// Writes three answers.
+fn deliver_three<W: Write>(writer: &mut Watched<W>) -> Result<(), ServeFault> {
+    for _ in 0..3 {
+        deliver(writer, b"123456789\n")?;
+    }
+    Ok(())
+}
