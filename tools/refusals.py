@@ -12,13 +12,21 @@ PROGRAM = str(ROOT / "crates" / "vmemd" / "out" / "vmemd")
 class Refusal:
     """The environment of a program whose Nth call is refused, or each from the Nth on."""
 
-    def __init__(self, shim, told, call, number, goes_on):
-        self.told = told
-        self.environment = {"LD_PRELOAD": shim, "REFUSED": told,
+    def __init__(self, shim, room, call, number, goes_on):
+        self.told, self.until, self.goes_on = f"{room}/told", f"{room}/until", goes_on
+        self.environment = {"LD_PRELOAD": shim, "REFUSED": self.told, "REFUSE_UNTIL": self.until,
                             "REFUSE": f"{call} {number}{' on' if goes_on else ''}"}
 
     def was_met(self):
         return os.path.exists(self.told)
+
+    def end(self):
+        """From here on none is refused."""
+        Path(self.until).touch()
+
+    def is_over(self):
+        """Returns whether it was met, and none can be refused any more."""
+        return self.was_met() and (not self.goes_on or os.path.exists(self.until))
 
 
 class Refuser:
@@ -31,7 +39,7 @@ class Refuser:
     @contextlib.contextmanager
     def refuse(self, call, number, goes_on=False):
         with tempfile.TemporaryDirectory(dir=self.folder) as room:
-            yield Refusal(self.shim, f"{room}/told", call, number, goes_on)
+            yield Refusal(self.shim, room, call, number, goes_on)
 
 
 @contextlib.contextmanager

@@ -1,8 +1,9 @@
 /* Refuses a call of a program to the system, from outside: loaded before the program by LD_PRELOAD.
  *
  * REFUSE is "CALL N" or "CALL N on": the Nth call, or each from the Nth on, fails as the system would
- * fail it. CALL is one of memory (malloc, realloc), read, write, recv, send, thread, listen, open. Only calls that
- * the program's own code makes are counted. The file REFUSED is made when a call is refused.
+ * fail it. CALL is one of memory (malloc, realloc), read, write, recv, send, thread, listen, open.
+ * Only calls that the program's own code makes are counted. The file REFUSED is made when a call is
+ * refused; once there is the file REFUSE_UNTIL, none is refused any more.
  */
 #define _GNU_SOURCE
 #include <dlfcn.h>
@@ -44,11 +45,16 @@ __attribute__((constructor)) static void begin(void) {
   if (given) sscanf(given, "%15s %lu %3s", refused_call, &wanted, go_on);
 }
 
+static int is_over(void) {
+  const char *until = getenv("REFUSE_UNTIL");
+  return until && syscall(SYS_access, until, F_OK) == 0;
+}
+
 static int is_refused(const char *call, void *caller) {
   uintptr_t at = (uintptr_t)caller;
   if (!wanted || at < first || at >= last || strcmp(call, refused_call)) return 0;
   unsigned long number = atomic_fetch_add(&counted, 1) + 1;
-  if (number != wanted && !(go_on[0] && number > wanted)) return 0;
+  if (number != wanted && !(go_on[0] && number > wanted && !is_over())) return 0;
   const char *told = getenv("REFUSED");
   if (told) syscall(SYS_close, syscall(SYS_open, told, O_CREAT | O_WRONLY, 0600));
   return 1;

@@ -5,6 +5,7 @@ ghost use Rattle.tag_arena.specs.Outcomes.{IsImportFor};
 mod growth;
 mod imports;
 mod policies;
+mod spans;
 
 use crate::same_answers::run_both;
 use deed_core::{Deed, PlainDeed, Range, Request, Route, Segment};
@@ -39,17 +40,6 @@ pub(crate) fn span_back<S>(fault: SpanFault<S>) -> (S, SpanWhy) {
         SpanFault::Overlaps(span) => (span, SpanWhy::Overlaps),
         SpanFault::NotAligned(span) => (span, SpanWhy::NotAligned),
         SpanFault::NoMemory(span) => (span, SpanWhy::NoMemory),
-    }
-}
-
-fn refuse(rt: &impl Abort, arena: &mut Arena<PlainDeed>, deed: PlainDeed, why: SpanWhy) {
-    match arena.add_span(deed) {
-        Ok(()) => panic!(rt; "the span is refused"),
-        Err(fault) => {
-            let (span, told) = span_back(fault);
-            span.close();
-            assert_eq!(rt; told, why);
-        }
     }
 }
 
@@ -219,15 +209,29 @@ fn end_span(rt: &impl Abort, arena: &mut Arena<PlainDeed>, base: u64, len: u64) 
     assert_eq!(rt; range.len(), len);
 }
 
-/// Takes the steps in an arena of one span, which is whole at the end, and then in both bodies.
+/// Takes the steps in an arena of one span.
 fn run_alone(rt: &(impl Abort + AllocGlobal), policy: Policy, base: u64, len: u64, steps: &[Step]) {
-    let range = Range::new(base, len).expect(rt, "a range");
+    run_spans(rt, policy, &[(base, len)], steps);
+}
+
+/// Takes the steps in an arena of these spans, from the lowest on, which are whole at the end, and
+/// then in both bodies.
+fn run_spans(
+    rt: &(impl Abort + AllocGlobal),
+    policy: Policy,
+    spans: &[(u64, u64)],
+    steps: &[Step],
+) {
     let mut arena = Arena::new(rt.alloc(), 1, 1, policy);
-    add(rt, &mut arena, span(rt, 1, base, len));
+    for &(base, len) in spans {
+        add(rt, &mut arena, span(rt, 1, base, len));
+    }
     run(rt, &mut arena, steps);
-    end_span(rt, &mut arena, base, len);
+    for &(base, len) in spans {
+        end_span(rt, &mut arena, base, len);
+    }
     close(rt, arena);
-    run_both(rt, policy, range, steps);
+    run_both(rt, policy, spans, steps);
 }
 
 /// Numbers cycle before they are used again.
@@ -324,23 +328,6 @@ fn freed_ranges_merge(rt: HostRuntime) {
     run_alone(&rt, Policy::Instant, 0, 12, &steps);
 }
 
-/// Spans that touch don't merge, and the lowest goes first.
-#[test]
-fn touching_spans(rt: HostRuntime) {
-    let mut arena = Arena::new(rt.alloc(), 1, 1, Policy::Best);
-    add(&rt, &mut arena, span(&rt, 2, 8, 8));
-    add(&rt, &mut arena, span(&rt, 1, 0, 8));
-    no_grant(&rt, &mut arena, &Request::plain(12), ArenaFault::NoFit);
-    counts(&rt, &arena, 16, 16, 0);
-    end_span(&rt, &mut arena, 0, 8);
-    end_span(&rt, &mut arena, 8, 8);
-    match arena.remove_owned() {
-        None => {}
-        Some(_deed) => panic!(rt; "no span is left"),
-    }
-    close(&rt, arena);
-}
-
 /// An imported span goes back when its last segment is freed.
 #[test]
 fn imported_spans_go_back(rt: HostRuntime) {
@@ -431,22 +418,6 @@ fn made_with(rt: HostRuntime) {
     assert_eq!(rt; arena.id(), 7);
     assert_eq!(rt; arena.quantum(), 4);
     assert_eq!(rt; arena.policy(), Policy::Best);
-    close(&rt, arena);
-}
-
-/// A span that overlaps another comes back, and so does one that isn't in whole quanta.
-#[test]
-fn refused_spans(rt: HostRuntime) {
-    let mut arena = arena_of_fours(rt.alloc(), 7);
-    add(&rt, &mut arena, span(&rt, 1, 0, 64));
-    for (base, len, why) in [
-        (60, 8, SpanWhy::Overlaps),
-        (66, 8, SpanWhy::NotAligned),
-        (64, 6, SpanWhy::NotAligned),
-    ] {
-        refuse(&rt, &mut arena, span(&rt, 2, base, len), why);
-    }
-    end_span(&rt, &mut arena, 0, 64);
     close(&rt, arena);
 }
 

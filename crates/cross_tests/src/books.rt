@@ -162,7 +162,7 @@ fn lease_once(rt: &impl Abort, book: &mut Book<PlainDeed>, id: Id, bounds: Bound
     let receipt = match book.settle(id, ARENA, 1, &request, segment) {
         Ok(receipt) => receipt,
         Err(NotLeased { segment, answer }) => {
-            close(segment);
+            assert_eq!(rt; close(segment), bounds);
             return answered(rt, answer);
         }
     };

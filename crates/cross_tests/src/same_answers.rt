@@ -1,6 +1,7 @@
 //! Both bodies of an arena, `tag_arena`'s and the plain one for tests, answer each call alike.
 mod bodies;
 mod chances;
+mod imports;
 mod walks;
 
 use self::bodies::Bodies;
@@ -12,20 +13,24 @@ use std::alloc::AllocGlobal;
 use std::process::Abort;
 use tag_arena::Policy;
 
-/// Takes the steps of a row in both bodies of an arena of one span, which is whole at the end.
+/// Takes the steps of a row in both bodies of an arena of these spans, which are whole at the end.
 pub(crate) fn run_both(
     rt: &(impl Abort + AllocGlobal),
     policy: Policy,
-    range: Range,
+    spans: &[(u64, u64)],
     steps: &[Step],
 ) {
     let mut walk = Walk::new(rt, policy, 1, 16);
-    walk.source.add(rt, 1, range);
+    for &(base, len) in spans {
+        let range = Range::new(base, len).expect(rt, "a range");
+        walk.source.add(rt, 1, range);
+    }
     for &step in steps {
         match step {
             Step::Grant(request, _) | Step::NoFit(request) => walk.lease(rt, &request),
             Step::Free(base) => walk.free_at(rt, base),
         }
+        walk.source.report(rt);
     }
     walk.end(rt);
 }

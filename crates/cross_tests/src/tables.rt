@@ -117,6 +117,51 @@ fn two_openers<N: Name, R: Abort>(rt: &R, ground: Ground) -> Result<(), Fail>
     Ok(())
 }
 
+// Where growths are refused, numbers are shared and roots opened again.
+#[test]
+fn openers_go_on(rt: HostRuntime) {
+    let ground = match Ground::new(rt.alloc()) {
+        Ok(ground) => ground,
+        Err(_) => Ground::new(rt.alloc()).expect(&rt, "refused twice"),
+    };
+    goes_on::<Brand, _>(&rt, ground);
+}
+
+fn goes_on<N: Name, R: Abort>(rt: &R, ground: Ground)
+    requires { ground ≡ N.table }
+{
+    let mut rest: Opener<N> = ground.start();
+    let mut shared = share_again(rt, &mut rest);
+    let (first, one) = open_again(rt, &mut shared);
+    let (second, other) = open_again(rt, &mut rest);
+    assert_eq!(rt; (first.number(), second.number()), (0, 1 << 16));
+    end(rt, first, one);
+    end(rt, second, other);
+}
+
+// Gives 2^16 numbers away, again where it was out of memory: then none had moved.
+fn share_again<N: Name, R: Abort>(rt: &R, opener: &mut Opener<N>) -> Opener<N> {
+    let before = (opener.first(), opener.left());
+    assert!(rt; before.1 >= 1 << 16);
+    match opener.share(1 << 16) {
+        Ok(shared) => return shared,
+        Err(_) => assert_eq!(rt; (opener.first(), opener.left()), before),
+    }
+    opener.share(1 << 16).expect(rt, "refused twice")
+}
+
+// Opens the next number, again where it was out of memory: then none was used.
+fn open_again<N: Name, R: Abort>(rt: &R, opener: &mut Opener<N>) -> (Root<N>, SeatDeed<N>) {
+    let before = (opener.first(), opener.left());
+    assert!(rt; before.1 > 0);
+    let range = Range::new(0, 16).expect(rt, "a range");
+    match opener.open_root(range) {
+        Ok(both) => return both,
+        Err(_) => assert_eq!(rt; (opener.first(), opener.left()), before),
+    }
+    opener.open_root(range).expect(rt, "refused twice")
+}
+
 #[test]
 fn pairs(rt: HostRuntime) -> Result<(), Fail> {
     paired::<Brand, _>(&rt, Ground::new(rt.alloc())?)

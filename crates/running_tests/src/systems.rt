@@ -3,12 +3,14 @@ ghost use Rattle.std.specs.Prelude.{◌≡◌};
 
 mod between;
 mod conversations;
+mod draining;
 mod gates;
 mod orders;
 mod repeats;
 mod rows;
 mod settles;
 mod soak;
+mod starved_threads;
 
 use arena_tree::{NewChild, NewRoot, Setting, Setup};
 use deed_core::Range;

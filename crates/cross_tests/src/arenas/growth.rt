@@ -67,37 +67,47 @@ fn import_again(
 }
 
 /// Two spans, an imported one, and twelve segments with gaps between them.
-#[test]
-fn calls_can_be_made_again(rt: HostRuntime) {
+fn make_calls(rt: &(impl Abort + AllocGlobal), policy: Policy) {
     let Ok(mut held) = Vec::with_capacity(rt.alloc(), 12) else {
         return;
     };
-    let mut source = Arena::new(rt.alloc(), 1, 1, Policy::Best);
-    let mut child = Arena::new(rt.alloc(), 2, 1, Policy::Best);
+    let mut source = Arena::new(rt.alloc(), 1, 1, policy);
+    let mut child = Arena::new(rt.alloc(), 2, 1, policy);
     for base in [0, 64] {
-        let range = Range::new(base, 64).expect(&rt, "a range");
-        add_again(&rt, &mut source, range);
+        let range = Range::new(base, 64).expect(rt, "a range");
+        add_again(rt, &mut source, range);
     }
-    let imported = grant_again(&rt, &mut source, &Request::plain(64), 0, 64);
-    let first = import_again(&rt, &mut child, imported, &Request::plain(4));
-    stands(&rt, &first, 0, 4);
+    let low = Request {
+        max: 64,
+        ..Request::plain(64)
+    };
+    let imported = grant_again(rt, &mut source, &low, 0, 64);
+    let first = import_again(rt, &mut child, imported, &Request::plain(4));
+    stands(rt, &first, 0, 4);
     let two = Request {
         align: 4,
         phase: 1,
         ..Request::plain(2)
     };
     for base in [65, 69, 73, 77, 81, 85, 89, 93, 97, 101, 105, 109] {
-        let segment = grant_again(&rt, &mut source, &two, base, 2);
+        let segment = grant_again(rt, &mut source, &two, base, 2);
         assert!(rt; held.len() < held.capacity());
         held.push_reserved(segment);
     }
-    give_all(&rt, &mut source, held);
-    let back = take_back(&rt, &mut child, first);
-    give_back(&rt, &mut source, back);
-    close(&rt, child);
-    end_span(&rt, &mut source, 0, 64);
-    end_span(&rt, &mut source, 64, 64);
-    close(&rt, source);
+    give_all(rt, &mut source, held);
+    let back = take_back(rt, &mut child, first);
+    give_back(rt, &mut source, back);
+    close(rt, child);
+    end_span(rt, &mut source, 0, 64);
+    end_span(rt, &mut source, 64, 64);
+    close(rt, source);
+}
+
+#[test]
+fn calls_can_be_made_again(rt: HostRuntime) {
+    for policy in [Policy::Best, Policy::Next, Policy::Instant] {
+        make_calls(&rt, policy);
+    }
 }
 
 /// Carves segments with gaps between them, so many that the arena turns to another index of its

@@ -4,7 +4,7 @@ use deed_core::{Deed, PlainDeed, Range, Request, Segment, is_power_of_two};
 use plain_arena::PlainArena;
 use std::alloc::AllocGlobal;
 use std::process::Abort;
-use tag_arena::{Arena, ArenaFault, Policy};
+use tag_arena::{Arena, ArenaFault, ArenaReport, Policy};
 
 /// A segment of each body, of the same units.
 pub(super) struct Twins {
@@ -48,11 +48,13 @@ impl Bodies {
     }
 
     /// Both report the same.
-    pub(super) fn report(&self, rt: &impl Abort) {
-        assert_eq!(rt; self.fast.report(), self.plain.report());
+    pub(super) fn report(&self, rt: &impl Abort) -> ArenaReport {
+        let report = self.fast.report();
+        assert_eq!(rt; report, self.plain.report());
         assert_eq!(rt; self.fast.id(), self.plain.id());
         assert_eq!(rt; self.fast.quantum(), self.plain.quantum());
         assert_eq!(rt; self.fast.policy(), self.plain.policy());
+        report
     }
 
     /// Adds a span, which both take or both refuse.

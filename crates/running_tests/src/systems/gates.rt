@@ -45,7 +45,7 @@ impl<R: Clock> Gate for Hold<'_, R> {
 }
 
 // Waits until a flag is raised, for 10,000 looks at most.
-fn raised<R: Clock>(rt: &R, flag: &AtomicBool) -> bool {
+pub(super) fn raised<R: Clock>(rt: &R, flag: &AtomicBool) -> bool {
     for _ in 0..10_000 {
         if flag.load(Ordering::SeqCst) {
             return true;
@@ -166,7 +166,7 @@ impl Gate for StopAt {
 }
 
 // Asks a line that its gate stops before a step. The CPU then holds so many units.
-fn stop<N: Name, R: Abort + Wait>(
+pub(super) fn stop<N: Name, R: Abort + Wait>(
     rt: &R,
     system: &System<N>,
     cpu: &mut Cpu<N>,
@@ -201,28 +201,30 @@ fn taken_up<N: Name, R: Abort + Wait + AllocGlobal>(
 
 /// A line that a gate stops, before each of its steps in turn.
 #[derive(Drop)]
-struct Halting<'a> {
+pub(super) struct Halting<'a> {
     /// Lines that are answered before it.
-    before: &'a [(&'a str, &'a str)],
-    text: &'a str,
+    pub(super) before: &'a [(&'a str, &'a str)],
+    pub(super) text: &'a str,
     /// How many units the CPU holds before each step.
-    held: &'a [u128],
+    pub(super) held: &'a [u128],
     /// What another CPU is asked then, and is answered.
     then: (&'a str, &'a str),
 }
 
 // A lease by a new slab: the look, the pop, the swap for a full magazine, the chunk, the carve of a
-// slab, the slab, the settle. A release: the release, the push.
-#[test]
-fn drain_step(rt: HostRuntime) {
-    let lease = Halting {
+// slab, the slab, the settle.
+pub(super) fn halted_lease() -> Halting<'static> {
+    Halting {
         before: &[("hello 1 1", "welcome 1 1")],
         text: "lease 1 1 1 d 1",
         held: &[0, 0, 0, 0, 0, 16, 1],
         then: ("lease 1 1 1 d 1", "granted 1 1 1 d 0 1"),
-    };
-    stop_at_each(&rt, &lease);
-    let release = Halting {
+    }
+}
+
+// A release: the release, the push.
+pub(super) fn halted_release() -> Halting<'static> {
+    Halting {
         before: &[
             ("hello 1 1", "welcome 1 1"),
             ("lease 1 1 1 d 1", "granted 1 1 1 d 0 1"),
@@ -230,8 +232,13 @@ fn drain_step(rt: HostRuntime) {
         text: "release 1 1 2 d 0",
         held: &[0, 1],
         then: ("release 1 1 2 d 0", "released 1 1 2"),
-    };
-    stop_at_each(&rt, &release);
+    }
+}
+
+#[test]
+fn drain_step(rt: HostRuntime) {
+    stop_at_each(&rt, &halted_lease());
+    stop_at_each(&rt, &halted_release());
 }
 
 // A lease that imports: the look, the two carves, the span that is added, the settle.

@@ -1,4 +1,4 @@
-//! Another CPU is asked a line just before a request is settled.
+//! Another CPU is asked lines just before a step of a request.
 ghost use Rattle.std.specs.Prelude.{◌≡◌};
 
 use super::{ask, cpu, line, made, retire, root, same, shut};
@@ -12,35 +12,51 @@ use std::sync::{Mutex, Wait};
 use std::test::Fail;
 use tag_arena::Policy;
 
-/// Before the settle another CPU is asked a line, and is answered so.
+/// A line with its answer.
+type Row<'a> = (&'a str, &'a str);
+
+/// What two CPUs of a system with one arena, `m` of eight units, are asked, in this order.
 #[derive(Drop)]
-struct BeforeSettle<'a, N: Name, R: Abort + Wait + AllocGlobal> {
+struct Story<'a> {
+    first: &'a [Row<'a>],
+    /// The other CPU is asked these before this step of the line.
+    event: EventName,
+    between: &'a [Row<'a>],
+    line: Row<'a>,
+    then: Row<'a>,
+}
+
+/// Before its step the other CPU is asked what comes between.
+#[derive(Drop)]
+struct Before<'a, N: Name, R: Abort + Wait + AllocGlobal> {
     rt: &'a R,
     system: &'a System<N>,
     other: &'a Mutex<Cpu<N>>,
-    text: &'a str,
-    wanted: &'a str,
+    event: EventName,
+    rows: &'a [Row<'a>],
 }
 
-impl<N: Name, R: Abort + Wait + AllocGlobal> Gate for BeforeSettle<'_, N, R> {
+impl<N: Name, R: Abort + Wait + AllocGlobal> Gate for Before<'_, N, R> {
     ghost may_stop = { λ _ _. ⊥ };
 
     fn pass(&self, step: &NextStep) -> Pass {
-        if step.event == EventName::Settle {
+        if step.event == self.event {
             let mut other = self.other.lock(self.rt);
-            ask(self.rt, self.system, &mut other, self.text, self.wanted);
+            for (text, wanted) in self.rows {
+                ask(self.rt, self.system, &mut other, text, wanted);
+            }
         }
         Pass::Go
     }
 }
 
-// Asks a lease that another CPU's line comes before: it isn't settled by this, is answered so, and
+// Asks a line that another CPU's lines come before: it isn't settled by this, is answered so, and
 // the hand is empty.
 fn late<N: Name, R: Abort + Wait + AllocGlobal>(
     rt: &R,
-    gate: &BeforeSettle<N, R>,
+    gate: &Before<N, R>,
     one: &mut Cpu<N>,
-    row: &(&str, &str),
+    row: &Row,
 ) {
     match gate.system.answer(rt, one, gate, &line(rt, row.0)) {
         Ok(told) => {
@@ -60,6 +76,16 @@ fn one_request_twice(rt: HostRuntime) -> Result<(), Fail> {
     let granted = (LEASE, "granted 1 1 1 m 4 4");
     let then = ("lease 1 1 2 m 4", "granted 1 1 2 m 0 4");
     settled(&rt, &[granted, granted, then]);
+    Ok(())
+}
+
+/// The first CPU has all units in its hand, so that the second one finds none and settles that.
+/// Both are told so, and all units are free.
+#[test]
+fn last_units_twice(rt: HostRuntime) -> Result<(), Fail> {
+    let refused = ("lease 1 1 1 m 8", "refused 1 1 1 nofit");
+    let then = ("lease 1 1 2 m 8", "granted 1 1 2 m 0 8");
+    settled(&rt, &[refused, refused, then]);
     Ok(())
 }
 
@@ -84,36 +110,68 @@ fn hello_before_settle(rt: HostRuntime) -> Result<(), Fail> {
     Ok(())
 }
 
+/// A hello comes twice. The first CPU has the older lease in its hand, so that the second one finds
+/// none to end: it answers `welcome`, and the units aren't free yet.
+#[test]
+fn one_hello_twice(rt: HostRuntime) -> Result<(), Fail> {
+    let hello = ("hello 1 2", "welcome 1 2");
+    let story = Story {
+        first: &[
+            ("hello 1 1", "welcome 1 1"),
+            ("lease 1 1 1 m 8", "granted 1 1 1 m 0 8"),
+        ],
+        event: EventName::Free,
+        between: &[hello, ("lease 1 2 1 m 8", "refused 1 2 1 nofit")],
+        line: hello,
+        then: ("lease 1 2 2 m 8", "granted 1 2 2 m 0 8"),
+    };
+    told(&rt, &story);
+    Ok(())
+}
+
 // What the other CPU is asked before the settle, the lease, and what comes after.
-fn settled<R: Abort + Wait + AllocGlobal>(rt: &R, rows: &[(&str, &str); 3]) {
+fn settled<R: Abort + Wait + AllocGlobal>(rt: &R, rows: &[Row; 3]) {
+    let [before, asked, then] = rows;
+    let story = Story {
+        first: &[("hello 1 1", "welcome 1 1")],
+        event: EventName::Settle,
+        between: &[*before],
+        line: *asked,
+        then: *then,
+    };
+    told(rt, &story);
+}
+
+fn told<R: Abort + Wait + AllocGlobal>(rt: &R, story: &Story) {
     let mut setup = Setup::new(rt.alloc());
     root(rt, &mut setup, "m", 0, 8, Policy::Best, 0);
     let ground = Ground::new(rt.alloc()).expect(rt, "a table");
-    settled_in::<Brand, _>(rt, ground, setup, rows);
+    told_in::<Brand, _>(rt, ground, setup, story);
 }
 
-fn settled_in<N: Name, R: Abort + Wait + AllocGlobal>(
+fn told_in<N: Name, R: Abort + Wait + AllocGlobal>(
     rt: &R,
     ground: Ground,
     setup: Setup,
-    rows: &[(&str, &str); 3],
+    story: &Story,
 )
     requires { ground ≡ N.table }
 {
-    let [before, asked, then] = rows;
     let system: System<N> = made(rt, ground, setup);
     let mut one = cpu(rt, &system, 0);
     let other = Mutex::new(cpu(rt, &system, 1));
-    ask(rt, &system, &mut one, "hello 1 1", "welcome 1 1");
-    let gate = BeforeSettle {
+    for (text, wanted) in story.first {
+        ask(rt, &system, &mut one, text, wanted);
+    }
+    let gate = Before {
         rt,
         system: &system,
         other: &other,
-        text: before.0,
-        wanted: before.1,
+        event: story.event,
+        rows: story.between,
     };
-    late(rt, &gate, &mut one, asked);
-    ask(rt, &system, &mut one, then.0, then.1);
+    late(rt, &gate, &mut one, &story.line);
+    ask(rt, &system, &mut one, story.then.0, story.then.1);
     let two = other.into_inner();
     assert_eq!(rt; two.units(), 0);
     retire(rt, &system, one);
