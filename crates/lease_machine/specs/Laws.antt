@@ -10,7 +10,7 @@ use Rattle.lease_book.specs.BookState.{leased_segments, units_of_arena}
 use Rattle.lease_proto.specs.declared.faults.ErrorWord.TheVariants.{Memory}
 use Rattle.lease_proto.specs.Faults.{error_text}
 use Rattle.lease_proto.specs.Frames.{Frame}
-use Rattle.lease_server.specs.Serving.{ServesLines}
+use Rattle.lease_proto.specs.Serving.{ServesLines}
 use Rattle.lease_machine.specs.Picture.{Picture, IsPicture, SameSetup, held_outside}
 use Rattle.lease_machine.specs.Operators.{sums_in, audit_texts_of}
 use Rattle.lease_machine.specs.Machine.{LeaseStep}

@@ -35,7 +35,7 @@ use Rattle.lease_book.specs.BookState.{account_in, leased_segments}
 use Rattle.lease_book.specs.Answers.{IsNew}
 use Rattle.lease_book.specs.declared.books.TheConstants.{MOST_LEASES}
 use Rattle.lease_history.specs.Told.{reply_to}
-use Rattle.lease_server.specs.Serving.{ServesLines}
+use Rattle.lease_proto.specs.Serving.{ServesLines}
 use Rattle.lease_machine.specs.Picture.{Picture, IsPicture, Finds, SameSetup, arena_named}
 use Rattle.lease_machine.specs.Serving.{CanServe}
 use Rattle.lease_machine.specs.Operators.{OperatorStep}

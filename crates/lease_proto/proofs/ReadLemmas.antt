@@ -107,7 +107,10 @@ error_word_says word r e = elim (named error_word word (errors.Line faults.TooLo
             | inl is ↦ is
             | inr e6 ↦ elim (named error_word word errors.Size _ r e6) [
               | inl is ↦ is
-              | inr none ↦ absurd (cc)
+              | inr e7 ↦ elim (named error_word word errors.Busy _ r e7) [
+                | inl is ↦ is
+                | inr none ↦ absurd (cc)
+              ]
             ]
           ]
         ]

@@ -55,6 +55,7 @@ error_again (errors.Line faults.Number) = refl
 error_again errors.Memory = refl
 error_again errors.NoArena = refl
 error_again errors.Size = refl
+error_again errors.Busy = refl
 
 error_is_word : (error : ErrorWord) → is_word (error_word error) ≡ true
 error_is_word (errors.Line faults.TooLong) = refl
@@ -64,6 +65,7 @@ error_is_word (errors.Line faults.Number) = refl
 error_is_word errors.Memory = refl
 error_is_word errors.NoArena = refl
 error_is_word errors.Size = refl
+error_is_word errors.Busy = refl
 
 error_short : (error : ErrorWord) → length (error_word error) ≤ 7
 error_short (errors.Line faults.TooLong) = lit≤ tt
@@ -73,6 +75,7 @@ error_short (errors.Line faults.Number) = lit≤ tt
 error_short errors.Memory = lit≤ tt
 error_short errors.NoArena = lit≤ tt
 error_short errors.Size = lit≤ tt
+error_short errors.Busy = lit≤ tt
 
 words_again : (reply : Reply) → IsReply reply → reply_in (first_reply_word reply ∷ reply_words reply) ≡ Ok reply
 unfolding reply_in id_at welcome_in granted_in released_in refused_in old_in out_of_turn_in again_in error_in

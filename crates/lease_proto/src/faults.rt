@@ -63,6 +63,8 @@ pub enum ErrorWord {
     NoArena,
     /// An operator's line has a size that the arena can't be given.
     Size,
+    /// A server has as many connections as it serves at a time.
+    Busy,
 }
 
 impl ErrorWord {
@@ -86,6 +88,8 @@ impl ErrorWord {
             Ok(ErrorWord::NoArena)
         } else if word == b"size".as_slice() {
             Ok(ErrorWord::Size)
+        } else if word == b"busy".as_slice() {
+            Ok(ErrorWord::Busy)
         } else {
             Err(LineFault::BadLine)
         }
@@ -101,6 +105,7 @@ impl ErrorWord {
             ErrorWord::Memory => b"memory",
             ErrorWord::NoArena => b"noarena",
             ErrorWord::Size => b"size",
+            ErrorWord::Busy => b"busy",
         }
     }
 
@@ -113,6 +118,7 @@ impl ErrorWord {
             ErrorWord::Memory => b"error memory\n",
             ErrorWord::NoArena => b"error noarena\n",
             ErrorWord::Size => b"error size\n",
+            ErrorWord::Busy => b"error busy\n",
         }
     }
 }

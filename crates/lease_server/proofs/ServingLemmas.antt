@@ -8,7 +8,8 @@ use Rattle.lease_proto.specs.Frames.{Frame, frames_in, rest_in, frames_of, frame
 use Rattle.lease_proto.specs.declared.faults.LineFault.{LineFault}
 use Rattle.lease_proto.specs.Faults.{error_line}
 use Rattle.lease_proto.proofs.LawProofs.{frames_in-take, rest_in-take, frames_of_rest-take, frames_in-append, rest_in-append}
-use Rattle.lease_server.specs.Serving.{SameFront, WritesFront, ServesLines, Answers, AnswersBefore, Writes, WritesBefore, Stops}
+use Rattle.lease_proto.specs.Serving.{ServesLines}
+use Rattle.lease_server.specs.Serving.{SameFront, WritesFront, Answers, AnswersBefore, Writes, WritesBefore, Stops}
 
 module _ {S : Type 0} (may_answer : S → List ℕ → List ℕ → S → Type 0) where
   -- one run after another

@@ -1,9 +1,9 @@
 -- What a server writes for the frames that it reads.
-use Rattle.std.specs.Prelude.{◌≡◌, ◌≤◌, ◌+◌, ◌-◌, ◌^◌, ℕ, List, [], ◌∷◌, ◌++◌, length, min}
-use Rattle.std.specs.Prelude.{take, true, false, Option, Ok, Err, IfSome}
+use Rattle.std.specs.Prelude.{◌≡◌, ◌≤◌, ◌+◌, ◌-◌, ◌^◌, ℕ, List, ◌∷◌, ◌++◌, length, min}
+use Rattle.std.specs.Prelude.{take, true, false, Option, IfSome}
 use Rattle.std.specs.Io.KnownBytes.{Appends, Consumes}
 use Rattle.lease_proto.specs.Frames.{Frame}
-use Rattle.lease_proto.specs.Faults.{error_line}
+use Rattle.lease_proto.specs.Serving.{ServesLines}
 use Rattle.lease_proto.specs.declared.limits.TheConstants.{LINE_ROOM}
 use Rattle.lease_server.specs.Intakes.{AtHand, IntakeState, frames_on, frames_to_end}
 use Rattle.lease_server.specs.Watching.{Streams}
@@ -21,18 +21,9 @@ WritesFront bytes before after = (written : List ℕ) × (unwritten : List ℕ)
     × (bytes ≡ written ++ unwritten) × Appends before after written
 
 module _ {S : Type 0} (may_answer : S → List ℕ → List ℕ → S → Type 0) where
-  -- From old, this text may be written for the frames, and new is then the state: for a line an
-  -- answer that may be given to it, for a refused line its error line.
-  abbrev pub ServesLines : S → List Frame → List ℕ → S → Type 0
-  ServesLines old [] text new = (text ≡ []) × (new ≡ old)
-  ServesLines old (Ok line ∷ frames) text new = (reply : List ℕ) × (rest : List ℕ) × (mid : S)
-      × may_answer old line reply mid × (text ≡ reply ++ rest) × ServesLines mid frames rest new
-  ServesLines old (Err fault ∷ frames) text new = (rest : List ℕ)
-      × (text ≡ error_line fault ++ rest) × ServesLines old frames rest new
-
   -- the buffer holds in addition what is written for these frames
   abbrev pub Answers : S → List Frame → List ℕ → List ℕ → S → Type 0
-  Answers old frames before after new = (text : List ℕ) × ServesLines old frames text new
+  Answers old frames before after new = (text : List ℕ) × ServesLines may_answer old frames text new
       × (after ≡ before ++ text)
 
   -- the same for the frames before one of these
@@ -43,7 +34,7 @@ module _ {S : Type 0} (may_answer : S → List ℕ → List ℕ → S → Type 0
 
   -- the writer holds in addition what is written for these frames
   abbrev pub Writes : S → List Frame → Option (List ℕ) → Option (List ℕ) → S → Type 0
-  Writes old frames before after new = (text : List ℕ) × ServesLines old frames text new
+  Writes old frames before after new = (text : List ℕ) × ServesLines may_answer old frames text new
       × Appends before after text
 
   -- the same for the frames before one of these
@@ -55,7 +46,7 @@ module _ {S : Type 0} (may_answer : S → List ℕ → List ℕ → S → Type 0
   -- the writer holds in addition a front of what may be written for these frames
   abbrev pub WritesPart : S → List Frame → Option (List ℕ) → Option (List ℕ) → Type 0
   WritesPart old frames before after = (new : S) × (written : List ℕ) × (unwritten : List ℕ)
-      × ServesLines old frames (written ++ unwritten) new × Appends before after written
+      × ServesLines may_answer old frames (written ++ unwritten) new × Appends before after written
 
   -- the same for the first of these frames, up to where the serving stopped
   abbrev pub Stops : S → List Frame → Option (List ℕ) → Option (List ℕ) → Type 0

@@ -28,6 +28,7 @@ error_short (word.Line fault.Number) = omega arith
 error_short word.Memory = omega arith
 error_short word.NoArena = omega arith
 error_short word.Size = omega arith
+error_short word.Busy = omega arith
 
 pub keeps_none : (d : Picture) → IsPicture d → StaysPicture d d
 keeps_none d is = record { setup = record { tree = refl; owned = refl }; picture = is }

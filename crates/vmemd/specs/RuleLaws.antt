@@ -8,7 +8,7 @@ use Rattle.lease_proto.specs.declared.replies.Granted.{Granted}
 use Rattle.lease_proto.specs.declared.replies.Reply.{Reply}
 use Rattle.lease_proto.specs.Frames.{Frame, frames_of, with_line_feed}
 use Rattle.lease_proto.specs.Operators.{served_of}
-use Rattle.lease_server.specs.Serving.{ServesLines}
+use Rattle.lease_proto.specs.Serving.{ServesLines}
 use Rattle.lease_machine.specs.Picture.{Picture}
 use Rattle.lease_machine.specs.AnswerLaws.{IsReadAs, RepliesTo}
 use Rattle.lease_machine.specs.Rules.{KeepsRules}
