@@ -1,10 +1,10 @@
 -- Lemmas on a serving that ends, or ends early.
-use Rattle.std.proofs.Common.{◌≡◌, ◌⊎◌, ◌≤◌, ◌+◌, ◌-◌, ◌^◌, ℕ, min, length, take, Bool, true, false, List, [], ◌∷◌, ◌++◌, refl, sym, ◌∙◌, ap, subst, arith, inl, inr, Ok, Err, Option, Result, OnOk, OnErr, IfErr, IfSome, IsErrOf}
+use Rattle.std.proofs.Common.{◌≡◌, ◌⊎◌, ◌≤◌, ◌+◌, ◌-◌, ◌^◌, ℕ, min, length, take, Bool, true, false, List, [], ◌++◌, refl, sym, ◌∙◌, ap, subst, arith, inl, inr, Ok, Err, Option, Result, OnOk, OnErr, IfErr, IsErrOf}
 use Rattle.std.proofs.lemmas.List.{take-take}
-use Rattle.std.specs.Io.KnownBytes.{Consumes, Keeps, IsAtEnd}
+use Rattle.std.specs.Io.KnownBytes.{Consumes, IsAtEnd}
 use Rattle.std.proofs.KnownBytes.{Consumes-kept}
 use Rattle.lease_proto.specs.declared.limits.TheConstants.{LINE_ROOM}
-use Rattle.lease_proto.specs.Frames.{Frame, frames_in, rest_in, frames_of_rest}
+use Rattle.lease_proto.specs.Frames.{Frame, rest_in, frames_of_rest}
 use Rattle.lease_server.specs.declared.intakes.TheConstants.{MOST_READS}
 use Rattle.lease_server.specs.Watching.{Streams}
 use Rattle.lease_server.specs.Intakes.{AtHand, IntakeState, hand_in, frames_at, begun_at, frames_on, frames_to_end, StopsReading}

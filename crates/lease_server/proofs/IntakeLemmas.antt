@@ -1,11 +1,11 @@
 -- Lemmas on what is at hand of a stream.
-use Rattle.std.proofs.Common.{◌≡◌, ◌≢◌, ◌==◌, ◌⊎◌, ℕ, ◌≤◌, ◌<◌, ◌+◌, ◌-◌, min, zero, suc, Bool, true, false, List, [], ◌∷◌, ◌++◌, length, take, drop, get_or, refl, sym, ◌∙◌, ap, subst, append_assoc, arith, inl, inr, if◌then◌else◌}
+use Rattle.std.proofs.Common.{◌≡◌, ◌≢◌, ◌==◌, ◌⊎◌, ℕ, ◌≤◌, ◌<◌, ◌+◌, ◌-◌, min, zero, suc, true, false, List, [], ◌∷◌, ◌++◌, length, take, drop, get_or, refl, sym, ◌∙◌, ap, append_assoc, arith, inl, inr, if◌then◌else◌}
 use Rattle.std.proofs.lemmas.List.{append-nil, take-take, take_all, take_min, take-append-drop, drop-take, length-take}
 use Rattle.std.proofs.Math.Seq.{drop-nil, drop-length}
 use Rattle.std.proofs.lemmas.Bool.{ne_eqb, cases_Bool, cases_eq}
 use Rattle.lease_proto.specs.declared.limits.TheConstants.{LINE_ROOM}
 use Rattle.lease_proto.specs.Frames.{Frame, LineReaderState, frame_of, frames_in, rest_in, frames_of_rest, with_line_feed, IsOneLine}
-use Rattle.lease_proto.proofs.LawProofs.{frame_of-take, frames_in-take, rest_in-take, frames_of_rest-take, frames_in-append, rest_in-append, one_line, one_line_before, up_to}
+use Rattle.lease_proto.proofs.LawProofs.{frame_of-take, frames_in-append, rest_in-append, one_line, one_line_before, up_to}
 use Rattle.lease_server.specs.Serving.{SameFront}
 use Rattle.lease_server.specs.Intakes.{AtHand, hand_in, frames_at, begun_at, frames_on, frames_to_end, hand_of, HandTells, HandIsWhole, HandIsBegun, HandGoesOn}
 use Rattle.lease_server.proofs.ServingLemmas.{frames_in-same, rest_in-same, frames_of_rest-same}

@@ -1,11 +1,10 @@
-use Rattle.std.proofs.Common.{◌≡◌, ◌<◌, [], ◌∷◌, ◌++◌, sym, refl, ap, subst, ◌∙◌, append_assoc}
+use Rattle.std.proofs.Common.{◌<◌, [], ◌∷◌, ◌++◌, sym, refl, ap, subst, ◌∙◌, append_assoc}
 use Rattle.std.proofs.lemmas.List.{append-nil}
-use Rattle.std.proofs.lemmas.Result.{err_from_is_err_and}
 use Rattle.lease_proto.specs.Frames.{frame_of}
 use Rattle.lease_server.specs.Serving.{Answers}
-use Rattle.lease_server.specs.Intakes.{hand_in, frames_at, begun_at}
+use Rattle.lease_server.specs.Intakes.{hand_in, frames_at}
 use Rattle.lease_server.proofs.ServingLemmas.{Answers-append}
-use Rattle.lease_server.proofs.IntakeLemmas.{hand_whole, hand_none, passes_less, size_at}
+use Rattle.lease_server.proofs.IntakeLemmas.{hand_whole, passes_less, size_at}
 use Rattle.lease_server.proofs.serving.answer_held.Goals as goal
 
 pub loop-line-init : goal.loop-line-init

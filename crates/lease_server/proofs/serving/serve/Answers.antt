@@ -1,13 +1,13 @@
-use Rattle.std.proofs.Common.{◌≡◌, ◌≤◌, ◌+◌, ◌-◌, ◌^◌, min, ℕ, [], ◌++◌, length, true, false, sym, refl, ap, subst, ◌∙◌, arith, rules, take}
+use Rattle.std.proofs.Common.{◌≡◌, ◌+◌, ◌-◌, ◌^◌, min, [], ◌++◌, length, true, false, sym, refl, ap, subst, ◌∙◌, arith, rules}
 use Rattle.std.proofs.lemmas.List.{append-nil, length-append}
 use Rattle.std.proofs.lemmas.Result.{err_from_is_err_and}
 use Rattle.std.proofs.KnownBytes.{Consumes-nil, Consumes-trans, Appends-nil}
 use Rattle.lease_proto.specs.Frames.{rest_in}
-use Rattle.lease_server.specs.Intakes.{frames_at, frames_on, begun_at, hand_in}
+use Rattle.lease_server.specs.Intakes.{frames_at, frames_on, begun_at}
 use Rattle.lease_server.specs.Serving.{SameFront, Writes}
 use Rattle.lease_server.specs.Watching.{streams_of}
 use Rattle.lease_server.proofs.ServingLemmas.{Writes-append}
-use Rattle.lease_server.proofs.IntakeLemmas.{hand_more, hand_none}
+use Rattle.lease_server.proofs.IntakeLemmas.{hand_more}
 use Rattle.lease_server.proofs.FaultLemmas.{held_fails, read_fails, rest_served, rest_fails, last_front}
 use Rattle.lease_server.proofs.serving.serve.Goals as goal
 

@@ -1,5 +1,5 @@
-use Rattle.std.proofs.Common.{◌≡◌, ◌-◌, ◌++◌, sym, ◌∙◌, ap, take, drop, length, arith, [], false, min}
-use Rattle.std.proofs.lemmas.List.{take_all, append-nil, take_min, length-take}
+use Rattle.std.proofs.Common.{◌≡◌, ◌-◌, ◌++◌, sym, ◌∙◌, ap, take, drop, length, arith, [], min}
+use Rattle.std.proofs.lemmas.List.{take_all, append-nil, take_min}
 use Rattle.lease_proto.specs.declared.limits.TheConstants.{LINE_ROOM}
 use Rattle.lease_server.proofs.IntakeLemmas.{hand_open, not_begun}
 use Rattle.lease_server.proofs.intakes.Intake.begun.Goals as goal

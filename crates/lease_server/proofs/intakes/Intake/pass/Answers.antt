@@ -1,4 +1,4 @@
-use Rattle.std.proofs.Common.{◌≡◌, ◌<◌, ◌-◌, ◌+◌, sym, ◌∙◌, ap, take, drop, length, arith, true, false, [], refl}
+use Rattle.std.proofs.Common.{◌≡◌, ◌<◌, ◌-◌, ◌+◌, sym, ◌∙◌, ap, take, drop, length, arith, true, false, []}
 use Rattle.std.proofs.lemmas.List.{length-take}
 use Rattle.lease_proto.proofs.LawProofs.{is_there, none_below}
 use Rattle.lease_server.specs.Intakes.{hand_in, hand_of}
