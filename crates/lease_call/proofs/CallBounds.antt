@@ -23,21 +23,21 @@ use Rattle.quantum_cache.specs.Laws.{free_most}
 use Rattle.quantum_cache.proofs.LawProofs.{alloc_is_short, free_is_short}
 use Rattle.lease_book.specs.Receipts.{ReceiptState}
 use Rattle.lease_book.specs.declared.answers.Answer.{Answer}
-use Rattle.lease_call.specs.CallPlans.{CallPlan, over_parts}
+use Rattle.lease_call.specs.CallPlans.{CallPlan, Done, over_parts}
 use Rattle.lease_call.specs.Greeting.{HelloEnd, on_sweep, sweep_plan, on_hello}
 use Rattle.lease_call.specs.Hands.{on_place}
 use Rattle.lease_call.specs.Laws.{CallWithin, depth_at, lease_most, LeaseIsShort, ReleaseIsShort, HelloIsShort}
 use Rattle.lease_proto.specs.Requests.{demand_of}
 use Rattle.lease_call.specs.Leasing.{is_plain, take_steps, take_plan, on_settle, on_take, lease_at, on_look}
 use Rattle.lease_call.specs.Placing.{place_plan}
-use Rattle.lease_call.specs.Releasing.{CallEnd, placed, on_refuse, on_release, release_at}
+use Rattle.lease_call.specs.Releasing.{CallEnd, on_refuse, on_release, release_at}
 use Rattle.lease_call.specs.declared.call_faults.NotGreeted.{NotGreeted}
 use Rattle.lease_call.specs.declared.call_faults.NotGreeted.TheVariants as greeting
 use Rattle.lease_call.specs.declared.call_faults.NotReleased.{NotReleased}
 use Rattle.lease_call.specs.declared.call_faults.NotReleased.TheVariants as releasing
 use Rattle.lease_call.specs.declared.call_faults.NotSettled.{NotSettled}
 use Rattle.lease_call.specs.declared.call_faults.NotSettled.TheVariants as settling
-use Rattle.lease_call.specs.declared.outcomes.Outcome.TheVariants.{Answered}
+use Rattle.lease_call.specs.declared.outcomes.Outcome.TheVariants.{Settled, Answered}
 
 -- after more locks, so many more
 within_more : {A : Type 0} (most : A → ℕ) (k : ℕ) (p : Plan A) (n m : ℕ) → m ≡ n + k → Within most p n → Within (λ a. most a + k) p m
@@ -79,8 +79,12 @@ module _ (arenas : List TreeArena) where
       over_within (λ (r : ReturnEnd). LONGEST_CHAIN + n) most (place_plan arenas t) next n (within_more (λ (r : ReturnEnd). LONGEST_CHAIN) n (place_plan arenas t) 0 n (omega arith) (place_short t)) (λ r m low. f r m (omega (arith, low)))
 
   module _ (D : Type 0) (id : RequestId) where
+    released_within : (v : ReceiptState) (e : ReturnEnd) (m : ℕ) → m ≤ LONGEST_CHAIN → CallWithin {D = D} (λ (r : CallEnd D). LONGEST_CHAIN) (on_place (Done (Ok (Settled v))) e) m
+    released_within v (Ok u) m low = low
+    released_within v (Err f) m low = low
+
     release_within : (x : Result (ReceiptState × Tag) (NotReleased D)) → CallWithin {D = D} (λ (r : CallEnd D). LONGEST_CHAIN) (on_release arenas x) 0
-    release_within (Ok r) = placed_within (λ (r : CallEnd D). LONGEST_CHAIN) r.1 _ 0 (λ e m low. omega (arith, low))
+    release_within (Ok r) = placed_within (λ (r : CallEnd D). LONGEST_CHAIN) r.1 _ 0 (released_within r.0)
     release_within (Err (releasing.Answered a)) = omega arith
     release_within (Err releasing.Stopped) = omega arith
 
@@ -89,10 +93,9 @@ module _ (arenas : List TreeArena) where
     release_at_within base (Some arena) = release_within
 
     module _ (depth : ℕ) where
-      answered_within : (o : Answer D) (e : ReturnEnd) (m : ℕ) → m ≤ 8 + 2 * depth + LONGEST_CHAIN → m ≤ lease_most depth (placed (Answered o) e)
+      answered_within : (o : Answer D) (e : ReturnEnd) (m : ℕ) → m ≤ 8 + 2 * depth + LONGEST_CHAIN → CallWithin {D = D} (lease_most depth) (on_place (Done (Ok (Answered o))) e) m
       answered_within o (Ok u) m low = low
-      answered_within o (Err (returning.Stuck t)) m low = low
-      answered_within o (Err (returning.Stopped t)) m low = low
+      answered_within o (Err f) m low = low
 
       refused_within : (n : ℕ) → n ≤ 8 + 2 * depth → (x : Result (Answer D) Stopped) → n ≤ lease_most depth (on_refuse x)
       refused_within n low (Ok a) = omega (arith, low)
@@ -136,8 +139,7 @@ module _ (arenas : List TreeArena) where
           where
             back : (e : ReturnEnd) (m : ℕ) → m ≤ n + LONGEST_CHAIN → CallWithin {D = D} (λ (e : HelloEnd). all) (on_place (sweep_plan arenas client turns) e) m
             back (Ok u) m most = again m (omega (arith, low, most))
-            back (Err (returning.Stuck t)) m most = omega (arith, low, most)
-            back (Err (returning.Stopped t)) m most = omega (arith, low, most)
+            back (Err f) m most = omega (arith, low, most)
         by again (Err e) = omega (arith, low)
 
   hello_within : (D : Type 0) (client turns : ℕ) (x : Result (Unit {0}) NotGreeted) → CallWithin {D = D} (λ (r : HelloEnd). turns * LONGEST_CHAIN) (on_hello arenas client turns x) 0

@@ -22,11 +22,11 @@ module _ {B P D : Type 0} (part : P → (e : Event) → AnswerTo e → P → Typ
   pub call_done : {A : Type 0} (b : B) (p : P) (a : A) → CallRan part tree count rounds book (Done a) b p b p a
   call_done b p a = record { path = (refl, refl, refl) }
 
-  pub call_book : {A : Type 0} (k : BookCall) (f : AnswerOf D k → CallPlan D A) (b : B) (p : P) (n : B) (m : P) (c : B) (q : P) (x : AnswerOf D k) (a : A) → BookStep book tree b p k x n m → CallRan part tree count rounds book (f x) n m c q a → CallRan part tree count rounds book (Call k f) b p c q a
+  pub call_book : {A : Type 0} (k : BookCall) (f : AnswerOf D k → CallPlan D A) (b : B) (p : P) (n : B) (m : P) (c : B) (q : P) (x : AnswerOf D k) (a : A) → BookStep book tree count rounds b p k x n m → CallRan part tree count rounds book (f x) n m c q a → CallRan part tree count rounds book (Call k f) b p c q a
   call_book k f b p n m c q x a d r = record { path = (n, m, x, d, r.path) }
 
   pub call_over : {X A : Type 0} (p : Plan X) (next : X → CallPlan D A) (b : B) (s m : P) (c : B) (t : P) (x : X) (a : A) → Ran part tree count rounds p s m x → CallRan part tree count rounds book (next x) b m c t a → CallRan part tree count rounds book (over_parts p next) b s c t a
-  call_over p next b s m c t x a r q = record { path = path_over (Step part tree count rounds) (BookStep book tree) p next b s m c t x a r.path q.path }
+  call_over p next b s m c t x a r q = record { path = path_over (Step part tree count rounds) (BookStep book tree count rounds) p next b s m c t x a r.path q.path }
 
 -- a list of steps goes on as the code does
 pub ruleset goes_on = (call_over, call_book, call_done)

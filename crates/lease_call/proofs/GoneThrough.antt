@@ -38,9 +38,10 @@ ends_over sound known post (plans.Done x) next w = w x
 ends_over sound known post (plans.Ask e f) next w = λ x _. ends_over sound known post (f x) next w
 
 -- where each answer of the parts is sound
-pub ends_gives : {D X A : Type 0} (nodes : List Node) (given : X → Type 0) (known : (k : BookCall) → AnswerOf D k → Type 0) (post : A → Type 0) (p : Plan X) (next : X → CallPlan D A) → Gives nodes given p → ((x : X) → given x → EndsWell (Sound nodes) known post (next x)) → EndsWell (Sound nodes) known post (over_parts p next)
-ends_gives nodes given known post (plans.Done x) next g w = w x g
-ends_gives nodes given known post (plans.Ask e f) next g w = λ x s. ends_gives nodes given known post (f x) next (g x s) w
+pub ends_gives : {D X A : Type 0} (nodes : List Node) (sound : (e : Event) → AnswerTo e → Type 0) → ((e : Event) (x : AnswerTo e) → sound e x → Sound nodes e x) → (given : X → Type 0) (known : (k : BookCall) → AnswerOf D k → Type 0) (post : A → Type 0) (p : Plan X) (next : X → CallPlan D A)
+    → Gives nodes given p → ((x : X) → given x → EndsWell sound known post (next x)) → EndsWell sound known post (over_parts p next)
+ends_gives nodes sound is given known post (plans.Done x) next g w = w x g
+ends_gives nodes sound is given known post (plans.Ask e f) next g w = λ x s. ends_gives nodes sound is given known post (f x) next (g x (is e x s)) w
 
 -- a segment is known by itself
 pub end_same : {A : Type 0} (r : Result A (CallFault Tag)) → tag_end (λ (t : Tag). t) r ≡ r

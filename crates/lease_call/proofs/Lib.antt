@@ -5,3 +5,4 @@ mod Sweeping
 mod TreeChains
 mod Takings
 mod CallBounds
+mod Unplaced

@@ -19,7 +19,7 @@ module _ {B P D : Type 0} (part : P → (e : Event) → AnswerTo e → P → Typ
   swept_up (suc k) b p none = absurd (omega (arith, none))
 
   -- one, and what comes after its answer
-  pub swept_on : (left : ℕ) (b : B) (p : P) (x : Result (Option (RequestId × Tag)) Stopped) (n : B) (m : P) (c : B) (q : P) (a : HelloEnd) → 0 < left → BookStep book tree b p (Sweep client) x n m
+  pub swept_on : (left : ℕ) (b : B) (p : P) (x : Result (Option (RequestId × Tag)) Stopped) (n : B) (m : P) (c : B) (q : P) (a : HelloEnd) → 0 < left → BookStep book tree count rounds b p (Sweep client) x n m
       → CallRan part tree count rounds book (on_sweep arenas (sweep_plan arenas client (left - 1)) x) n m c q a → CallRan part tree count rounds book (sweep_plan arenas client left) b p c q a
   swept_on zero b p x n m c q a some d r = absurd (omega (arith, some))
   swept_on (suc k) b p x n m c q a some d r =

@@ -25,7 +25,8 @@ use Rattle.lease_proto.specs.Requests.{demand_of}
 use Rattle.lease_proto.specs.declared.lines.LeaseLine.{LeaseLine}
 use Rattle.lease_call.specs.Calls.{Look, Settle}
 use Rattle.lease_call.specs.CallPlans.{CallPlan, Done, Call, over_parts}
-use Rattle.lease_call.specs.Releasing.{CallEnd, refuse_plan, place_and_tell}
+use Rattle.lease_call.specs.Hands.{place_first}
+use Rattle.lease_call.specs.Releasing.{CallEnd, refuse_plan}
 use Rattle.lease_call.specs.declared.call_faults.CallFault.TheVariants as calling
 use Rattle.lease_call.specs.declared.call_faults.NotSettled.{NotSettled}
 use Rattle.lease_call.specs.declared.call_faults.NotSettled.TheVariants as settling
@@ -55,7 +56,8 @@ take_plan arenas arena q = take_steps (is_plain q) arenas arena q
 abbrev pub on_settle : {D : Type 0} → List TreeArena → Result ReceiptState (NotSettled Tag D)
     → CallPlan D (CallEnd D)
 on_settle arenas (Ok r) = Done (Ok (Settled r))
-on_settle arenas (Err (settling.NotLeased n)) = place_and_tell arenas n.segment (Answered n.answer)
+on_settle arenas (Err (settling.NotLeased n)) =
+    place_first arenas n.segment (Done (Ok (Answered n.answer)))
 on_settle arenas (Err (settling.Stopped t)) = Done (Err (calling.Stopped (Some t)))
 
 abbrev pub grant_plan : {D : Type 0} → List TreeArena → RequestId → ℕ → Request → Tag

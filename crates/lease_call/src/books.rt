@@ -15,7 +15,8 @@ use lease_terms::{ClientId, Ordinal, Quantity, Refusal, RequestId};
 
 /// The book of leases as one CPU reaches it, beside its parts. Each call is one event of the book;
 /// where the CPU is to stop it answers Stopped, and nothing is done. What lets a CPU go on, it has
-/// with its parts, which each call passes on. `D` is the type of the book's deeds.
+/// with its parts: each call is passed these, and nothing else of them changes. `D` is the type of
+/// the book's deeds.
 pub trait Books<S: Held, D, P: Parts<S>> {
     // what is known of a call: the book and the parts before it, the call, its answer, and both
     // after it
@@ -23,14 +24,14 @@ pub trait Books<S: Held, D, P: Parts<S>> {
 
     /// What the book has on a request's number. None: it is new.
     fn look(&mut self, parts: &mut P, id: RequestId) -> Result<Option<Answer<D>>, Stopped>
-        ensures { BookStep step P.tree self.old parts.old (Look id) result
-            self.new parts.new };
+        ensures { BookStep step P.tree P.count P.rounds self.old parts.old
+            (Look id) result self.new parts.new };
 
     /// Settles a new request by a refusal that the book didn't find.
     fn refuse(&mut self, parts: &mut P, id: RequestId, why: Refusal) -> Result<Answer<D>, Stopped>
         requires { IsSystemRefusal why }
-        ensures { BookStep step P.tree self.old parts.old (Refuse id why) result
-            self.new parts.new };
+        ensures { BookStep step P.tree P.count P.rounds self.old parts.old
+            (Refuse id why) result self.new parts.new };
 
     /// Settles a new request by a grant of the segment.
     fn settle(
@@ -43,7 +44,7 @@ pub trait Books<S: Held, D, P: Parts<S>> {
     ) -> Result<Receipt<D>, NotSettled<S, D>>
         requires fits { Fits quantum request.now (S.tag segment).holding.range.base
             (S.tag segment).holding.range.len }
-        ensures { BookStep step P.tree self.old parts.old
+        ensures { BookStep step P.tree P.count P.rounds self.old parts.old
             (Settle id (S.tag segment) (record { quantum = quantum; request = request.now }))
             (tag_settled S.tag result) self.new parts.new };
 
@@ -55,8 +56,8 @@ pub trait Books<S: Held, D, P: Parts<S>> {
         arena: u32,
         base: Quantity,
     ) -> Result<(Receipt<D>, S), NotReleased<D>>
-        ensures { BookStep step P.tree self.old parts.old (Release id arena base)
-            (tag_released S.tag result) self.new parts.new };
+        ensures { BookStep step P.tree P.count P.rounds self.old parts.old
+            (Release id arena base) (tag_released S.tag result) self.new parts.new };
 
     /// Takes a hello.
     fn hello(
@@ -65,12 +66,12 @@ pub trait Books<S: Held, D, P: Parts<S>> {
         client: ClientId,
         incarnation: Ordinal,
     ) -> Result<(), NotGreeted>
-        ensures { BookStep step P.tree self.old parts.old (Hello client incarnation) result
-            self.new parts.new };
+        ensures { BookStep step P.tree P.count P.rounds self.old parts.old
+            (Hello client incarnation) result self.new parts.new };
 
     /// Ends a lease of an older incarnation of the client, and gives its segment with the request
     /// that was granted it. None: no such lease is left.
     fn sweep(&mut self, parts: &mut P, client: ClientId) -> Result<Option<(RequestId, S)>, Stopped>
-        ensures { BookStep step P.tree self.old parts.old (Sweep client)
-            (tag_swept S.tag result) self.new parts.new };
+        ensures { BookStep step P.tree P.count P.rounds self.old parts.old
+            (Sweep client) (tag_swept S.tag result) self.new parts.new };
 }

@@ -10,7 +10,7 @@ use crate::books::Books;
 use crate::call_faults::{CallFault, NotGreeted};
 use crate::outcomes::Greeting;
 use crate::placing::place;
-use arena_tree::{Parts, ReturnFault, Tree};
+use arena_tree::{Parts, Tree};
 use deed_core::Held;
 use lease_proto::HelloLine;
 use lease_terms::ClientId;
@@ -35,11 +35,10 @@ pub fn hello<S: Held, D, P: Parts<S>, B: Books<S, D, P>>(
 {
     match hand {
         None => greet(parts, book, tree, line, turns),
-        Some(segment) => match place(parts, tree, segment) {
-            Ok(()) => greet(parts, book, tree, line, turns),
-            Err(ReturnFault::Stuck(same)) => Err(CallFault::Stuck(same)),
-            Err(ReturnFault::Stopped(same)) => Err(CallFault::Stopped(Some(same))),
-        },
+        Some(segment) => {
+            place(parts, tree, segment)?;
+            greet(parts, book, tree, line, turns)
+        }
     }
 }
 
@@ -84,11 +83,7 @@ fn sweep_all<S: Held, D, P: Parts<S>, B: Books<S, D, P>>(
         left -= 1;
         match book.sweep(parts, client) {
             Ok(None) => return Ok(Greeting::Welcome),
-            Ok(Some((_, segment))) => match place(parts, tree, segment) {
-                Ok(()) => {}
-                Err(ReturnFault::Stuck(same)) => return Err(CallFault::Stuck(same)),
-                Err(ReturnFault::Stopped(same)) => return Err(CallFault::Stopped(Some(same))),
-            },
+            Ok(Some((_, segment))) => place(parts, tree, segment)?,
             Err(_) => return Err(CallFault::Stopped(None)),
         }
     }

@@ -14,7 +14,7 @@ use crate::call_faults::{CallFault, NotSettled};
 use crate::outcomes::Outcome;
 use crate::placing::place;
 use crate::releasing::refuse;
-use arena_tree::{ClimbFault, PartFault, Parts, ReturnFault, Tree};
+use arena_tree::{ClimbFault, PartFault, Parts, Tree};
 use deed_core::{Held, Request};
 use lease_book::NotLeased;
 use lease_proto::LeaseLine;
@@ -73,11 +73,8 @@ fn grant<S: Held, D, P: Parts<S>, B: Books<S, D, P>>(
     match book.settle(parts, id, quantum, request, segment) {
         Ok(receipt) => Ok(Outcome::Settled(receipt)),
         Err(NotSettled::NotLeased(NotLeased { segment, answer })) => {
-            match place(parts, tree, segment) {
-                Ok(()) => Ok(Outcome::Answered(answer)),
-                Err(ReturnFault::Stuck(same)) => Err(CallFault::Stuck(same)),
-                Err(ReturnFault::Stopped(same)) => Err(CallFault::Stopped(Some(same))),
-            }
+            place(parts, tree, segment)?;
+            Ok(Outcome::Answered(answer))
         }
         Err(NotSettled::Stopped(same)) => Err(CallFault::Stopped(Some(same))),
     }
@@ -117,7 +114,7 @@ fn lease_in<S: Held, D, P: Parts<S>, B: Books<S, D, P>>(
 
 /// Answers a lease: where its number is new, a segment is taken for it and leased.
 #[tactic(auto, using(crate::proofs::CallPaths::goes_on))]
-pub fn lease<S: Held, D, P: Parts<S>, B: Books<S, D, P>>(
+pub(crate) fn lease<S: Held, D, P: Parts<S>, B: Books<S, D, P>>(
     parts: &mut P,
     book: &mut B,
     tree: &Tree,

@@ -28,8 +28,6 @@ pub use books::Books;
 pub use call_faults::{CallFault, NotGreeted, NotReleased, NotSettled};
 pub use greeting::hello;
 pub use laws::lock_laws;
-pub use leasing::lease;
 pub use outcomes::{Greeting, Outcome};
 pub use placing::place;
-pub use releasing::release;
 pub use requesting::request;

@@ -2,6 +2,7 @@
 use lease_book::{Answer, HelloFault, Receipt};
 
 /// What a request comes to.
+#[derive(Drop)]
 pub enum Outcome<D> {
     /// It was settled as it asks: by a grant, or by a release.
     Settled(Receipt<D>),
@@ -12,6 +13,7 @@ pub enum Outcome<D> {
 }
 
 /// What a hello comes to.
+#[derive(Drop)]
 pub enum Greeting {
     /// It was taken, and no lease of an older incarnation of its client is left.
     Welcome,

@@ -10,7 +10,7 @@ use crate::books::Books;
 use crate::call_faults::{CallFault, NotReleased};
 use crate::outcomes::Outcome;
 use crate::placing::place;
-use arena_tree::{Parts, ReturnFault, Tree};
+use arena_tree::{Parts, Tree};
 use deed_core::Held;
 use lease_proto::ReleaseLine;
 use lease_terms::{Quantity, Refusal, RequestId};
@@ -34,7 +34,7 @@ pub(crate) fn refuse<S: Held, D, P: Parts<S>, B: Books<S, D, P>>(
 }
 
 /// Answers a release: the lease ends in the book, and its segment goes back.
-pub fn release<S: Held, D, P: Parts<S>, B: Books<S, D, P>>(
+pub(crate) fn release<S: Held, D, P: Parts<S>, B: Books<S, D, P>>(
     parts: &mut P,
     book: &mut B,
     tree: &Tree,
@@ -69,11 +69,10 @@ fn release_in<S: Held, D, P: Parts<S>, B: Books<S, D, P>>(
     ensures tree { P.tree parts.new ≡ P.tree parts.old }
 {
     match book.release(parts, id, arena, base) {
-        Ok((receipt, segment)) => match place(parts, tree, segment) {
-            Ok(()) => Ok(Outcome::Settled(receipt)),
-            Err(ReturnFault::Stuck(same)) => Err(CallFault::Stuck(same)),
-            Err(ReturnFault::Stopped(same)) => Err(CallFault::Stopped(Some(same))),
-        },
+        Ok((receipt, segment)) => {
+            place(parts, tree, segment)?;
+            Ok(Outcome::Settled(receipt))
+        }
         Err(NotReleased::Answered(answer)) => Ok(Outcome::Answered(answer)),
         Err(NotReleased::Stopped) => Err(CallFault::Stopped(None)),
     }

@@ -12,7 +12,7 @@ use crate::leasing::lease;
 use crate::outcomes::Outcome;
 use crate::placing::place;
 use crate::releasing::release;
-use arena_tree::{Parts, ReturnFault, Tree};
+use arena_tree::{Parts, Tree};
 use deed_core::Held;
 use lease_proto::Op;
 use lease_terms::RequestId;
@@ -35,11 +35,10 @@ pub fn request<S: Held, D, P: Parts<S>, B: Books<S, D, P>>(
 {
     match hand {
         None => serve(parts, book, tree, id, op),
-        Some(segment) => match place(parts, tree, segment) {
-            Ok(()) => serve(parts, book, tree, id, op),
-            Err(ReturnFault::Stuck(same)) => Err(CallFault::Stuck(same)),
-            Err(ReturnFault::Stopped(same)) => Err(CallFault::Stopped(Some(same))),
-        },
+        Some(segment) => {
+            place(parts, tree, segment)?;
+            serve(parts, book, tree, id, op)
+        }
     }
 }
 
