@@ -18,7 +18,7 @@ use Rattle.stock_desk.specs.Parts.{local_of}
 
 module _ {B P D : Type 0} (arenas : List TreeArena) (read : B → BookState) (see : P → LocalState) (part : P → (e : Event) → AnswerTo e → P → Type 0) (tree : P → List Node) (count rounds : P → ℕ) (book : B → P → (k : BookCall) → AnswerOf D k → B → P → Type 0)
     (parts : (s t : P) (e : Event) (x : AnswerTo e) → part s e x t → LocalStep (see s) e x (see t)) (books : (b c : B) (s t : P) (k : BookCall) (x : AnswerOf D k) → book b s k x c t → BookDoes D (read b) (see s) k x (read c) (see t)) where
-  path_seen : {A : Type 0} (p : CallPlan D A) (b : B) (s : P) (c : B) (t : P) (a : A) → tree s ≡ nodes_of arenas → CallPath (Step part tree count rounds) (BookStep book tree) p b s c t a → RunsCall arenas p (read b) (see s) (read c) (see t) a
+  path_seen : {A : Type 0} (p : CallPlan D A) (b : B) (s : P) (c : B) (t : P) (a : A) → tree s ≡ nodes_of arenas → CallPath (Step part tree count rounds) (BookStep book tree count rounds) p b s c t a → RunsCall arenas p (read b) (see s) (read c) (see t) a
   path_seen (Done y) b s c t a k d = (ap read d.0, ap see d.1, d.2)
   path_seen (Part e f) b s c t a k d =
       (see d.0, d.1, record { step = parts s d.0 e d.1 d.2.does; sound = subst (λ ns. Sound ns e d.1) k d.2.sound }, path_seen (f d.1) b d.0 c t a (d.2.same_tree ∙ k) d.3)
@@ -31,7 +31,7 @@ module _ {B P D : Type 0} (arenas : List TreeArena) (read : B → BookState) (se
 -- what no step changes is as it was
 module _ {B P D G : Type 0} (part : P → (e : Event) → AnswerTo e → P → Type 0) (tree : P → List Node) (count rounds : P → ℕ) (book : B → P → (k : BookCall) → AnswerOf D k → B → P → Type 0) (see : B → P → G)
     (parts : (b : B) (s t : P) (e : Event) (x : AnswerTo e) → part s e x t → see b t ≡ see b s) (books : (b c : B) (s t : P) (k : BookCall) (x : AnswerOf D k) → book b s k x c t → see c t ≡ see b s) where
-  path_stays : {A : Type 0} (p : CallPlan D A) (b : B) (s : P) (c : B) (t : P) (a : A) → CallPath (Step part tree count rounds) (BookStep book tree) p b s c t a → see c t ≡ see b s
+  path_stays : {A : Type 0} (p : CallPlan D A) (b : B) (s : P) (c : B) (t : P) (a : A) → CallPath (Step part tree count rounds) (BookStep book tree count rounds) p b s c t a → see c t ≡ see b s
   path_stays (Done y) b s c t a d = stay d.0 d.1
     where
       stay : b ≡ c → s ≡ t → see c t ≡ see b s
