@@ -7,7 +7,9 @@ use Rattle.lease_proto.specs.Requests.{again_of, hello_again_of}
 use Rattle.lease_proto.specs.declared.lines.HelloLine.{HelloLine}
 use Rattle.lease_book.specs.declared.receipts.KeptReply.{KeptReply}
 use Rattle.lease_book.specs.declared.receipts.KeptReply.TheVariants as kept
-use Rattle.lease_book.specs.Receipts.{Kept}
+use Rattle.lease_book.specs.Receipts.{Kept, ReceiptState}
+use Rattle.lease_book.specs.BookState.{BookState, account_in}
+use Rattle.lease_book.specs.Answers.{IsRepeated, IsOld, IsStale, IsGap}
 use Rattle.lease_book.specs.History.{incarnation, outcome_of}
 use Rattle.lease_book.specs.declared.answers.Answer.{Answer}
 use Rattle.lease_book.specs.declared.answers.Answer.TheVariants as answer
@@ -41,6 +43,21 @@ reply_to_answer names id (answer.Old current) =
 reply_to_answer names id (answer.Stale last) = replies.Stale (record { id = id; last = last })
 reply_to_answer names id (answer.Gap last) = replies.Gap (record { id = id; last = last })
 reply_to_answer names id answer.Again = again_of id
+
+-- the reply to a number that is settled already
+abbrev pub IsKeptReply : (ℕ → List ℕ) → BookState → RequestId → Reply → Type 0
+IsKeptReply names book id reply = (r : ReceiptState)
+    × IsRepeated book (account_in id.client book) id r × (reply ≡ reply_to names id r.reply)
+
+-- the answer to a number that isn't new
+abbrev pub IsKnownReply : (ℕ → List ℕ) → BookState → RequestId → Reply → Type 0
+IsKnownReply names book id (replies.Old o) =
+    (o.client ≡ id.client) × IsOld (account_in id.client book) id o.current
+IsKnownReply names book id (replies.Stale o) =
+    (o.id ≡ id) × IsStale (account_in id.client book) id o.last
+IsKnownReply names book id (replies.Gap o) =
+    (o.id ≡ id) × IsGap (account_in id.client book) id o.last
+IsKnownReply names book id reply = IsKeptReply names book id reply
 
 -- the reply to a hello that the book doesn't take
 abbrev pub hello_refusal : HelloLine → HelloFault → Reply

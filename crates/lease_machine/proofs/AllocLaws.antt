@@ -21,8 +21,8 @@ use Rattle.lease_machine.proofs.FreeLaws.{cpus_same, parts_are}
 use Rattle.lease_machine.proofs.HeldLaws.{accounted_here, hands_of, local, others, reach, there_is}
 use Rattle.lease_machine.proofs.XallocLaws.{held_same, picture_same}
 use Rattle.lease_machine.specs.CallLaws.{AllocClimbs, IsClimbedFor}
-use Rattle.lease_machine.specs.Held.{IsHeld, with_parts}
-use Rattle.lease_machine.specs.Picture.{NumberedCpu, Picture, is_cpu}
+use Rattle.lease_machine.specs.Held.{with_parts}
+use Rattle.lease_machine.specs.Picture.{NumberedCpu, Picture, is_cpu, IsHeld}
 use Rattle.lease_machine.specs.Serving.{IsCachedIn}
 use Rattle.local_calls.proofs.LawProofs.{alloc_never_stuck, tree_chain}
 use Rattle.local_calls.specs.Laws.{AllocsWell}

@@ -20,14 +20,7 @@ use Rattle.lease_book.proofs.LawProofs.{account_is}
 use Rattle.stock_audit.specs.Outside.{outside}
 use Rattle.stock_audit.specs.Accounted.{IsAccountedFor}
 use Rattle.stock_audit.proofs.LawProofs.{leases_keep, releases_keep}
-use Rattle.lease_machine.specs.Picture.{Picture, IsPicture, IsBookOf, IsEnteredIn, caches_of}
-use Rattle.lease_machine.specs.Held.{IsHeld}
-
-pub held_of : (d : Picture) → IsPicture d → IsHeld [] d
-held_of d is = record { tree = is.tree; plans = is.plans; units = is.units; cpus = is.cpus }
-
-pub picture_of : (d : Picture) → IsHeld [] d → IsBookOf d.tree d.book → IsPicture d
-picture_of d is book = record { tree = is.tree; plans = is.plans; units = is.units; cpus = is.cpus; book = book }
+use Rattle.lease_machine.specs.Picture.{Picture, IsHeld, IsPicture, IsBookOf, IsEnteredIn, caches_of, outside_with}
 
 -- one entry more
 pub book_enters : (tree : List TreeArena) (e : Entry) (old new : BookState) → Enters e old new → IsEnteredIn tree e → IsBookOf tree old → IsBookOf tree new
@@ -53,32 +46,34 @@ module _ (d : Picture) (b : BookState) where
   -- from a hand to a lease
   pub granted_is_picture : (id : RequestId) (t : Tag) (terms : Terms) (r : ReceiptState) → IsGranted d.book b id t terms r → IsHeld (t ∷ []) d → IsBookOf d.tree d.book → (x : TreeArena) → slice_get d.tree t.arena ≡ Some x → terms.quantum ≡ x.quantum → IsPicture rebooked
   granted_is_picture id t terms r granted is book x at same = record {
-    tree = is.tree;
-    plans = is.plans;
-    units = leases_keep d.spaces t (outside (t ∷ []) (leased_segments d.book) (flat_map caches_of d.cpus)) (outside [] (leased_segments b) (flat_map caches_of d.cpus)) is.units
-        (record { hands = λ f. omega (arith, sum_by-cons f t []); leases = granted.leases; cpus = refl });
-    cpus = is.cpus;
+    held = record {
+      tree = is.tree;
+      plans = is.plans;
+      units = leases_keep d.spaces t (outside_with (t ∷ []) d) (outside_with [] rebooked) is.units
+          (record { hands = λ f. omega (arith, sum_by-cons f t []); leases = granted.leases; cpus = refl });
+      cpus = is.cpus;
+    };
     book = book_enters d.tree (Settled id (Grant t terms)) d.book b granted.entry (x, at, same) book;
   }
 
   -- from a lease to a hand
-  into_hand : (t : Tag) → ((f : Tag → ℕ) → sum_by f (leased_segments d.book) ≡ sum_by f (leased_segments b) + f t) → IsPicture d → IsHeld (t ∷ []) rebooked
+  into_hand : (t : Tag) → ((f : Tag → ℕ) → sum_by f (leased_segments d.book) ≡ sum_by f (leased_segments b) + f t) → IsHeld [] d → IsHeld (t ∷ []) rebooked
   into_hand t loses is = record {
     tree = is.tree;
     plans = is.plans;
-    units = releases_keep d.spaces t (outside [] (leased_segments d.book) (flat_map caches_of d.cpus)) (outside (t ∷ []) (leased_segments b) (flat_map caches_of d.cpus)) is.units
+    units = releases_keep d.spaces t (outside_with [] d) (outside_with (t ∷ []) rebooked) is.units
         (record { hands = λ f. omega (arith, sum_by-cons f t []); leases = loses; cpus = refl });
     cpus = is.cpus;
   }
 
   pub released_in_hand : (id : RequestId) (index base : ℕ) (r : ReceiptState) (t : Tag) → IsReleased d.book b id index base r t → IsPicture d → IsHeld (t ∷ []) rebooked
-  released_in_hand id index base r t released is = into_hand t released.leases is
+  released_in_hand id index base r t released is = into_hand t released.leases is.held
 
   pub released_book : (id : RequestId) (index base : ℕ) (r : ReceiptState) (t : Tag) → IsReleased d.book b id index base r t → IsPicture d → IsBookOf d.tree b
   released_book id index base r t released is = book_enters d.tree (Settled id (Return index base)) d.book b released.entry tt is.book
 
   pub swept_in_hand : (c : ℕ) (id : RequestId) (t : Tag) → IsSwept d.book b c id t → IsPicture d → IsHeld (t ∷ []) rebooked
-  swept_in_hand c id t swept is = into_hand t swept.ended.leases is
+  swept_in_hand c id t swept is = into_hand t swept.ended.leases is.held
 
   pub swept_book : (c : ℕ) (id : RequestId) (t : Tag) → IsSwept d.book b c id t → IsPicture d → IsBookOf d.tree b
   swept_book c id t swept is = book_enters d.tree (Swept id.client id.incarnation t.arena t.holding.range.base) d.book b swept.ended.entry tt is.book
@@ -92,11 +87,11 @@ module _ (d : Picture) (b : BookState) where
   -- neither
   pub refused_is_picture : (id : RequestId) (why : Refusal) (r : ReceiptState) → IsRefused d.book b id why r → IsPicture d → IsPicture rebooked
   refused_is_picture id why r refused is =
-      picture_of rebooked (same_leases [] refused.leases (held_of d is)) (book_enters d.tree (Settled id (Refuse why)) d.book b refused.entry tt is.book)
+      record { held = same_leases [] refused.leases is.held; book = book_enters d.tree (Settled id (Refuse why)) d.book b refused.entry tt is.book }
 
   pub greeted_is_picture : (c i : ℕ) → Enters (Hello c i) d.book b → leased_segments b ≡ leased_segments d.book → IsPicture d → IsPicture rebooked
   greeted_is_picture c i enters same is =
-      picture_of rebooked (same_leases [] same (held_of d is)) (book_enters d.tree (Hello c i) d.book b enters tt is.book)
+      record { held = same_leases [] same is.held; book = book_enters d.tree (Hello c i) d.book b enters tt is.book }
 
   -- the hello's incarnation is the client's
   pub greeted_incarnation : (c i : ℕ) → Enters (Hello c i) d.book b → IsPicture d → (account_in c b).incarnation ≡ i

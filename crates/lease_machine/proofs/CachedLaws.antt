@@ -16,19 +16,20 @@ use Rattle.lease_machine.proofs.Focus.{Focus, depot_becomes, own_becomes, slab_b
 use Rattle.lease_machine.proofs.FreeLaws.{Round_, depot_fulls, depot_sized, fits_again, fits_before, focus_at, focus_fits, on_selected, parts_are, selected_is, there_all}
 use Rattle.lease_machine.proofs.HeldLaws.{Everywhere, FitsIn, hands_of, of_stock, reach, there_is}
 use Rattle.lease_machine.proofs.Lasting.{all_last}
-use Rattle.lease_machine.proofs.Reached.{IsAmong, among_some, full_some, none_idle, pops_among, some_idle}
+use Rattle.lease_machine.proofs.Reached.{IsAmong, among_some, full_some, pops_among, some_idle}
 use Rattle.lease_machine.proofs.Shapes.{FitsFor, lacks_fit, no_round, round_taken, takes_fit}
 use Rattle.lease_machine.proofs.SlabSteps.{Ends, IsIdle, IsLast, alloc_ends}
 use Rattle.lease_machine.proofs.XallocLaws.{held_after, last_after, picture_same, space_here}
 use Rattle.lease_machine.specs.CallLaws.{AllocFromCaches, IsFromCaches}
 use Rattle.lease_machine.specs.Chunks.{AnswersRound, LacksChunks, OnSelected, WasIdle, WasRound}
-use Rattle.lease_machine.specs.Held.{IsHeld, with_parts}
-use Rattle.local_calls.specs.NoFits.{HasBaseUp}
+use Rattle.lease_machine.specs.Held.{with_parts}
+use Rattle.local_calls.specs.NoFits.{HasBaseUp, CanTake}
 use Rattle.lease_machine.specs.Moves.{ClimbsInVain}
-use Rattle.lease_machine.specs.Picture.{NumberedCpu, Picture, SameSetup, is_cpu}
-use Rattle.lease_machine.specs.Serving.{CacheFor, CachesServe, CanServe, CanTake, HasChunk, IsCachedIn}
+use Rattle.lease_machine.specs.Picture.{NumberedCpu, Picture, SameSetup, is_cpu, IsHeld}
+use Rattle.lease_machine.specs.Serving.{CacheFor, CachesServe, CanServe, HasChunk, IsCachedIn}
 use Rattle.local_calls.specs.Laws.{AllocsWell}
 use Rattle.local_calls.specs.Runs.{RunsTo}
+use Rattle.local_calls.proofs.LawProofs.{none_idle}
 use Rattle.local_parts.specs.Cpus.{IsOwnAt}
 use Rattle.local_parts.specs.States.{LocalState}
 use Rattle.magazine_layer.specs.Magazines.{CpuCacheState, IsSize}

@@ -17,12 +17,10 @@ use Rattle.stock.specs.OwnCaches.{OwnCacheState, own_rounds}
 use Rattle.stock.specs.Spaces.{SpaceState, QuantumCacheState, IsCacheAt}
 use Rattle.stock.specs.Steps.{OnSlab}
 use Rattle.stock.specs.Stocks.{IsStock}
-use Rattle.lease_machine.specs.Picture.{NumberedCpu, Picture, is_cpu}
-use Rattle.lease_machine.specs.Held.{IsHeld}
+use Rattle.lease_machine.specs.Picture.{NumberedCpu, Picture, is_cpu, IsHeld}
 use Rattle.lease_machine.specs.Moves.{Climbs}
 use Rattle.lease_machine.specs.Chunks.{selected_caches}
 use Rattle.lease_machine.specs.Serving.{CachesServe}
-use Rattle.lease_machine.specs.Machine.{demand_of}
 use Rattle.lease_machine.specs.AnswerLaws.{GrantsWereReachable, WasReachable}
 use Rattle.lease_machine.proofs.Focus.{Focus}
 use Rattle.lease_machine.proofs.FreeLaws.{focus_at, selected_is}
@@ -31,6 +29,7 @@ use Rattle.lease_machine.proofs.ReapOrder.{CachesStood, on_arena_keeps}
 use Rattle.lease_machine.proofs.Reached.{IsAmong, depot_reached, full_among, idle_reached, own_reached, pops_among}
 use Rattle.lease_machine.proofs.Reaching.{carve_reaches, climbs_reach}
 use Rattle.lease_machine.proofs.Shapes.{round_taken}
+use Rattle.lease_proto.specs.Requests.{demand_of}
 
 -- what is climbed for leaves the caches
 climbs_stood : (chain : List Level) (n : ℕ) (t : Tag) (old new : List SpaceState) → Climbs chain n t old new → CachesStood old new
@@ -106,13 +105,12 @@ module _ (d new : Picture) (index : ℕ) (x : TreeArena) (q : Request) (t : Tag)
 
 pub grants_were_reachable : GrantsWereReachable
 grants_were_reachable old new id l r is g s at u over = elim g.serves.from [
-  | inl carved ↦ inl (carve_reaches old is.tree is.plans is.units.parts g.index (demand_of l) g.segment new.spaces carved.1 u over)
-  | inr (inl climbed) ↦ inl ((climbs_reach old is.tree is.plans is.units.parts 4 g.index l.size g.segment new.spaces climbed.2).free_for u over)
+  | inl carved ↦ inl (carve_reaches old is.held.tree is.held.plans is.held.units.parts g.index (demand_of l) g.segment new.spaces carved.1 u over)
+  | inr (inl climbed) ↦ inl ((climbs_reach old is.held.tree is.held.plans is.held.units.parts 4 g.index l.size g.segment new.spaces climbed.2).free_for u over)
   | inr (inr cached) ↦ (
-      let held : IsHeld [] old = record { tree = is.tree; plans = is.plans; units = is.units; cpus = is.cpus } in
-      let c = there_is (find (is_cpu old.selected) old.cpus) is.cpus.there in
-      let of = of_stock old old.selected c.0 c.1 None held [] in
+      let c = there_is (find (is_cpu old.selected) old.cpus) is.held.cpus.there in
+      let of = of_stock old old.selected c.0 c.1 None is.held [] in
       let focus = focus_at (record { spaces = old.spaces; cpu = c.0.caches }) g.index cached.1.2.cache cached.1.0 of cached.1.2.shared in
-      caches_reach old new g.index g.arena (demand_of l) g.segment held g.serves.arena cached.1 c.0 c.1 focus s at u over
+      caches_reach old new g.index g.arena (demand_of l) g.segment is.held g.serves.arena cached.1 c.0 c.1 focus s at u over
       )
 ]

@@ -15,10 +15,10 @@ use Rattle.lease_machine.proofs.FreshCpus.{fresh_cpu_fits}
 use Rattle.lease_machine.proofs.HeldLaws.{Everywhere, FitsIn, accounted_here, everywhere_all, held_then, local, of_stock, others, reach, same_setup}
 use Rattle.lease_machine.proofs.Lasting.{all_last, run_lasts}
 use Rattle.lease_machine.specs.CallLaws.{DrainGoesOffline, OfflineIsLocal}
-use Rattle.lease_machine.specs.Held.{IsHeld, with_caches_of}
+use Rattle.lease_machine.specs.Held.{with_caches_of}
 use Rattle.lease_machine.specs.Moves.{arena_of, outline_of, outlines_of, slab_outlines}
 use Rattle.lease_machine.specs.Operators.{GoesOffline, depots_of, after_renewal}
-use Rattle.lease_machine.specs.Picture.{NumberedCpu, IsShapedIn, Picture, SameSetup, fresh_cpu, is_cpu}
+use Rattle.lease_machine.specs.Picture.{NumberedCpu, IsShapedIn, Picture, SameSetup, fresh_cpu, is_cpu, IsHeld}
 use Rattle.local_calls.proofs.LawProofs.{drain_empties_cpu}
 use Rattle.local_calls.specs.Runs.{RunsTo, SoundStep}
 use Rattle.local_parts.proofs.LawProofs.{plan_conserves, plan_keeps_setup, plan_keeps_stock}

@@ -20,12 +20,12 @@ use Rattle.lease_proto.specs.declared.replies.Reply.{Reply}
 use Rattle.lease_proto.specs.declared.replies.Reply.TheVariants as reply
 use Rattle.lease_proto.specs.Operators.{served_of}
 use Rattle.lease_proto.specs.Operators as reading
+use Rattle.lease_proto.specs.Requests.{demand_of, again_of}
 use Rattle.lease_book.specs.BookState.{leased_segments}
 use Rattle.lease_machine.specs.Picture.{NumberedCpu, Picture, Finds, caches_of, fresh_cpu, held_outside, is_cpu}
 use Rattle.lease_machine.specs.Operators.{IsReapedOut, ReapsAll, after_reap, with_depot_by, depots_of, depots_after_reap, with_depots_by, after_renewal}
 use Rattle.lease_machine.specs.Serving.{CanServe}
-use Rattle.lease_machine.specs.Replies.{again_of}
-use Rattle.lease_machine.specs.Machine.{LeaseStep, AnswersLine, NewLease, demand_of}
+use Rattle.lease_machine.specs.Machine.{LeaseStep, AnswersLine, NewLease}
 use Rattle.lease_machine.specs.AnswerLaws.{reply_bytes}
 use Rattle.lease_machine.specs.EmptyingLaws.{CpuHasNoRound, ReapLeavesNone, OfflineHasNoRound, TickAndReapEmpty, AgainMeansRoom}
 use Rattle.lease_machine.proofs.Fitting.{not_known}

@@ -34,7 +34,7 @@ module _ (D : Type 0) (d : Picture) (id : RequestId) (op : Op) (is : IsPicture d
 
   -- with the parts as they were
   pub alone : (b : BookState) → BookAlone d (with_parts (parts_in d) (record d { book = b }))
-  alone b = ap (λ (cs : List NumberedCpu). record d { book = b; cpus = cs }) (own_cpus d is.cpus)
+  alone b = ap (λ (cs : List NumberedCpu). record d { book = b; cpus = cs }) (own_cpus d is.held.cpus)
 
   same_picture : IsPicture (with_parts (parts_in d) d)
   same_picture = subst IsPicture (sym (alone d.book)) is

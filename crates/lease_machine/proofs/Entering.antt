@@ -12,10 +12,11 @@ use Rattle.lease_proto.specs.declared.operators.ServedLine.{ServedLine}
 use Rattle.lease_proto.specs.declared.operators.ServedLine.TheVariants as served
 use Rattle.lease_proto.specs.declared.replies.Reply.{Reply}
 use Rattle.lease_proto.specs.declared.replies.Reply.TheVariants as reply
+use Rattle.lease_proto.specs.Requests.{demand_of}
 use Rattle.lease_book.specs.Entry.{Entry, Settlement, Settled, Hello, Swept, Grant, Refuse, Return}
 use Rattle.lease_book.specs.BookState.{BookState, Enters, account_in}
 use Rattle.lease_machine.specs.Picture.{Picture}
-use Rattle.lease_machine.specs.Machine.{NewRequest, Sweeps, HelloStep, ClientStep, AnswersLine, demand_of}
+use Rattle.lease_machine.specs.Machine.{NewRequest, Sweeps, HelloStep, ClientStep, AnswersLine}
 use Rattle.lease_machine.proofs.Repeats.{operator_keeps}
 
 -- an entry that lines make: a hello of no older incarnation, what a request is settled by, or the end

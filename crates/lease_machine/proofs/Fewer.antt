@@ -78,4 +78,4 @@ pub fewer_fit : (tree : List TreeArena) (spaces : List SpaceState) (index n most
 fewer_fit tree spaces index n most is stock le has = fewer_up spaces stock (chain_in tree index) (chain_quanta tree is 4 (Some index)) n most le has
 
 pub fewer_fit_too : FewerFitToo
-fewer_fit_too d index n most is le has = fewer_fit d.tree d.spaces index n most is.tree is.units.parts le has
+fewer_fit_too d index n most is le has = fewer_fit d.tree d.spaces index n most is.held.tree is.held.units.parts le has

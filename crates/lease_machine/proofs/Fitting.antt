@@ -13,6 +13,7 @@ use Rattle.lease_proto.specs.declared.lines.Op.TheVariants as ops
 use Rattle.lease_proto.specs.declared.replies.Reply.{Reply}
 use Rattle.lease_proto.specs.declared.replies.Reply.TheVariants as reply
 use Rattle.lease_proto.specs.declared.replies.Granted.{Granted}
+use Rattle.lease_proto.specs.Requests.{demand_of}
 use Rattle.lease_book.specs.Entry.{Entry, Settlement, Settled, Grant, Return, Refuse, kept_settlement}
 use Rattle.lease_book.specs.Receipts.{Kept, IsEarned}
 use Rattle.lease_book.specs.Account.{Account, number_of}
@@ -24,20 +25,20 @@ use Rattle.lease_book.specs.declared.receipts.KeptReply.TheVariants as replies
 use Rattle.lease_book.specs.declared.receipts.Terms.{Terms}
 use Rattle.lease_book.proofs.LawProofs.{account_is, last_outcome, outcomes_stay, outcome_earned}
 use Rattle.lease_machine.specs.Picture.{Picture, Finds, arena_named, name_or_none, IsEnteredIn, IsSettledIn}
-use Rattle.lease_machine.specs.Replies.{IsKnownReply, IsKeptReply}
-use Rattle.lease_machine.specs.Machine.{NewLease, Grants, demand_of}
+use Rattle.lease_machine.specs.Machine.{NewLease, Grants}
 use Rattle.lease_machine.specs.AnswerLaws.{FitsLine, GrantsFit, IsFitting, KeptGrantsFit}
 use Rattle.lease_machine.proofs.Repeats.{request_answer}
 use Rattle.lease_machine.proofs.Naming.{answer_names}
+use Rattle.lease_history.specs.Told.{IsKnownReply, IsKeptReply}
 
 -- a number that is new isn't known
-pub not_known : (d : Picture) (id : RequestId) (r : Reply) → IsNew (account_in id.client d.book) id → IsKnownReply d id r → ⊥
+pub not_known : (d : Picture) (id : RequestId) (r : Reply) → IsNew (account_in id.client d.book) id → IsKnownReply (arena_named d.tree) d.book id r → ⊥
 not_known d id r fresh known = by r known
   where
-    at : (x : Reply) → IsKeptReply d id x → ⊥
+    at : (x : Reply) → IsKeptReply (arena_named d.tree) d.book id x → ⊥
     at x known = omega (arith, fresh.next, ap (λ (o : Option Kept). number_of o) known.1.kept)
 
-    by : (x : Reply) → IsKnownReply d id x → ⊥
+    by : (x : Reply) → IsKnownReply (arena_named d.tree) d.book id x → ⊥
     by (reply.Old o) known = known.1.other fresh.current
     by (reply.Stale o) known = omega (arith, fresh.next, known.1.last, known.1.below)
     by (reply.Gap o) known = omega (arith, fresh.next, known.1.last, known.1.above)

@@ -18,10 +18,10 @@ use Rattle.lease_machine.proofs.Lasting.{all_last, run_lasts, size_stood}
 use Rattle.lease_machine.proofs.Shapes.{FitsFor, keeps_fit}
 use Rattle.lease_machine.specs.CallLaws.{FreeGoesBack}
 use Rattle.lease_machine.specs.Chunks.{AnswersRound, BecomesRound, ComesHome, GoesBack, GoesBackBy, OnSelected, own_or_none, selected_caches}
-use Rattle.lease_machine.specs.Held.{IsHeld, parts_in, with_parts}
+use Rattle.lease_machine.specs.Held.{parts_in, with_parts}
 use Rattle.lease_machine.specs.Moves.{OtherCpusStay, Returns}
 use Rattle.lease_machine.specs.Moves.Returns.{rises, stays}
-use Rattle.lease_machine.specs.Picture.{NumberedCpu, Picture, SameSetup, is_cpu}
+use Rattle.lease_machine.specs.Picture.{NumberedCpu, Picture, SameSetup, is_cpu, IsHeld}
 use Rattle.local_calls.specs.Runs.{RunsTo, SoundStep}
 use Rattle.local_parts.proofs.LawProofs.{path_seen, plan_conserves, plan_keeps_setup, plan_keeps_stock}
 use Rattle.local_parts.specs.Cpus.{CacheIndexes, IsCpuOf, OnOwn, own_index, own_indexes, indexes_from, row_indexes}

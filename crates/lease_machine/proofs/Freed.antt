@@ -64,7 +64,7 @@ module _ (d : Picture) (is : IsPicture d) (kept : NothingIsKept d) where
   no_slab : (k : ℕ) (s : SpaceState) → slice_get d.spaces k ≡ Some s → (j : ℕ) (c : QuantumCacheState) → slice_get s.caches j ≡ Some c → c.slab.slabs ≡ []
   no_slab k s at j c among =
       let f : Tag → ℕ = λ t. 1 in
-      let total : sum_by (chunks f) d.spaces ≡ sum_by (of_cached f) (segments_out (held_outside d)) + sum_by (rounds f) d.spaces = is.units.accounts.chunks_out f in
+      let total : sum_by (chunks f) d.spaces ≡ sum_by (of_cached f) (segments_out (held_outside d)) + sum_by (rounds f) d.spaces = is.held.units.accounts.chunks_out f in
       let none : sum_by (of_cached f) (segments_out (held_outside d)) ≡ 0 = ap (sum_by (of_cached f)) all_in in
       reaped_out_is_empty c.slab (cache_at k s at j c among).slabs
       (nothing (chunks_out c.slab) (omega (arith, total, none, no_rounds f, part_of_sum (chunks f) d.spaces k s at, part_of_sum (chunks_in f) s.caches j c among)))
@@ -85,7 +85,7 @@ module _ (d : Picture) (is : IsPicture d) (kept : NothingIsKept d) where
       ∙ sum_by-filter (is_child_of k) weigh d.spaces
       ∙ sum_none (weight_where (is_child_of k) weigh) d.spaces (λ j x at. only_none (is_child_of k) weigh x (λ child.
       let from : x.source ≡ Some k = child_source x.source k child in
-      let part = is.units.parts j x at in
+      let part = is.held.units.parts j x at in
       let own : x.arena.owned ≡ [] = part.owned k from in
       let none : x.arena.imported ≡ [] = (goes_empty x.arena part.sound (no_tags x.arena (above j x at (part.before k from)))).0 in
       ap (λ (hs : List Holding). sum_by f (hs ++ map (λ (t : Tag). t.holding) x.arena.imported)) own ∙ ap (λ (ts : List Tag). sum_by f (map (λ (t : Tag). t.holding) ts)) none))
@@ -97,12 +97,12 @@ module _ (d : Picture) (is : IsPicture d) (kept : NothingIsKept d) where
       let f : Holding → ℕ = λ h. 1 in
       let children = no_children k (λ j x there later. none_allocated m j x there (omega (arith, later, few))) f in
       let out : sum_by f (held_of k (filter came_direct (segments_out (held_outside d)))) ≡ 0 = ap (λ (ts : List Tag). sum_by f (held_of k (filter came_direct ts))) all_in in
-      nothing (ranges_of s.arena.allocated) (omega (arith, allocated_is_out d.spaces (held_outside d) is.units k s at f, out, no_slabs k s at f, children))
+      nothing (ranges_of s.arena.allocated) (omega (arith, allocated_is_out d.spaces (held_outside d) is.held.units k s at f, out, no_slabs k s at f, children))
 
   -- so each span is a run of free units
   pub span_is_run : (k : ℕ) (s : SpaceState) → slice_get d.spaces k ≡ Some s → (span : Holding) → Contains s.arena.owned span → IsRun (spans_of s.arena) s.arena.allocated span
   span_is_run k s at span own =
-      let sound : IsSoundArena s.arena = (is.units.parts k s at).sound in
+      let sound : IsSoundArena s.arena = (is.held.units.parts k s at).sound in
       let none : tags_of s.arena ≡ [] = no_tags s.arena (none_allocated (length d.spaces) k s at (omega arith)) in
       let more : List Holding = map (λ (t : Tag). t.holding) s.arena.imported in
       let within : own.0 < length (spans_of s.arena) = omega (arith, own.1, length-append s.arena.owned more) in

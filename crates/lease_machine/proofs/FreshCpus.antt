@@ -155,31 +155,35 @@ module _ (d : Picture) (n : ℕ) (is : IsPicture d) (in_range : IsCpu n) where
 
   select_old : list_any (is_cpu n) d.cpus ≡ true → IsPicture (record d { selected = n })
   select_old there = record {
-    tree = is.tree;
-    plans = is.plans;
-    units = is.units;
-    cpus = record { each = is.cpus.each; shapes = is.cpus.shapes; numbers = is.cpus.numbers; there = found (is_cpu n) d.cpus there };
+    held = record {
+      tree = is.held.tree;
+      plans = is.held.plans;
+      units = is.held.units;
+      cpus = record { each = is.held.cpus.each; shapes = is.held.cpus.shapes; numbers = is.held.cpus.numbers; there = found (is_cpu n) d.cpus there };
+    };
     book = is.book;
   }
 
   select_new : list_any (is_cpu n) d.cpus ≡ false → IsPicture (record d { cpus = d.cpus ++ fresh ∷ []; selected = n })
   select_new none =
       let caches : flat_map caches_of (d.cpus ++ fresh ∷ []) ≡ flat_map caches_of d.cpus ++ (caches_of fresh ++ []) = flat_map-append caches_of d.cpus (fresh ∷ []) in
-      let own : All (IsOwnIn d.spaces) (caches_of fresh ++ []) = subst (λ (os : List OwnCacheState). All (IsOwnIn d.spaces) os) (sym (append-nil (caches_of fresh))) (fresh_own d.spaces n is.units.parts) in
+      let own : All (IsOwnIn d.spaces) (caches_of fresh ++ []) = subst (λ (os : List OwnCacheState). All (IsOwnIn d.spaces) os) (sym (append-nil (caches_of fresh))) (fresh_own d.spaces n is.held.units.parts) in
       record {
-        tree = is.tree;
-        plans = is.plans;
-        units = cpus_keep d.spaces (held_outside d) (held_outside (record d { cpus = d.cpus ++ fresh ∷ []; selected = n })) is.units (record {
-          hands = refl;
-          leases = refl;
-          rounds = λ f. ap (sum_by f) (sym (rounds_push d.cpus fresh (fresh_rounds d.spaces n)));
-          own = subst (λ (os : List OwnCacheState). All (IsOwnIn d.spaces) os) (sym caches) (All-append (IsOwnIn d.spaces) (flat_map caches_of d.cpus) (caches_of fresh ++ []) is.units.cpus own);
-        });
-        cpus = record {
-          each = All-append (IsCpuIn d.spaces) d.cpus (fresh ∷ []) is.cpus.each (All-cons (IsCpuIn d.spaces) fresh [] (in_range, fresh_indexes d.spaces n) (All-nil (IsCpuIn d.spaces)));
-          shapes = All-append (HasShapes d.spaces) d.cpus (fresh ∷ []) is.cpus.shapes (All-cons (HasShapes d.spaces) fresh [] (fresh_shapes d.spaces n is.units.parts) (All-nil (HasShapes d.spaces)));
-          numbers = numbers_push n d.cpus fresh refl none is.cpus.numbers;
-          there = found_last (is_cpu n) d.cpus fresh (same_number n);
+        held = record {
+          tree = is.held.tree;
+          plans = is.held.plans;
+          units = cpus_keep d.spaces (held_outside d) (held_outside (record d { cpus = d.cpus ++ fresh ∷ []; selected = n })) is.held.units (record {
+            hands = refl;
+            leases = refl;
+            rounds = λ f. ap (sum_by f) (sym (rounds_push d.cpus fresh (fresh_rounds d.spaces n)));
+            own = subst (λ (os : List OwnCacheState). All (IsOwnIn d.spaces) os) (sym caches) (All-append (IsOwnIn d.spaces) (flat_map caches_of d.cpus) (caches_of fresh ++ []) is.held.units.cpus own);
+          });
+          cpus = record {
+            each = All-append (IsCpuIn d.spaces) d.cpus (fresh ∷ []) is.held.cpus.each (All-cons (IsCpuIn d.spaces) fresh [] (in_range, fresh_indexes d.spaces n) (All-nil (IsCpuIn d.spaces)));
+            shapes = All-append (HasShapes d.spaces) d.cpus (fresh ∷ []) is.held.cpus.shapes (All-cons (HasShapes d.spaces) fresh [] (fresh_shapes d.spaces n is.held.units.parts) (All-nil (HasShapes d.spaces)));
+            numbers = numbers_push n d.cpus fresh refl none is.held.cpus.numbers;
+            there = found_last (is_cpu n) d.cpus fresh (same_number n);
+          };
         };
         book = is.book;
       }
@@ -206,14 +210,16 @@ fresh_is_picture tree spaces book is_tree plans accounted history =
       own = own;
     }) in
     record {
-      tree = is_tree;
-      plans = plans;
-      units = subst (λ (ts : List Tag). IsAccountedFor spaces (outside [] ts caches)) (sym leases) first;
-      cpus = record {
-        each = All-cons (IsCpuIn spaces) c [] (omega arith, fresh_indexes spaces 0) (All-nil (IsCpuIn spaces));
-        shapes = All-cons (HasShapes spaces) c [] (fresh_shapes spaces 0 accounted.stock) (All-nil (HasShapes spaces));
-        numbers = λ i j e lt below. absurd (omega (arith, lt, below));
-        there = λ none. (let e : Some c ≡ None = none in cc);
+      held = record {
+        tree = is_tree;
+        plans = plans;
+        units = subst (λ (ts : List Tag). IsAccountedFor spaces (outside [] ts caches)) (sym leases) first;
+        cpus = record {
+          each = All-cons (IsCpuIn spaces) c [] (omega arith, fresh_indexes spaces 0) (All-nil (IsCpuIn spaces));
+          shapes = All-cons (HasShapes spaces) c [] (fresh_shapes spaces 0 accounted.stock) (All-nil (HasShapes spaces));
+          numbers = λ i j e lt below. absurd (omega (arith, lt, below));
+          there = λ none. (let e : Some c ≡ None = none in cc);
+        };
       };
       book = record { entries = []; history = history; possible = tt };
     }

@@ -14,7 +14,7 @@ use Rattle.arena_tree.specs.Trees.{index_in}
 use Rattle.arena_tree.proofs.LawProofs.{own_name}
 use Rattle.stock.specs.Spaces.{SpacePlan, plan_of, plans_of}
 use Rattle.stock.specs.Setups.{plan_for}
-use Rattle.stock.specs.Laws.{HasTop, ApartUpChain}
+use Rattle.stock.specs.Laws.{HasTop}
 use Rattle.stock.specs.Laws as stock
 use Rattle.lease_proto.specs.declared.replies.Granted.{Granted}
 use Rattle.lease_book.specs.Account.{Lease}
@@ -107,11 +107,11 @@ two_weigh d is a b k l differ one two f = elim (cases_eq a b) [
 -- what is under an arena by the tree is so by the stock
 under_top : (d : Picture) → IsPicture d → (a top : ℕ) → IsUnder d.tree a top → HasTop d.spaces a top
 under_top d is _ _ (root a x at none) =
-    let planned : slice_get (plans_of d.spaces) a ≡ Some (plan_for x) = ap (λ (ps : List SpacePlan). slice_get ps a) is.plans ∙ slice_get_mapped plan_for d.tree a x at in
+    let planned : slice_get (plans_of d.spaces) a ≡ Some (plan_for x) = ap (λ (ps : List SpacePlan). slice_get ps a) is.held.plans ∙ slice_get_mapped plan_for d.tree a x at in
     let s = mapped plan_of d.spaces a (plan_for x) planned in
     stock.root a s.0 s.1 (sym (ap (λ (p : SpacePlan). p.source) s.2) ∙ none)
 under_top d is _ _ (child a p top x at source up) =
-    let planned : slice_get (plans_of d.spaces) a ≡ Some (plan_for x) = ap (λ (ps : List SpacePlan). slice_get ps a) is.plans ∙ slice_get_mapped plan_for d.tree a x at in
+    let planned : slice_get (plans_of d.spaces) a ≡ Some (plan_for x) = ap (λ (ps : List SpacePlan). slice_get ps a) is.held.plans ∙ slice_get_mapped plan_for d.tree a x at in
     let s = mapped plan_of d.spaces a (plan_for x) planned in
     stock.child a p top s.0 s.1 (sym (ap (λ (q : SpacePlan). q.source) s.2) ∙ source) (under_top d is p top up)
 
@@ -174,7 +174,7 @@ one_leased d is a b top u under_a under_b = at_most_one (weight a b u) (leased_s
 -- the lease is of the arena that its grant names
 of_named : (d : Picture) (g : Granted) → IsPicture d → (l : IsLeased d g) → (a : ℕ) → index_in g.arena d.tree ≡ Some a → l.lease.segment.arena ≡ a
 of_named d g is l a first =
-    let own : index_in l.arena.name d.tree ≡ Some l.lease.segment.arena = own_name d.tree l.lease.segment.arena l.arena is.tree l.here in
+    let own : index_in l.arena.name d.tree ≡ Some l.lease.segment.arena = own_name d.tree l.lease.segment.arena l.arena is.held.tree l.here in
     let named : index_in g.arena d.tree ≡ Some l.lease.segment.arena = ap (λ (n : List ℕ). index_in n d.tree) (sym l.named) ∙ own in
     let e : Some l.lease.segment.arena ≡ Some a = sym named ∙ first in
     cc

@@ -10,8 +10,8 @@ use Rattle.lease_machine.proofs.CpuRows.{Round, all_back, all_become, all_front,
 use Rattle.lease_machine.proofs.Lasting.{all_last, owned_stay, size_stood}
 use Rattle.lease_machine.specs.CallLaws.{HandIsLocal, HeldIsLocal}
 use Rattle.lease_machine.specs.Chunks.{own_or_none}
-use Rattle.lease_machine.specs.Held.{IsHeld, with_caches_of}
-use Rattle.lease_machine.specs.Picture.{AreCpus, NumberedCpu, IsShapedIn, Picture, SameSetup, caches_of, is_cpu}
+use Rattle.lease_machine.specs.Held.{with_caches_of}
+use Rattle.lease_machine.specs.Picture.{AreCpus, NumberedCpu, IsShapedIn, Picture, SameSetup, caches_of, is_cpu, IsHeld}
 use Rattle.lease_proto.specs.Cpus.{IsCpu}
 use Rattle.local_calls.proofs.LawProofs.{reached_here}
 use Rattle.local_calls.specs.Runs.{IsAccountedWith, IsLocalOf}

@@ -32,7 +32,7 @@ use Rattle.lease_machine.specs.Conversations.{BookDoes, RunsCall, AnswersHello, 
 use Rattle.lease_machine.specs.Held.{parts_in, with_parts}
 use Rattle.lease_machine.specs.Machine.{HelloStep, Sweeps}
 use Rattle.lease_machine.specs.Picture.{Picture, IsPicture, SameSetup}
-use Rattle.lease_machine.proofs.BookMoves.{picture_of, swept_in_hand, swept_book, swept_incarnation, greeted_is_picture, greeted_incarnation}
+use Rattle.lease_machine.proofs.BookMoves.{swept_in_hand, swept_book, swept_incarnation, greeted_is_picture, greeted_incarnation}
 use Rattle.lease_machine.proofs.Placing.{PlacedBack, unchanged, parts_written, parts_again, placed_back}
 use Rattle.lease_machine.proofs.Rebooking.{goes_back_from}
 
@@ -72,7 +72,7 @@ module _ (D : Type 0) (c : ℕ) (b : BookState) (s : LocalState) (a : HelloEnd) 
   SweepsAll turns = (d : Picture) → IsPicture d → length (account_in c d.book).leases < turns → RunsCall {D = D} d.tree (sweep_plan d.tree c turns) d.book (parts_in d) b s a → Swept d
 
   clean : (d : Picture) → IsPicture d → All (λ l. (account_in c d.book).incarnation ≤ l.incarnation) (account_in c d.book).leases → d.book ≡ b → parts_in d ≡ s → Ok Welcome ≡ a → Swept d
-  clean d is left books parts done = subst (λ (new : Picture). SweptAll c d new a) (unchanged d b s is.cpus books parts) (record {
+  clean d is left books parts done = subst (λ (new : Picture). SweptAll c d new a) (unchanged d b s is.held.cpus books parts) (record {
     done = done;
     swept = [];
     sweeps = refl;
@@ -89,8 +89,8 @@ module _ (D : Type 0) (c : ℕ) (b : BookState) (s : LocalState) (a : HelloEnd) 
         let between : Picture = record d { book = n } in
         let mid : Picture = with_parts m between in
         let less = swept_shorter d.book n c id t (is.book.entries, is.book.history) swept in
-        let rest = again mid (picture_of mid back.held (swept_book d n c id t swept is)) (omega (arith, few, less))
-        (subst (λ (p : LocalState). RunsCall {D = D} d.tree (sweep_plan d.tree c turns) n p b s a) (sym (parts_written between m is.cpus)) path) in
+        let rest = again mid (record { held = back.held; book = swept_book d n c id t swept is }) (omega (arith, few, less))
+        (subst (λ (p : LocalState). RunsCall {D = D} d.tree (sweep_plan d.tree c turns) n p b s a) (sym (parts_written between m is.held.cpus)) path) in
         subst (λ (new : Picture). SweptAll c d new a) (parts_again (record d { book = b }) m s) (record {
           done = rest.done;
           swept = t ∷ rest.swept;
@@ -152,7 +152,7 @@ module _ (D : Type 0) (d : Picture) (h : HelloLine) (turns : ℕ) (is : IsPictur
   asked n m (Ok u) event path = taken n event.0 (subst (λ (p : LocalState). RunsCall {D = D} d.tree (sweep_plan d.tree h.client turns) n p b s a) event.1 path)
   asked n m (Err (greeting.Late f)) event done =
       subst (AnswersHello h d new) done.2
-      (subst (λ (p : Picture). AnswersHello h d p (Ok (Late f))) (unchanged d b s is.cpus (sym event.0.1 ∙ done.0) (sym event.1 ∙ done.1)) (record {
+      (subst (λ (p : Picture). AnswersHello h d p (Ok (Late f))) (unchanged d b s is.held.cpus (sym event.0.1 ∙ done.0) (sym event.1 ∙ done.1)) (record {
         step = refused f event.0.0;
         picture = is;
         setup = record { tree = refl; owned = refl };

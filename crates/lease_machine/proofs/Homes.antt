@@ -29,7 +29,7 @@ setup_stays old new (Ok line ∷ frames) text run =
 setup_stays old new (Err fault ∷ frames) text run = setup_stays old new frames run.0 run.2
 
 pub units_have_one_home : UnitsHaveOneHome
-units_have_one_home d is k s at u = unit_adds_up d.spaces (held_outside d) is.units k s at u
+units_have_one_home d is k s at u = unit_adds_up d.spaces (held_outside d) is.held.units k s at u
 
 -- what holds of a list of pairs holds of a front of it
 front_pairs : {X : Type 0} (R : X → X → Type 0) (xs ys : List X) → AllPairs R (xs ++ ys) → AllPairs R xs
@@ -40,14 +40,14 @@ front_pairs R xs ys all i j e lt below =
     subst (λ x. R x (get_or xs j e)) first (subst (R (get_or (xs ++ ys) i e)) second whole)
 
 pub leases_are_apart : LeasesAreApart
-leases_are_apart d is = front_pairs (ApartUpChain d.spaces) (leased_segments d.book) (all_own_rounds (held_outside d).cpus) (out_never_overlaps d.spaces (held_outside d) is.units)
+leases_are_apart d is = front_pairs (ApartUpChain d.spaces) (leased_segments d.book) (all_own_rounds (held_outside d).cpus) (out_never_overlaps d.spaces (held_outside d) is.held.units)
 
 pub audit_tells_leases : AuditTellsLeases
 audit_tells_leases d is k s at =
-    subst (λ (n : ℕ). (sums_in d s).leased ≡ sum_by (units_of_arena n) (leased_segments d.book)) (is.units.parts k s at).id (units_weigh s.arena.id (leased_segments d.book))
+    subst (λ (n : ℕ). (sums_in d s).leased ≡ sum_by (units_of_arena n) (leased_segments d.book)) (is.held.units.parts k s at).id (units_weigh s.arena.id (leased_segments d.book))
 
 pub audit_is_whole : AuditIsWhole
-audit_is_whole d is k s at = audit_adds_up d.spaces (held_outside d) is.units k s at
+audit_is_whole d is k s at = audit_adds_up d.spaces (held_outside d) is.held.units k s at
 
 audit_read : served_of (codes "audit") ≡ Ok (served.Operator operator.Audit)
 unfolding served_of reading.served_in reading.operator_in

@@ -9,10 +9,9 @@ use Rattle.lease_book.specs.declared.receipts.KeptReply.TheVariants as kept
 use Rattle.lease_book.specs.Answers.{IsAnswer, IsRepeated, IsOld, IsStale, IsGap}
 use Rattle.lease_book.specs.BookState.{BookState, account_in}
 use Rattle.lease_book.specs.Receipts.{ReceiptState}
-use Rattle.lease_history.specs.Told.{IsTellable, reply_to, reply_to_answer}
+use Rattle.lease_history.specs.Told.{IsTellable, reply_to, reply_to_answer, IsKnownReply}
 use Rattle.lease_machine.specs.Conversations.{CanName}
 use Rattle.lease_machine.specs.Picture.{Picture, IsPicture, arena_named}
-use Rattle.lease_machine.specs.Replies.{IsKnownReply}
 use Rattle.lease_machine.proofs.Fitting.{kept_grants_fit}
 
 module _ {D : Type 0} (book : BookState) (id : RequestId) where
@@ -54,15 +53,15 @@ module _ (d : Picture) (id : RequestId) where
   known_named is (answer.Gap greatest) known = tt
   known_named is answer.Again known = tt
 
-  kept_known : (v : ReceiptState) → IsRepeated d.book (account_in id.client d.book) id v → IsKnownReply d id (reply_to (arena_named d.tree) id v.reply)
+  kept_known : (v : ReceiptState) → IsRepeated d.book (account_in id.client d.book) id v → IsKnownReply (arena_named d.tree) d.book id (reply_to (arena_named d.tree) id v.reply)
   kept_known v rep = by v.reply refl
     where
-      by : (k : KeptReply) → v.reply ≡ k → IsKnownReply d id (reply_to (arena_named d.tree) id k)
+      by : (k : KeptReply) → v.reply ≡ k → IsKnownReply (arena_named d.tree) d.book id (reply_to (arena_named d.tree) id k)
       by (kept.Granted arena base len) said = (v, rep, ap (reply_to (arena_named d.tree) id) (sym said))
       by kept.Released said = (v, rep, ap (reply_to (arena_named d.tree) id) (sym said))
       by (kept.Refused why) said = (v, rep, ap (reply_to (arena_named d.tree) id) (sym said))
 
-  pub known_told : {D : Type 0} (a : Answer D) → IsKnown d.book id a → IsKnownReply d id (reply_to_answer (arena_named d.tree) id a)
+  pub known_told : {D : Type 0} (a : Answer D) → IsKnown d.book id a → IsKnownReply (arena_named d.tree) d.book id (reply_to_answer (arena_named d.tree) id a)
   known_told (answer.Kept v) known = kept_known v known
   known_told (answer.Refused v) known = absurd known
   known_told (answer.Old current) known = (refl, known)

@@ -28,4 +28,3 @@ pub use Rattle.lease_machine.proofs.Replied.{clients_get_replies}
 pub use Rattle.lease_machine.proofs.Ruling.{steps_keep_rules, runs_keep_rules}
 pub use Rattle.lease_machine.proofs.RequestRuns.{request_runs}
 pub use Rattle.lease_machine.proofs.HelloRuns.{hello_runs}
-pub use Rattle.lease_machine.proofs.BookMoves.{held_of, picture_of}

@@ -20,6 +20,7 @@ use Rattle.lease_terms.specs.Requests.{RequestId}
 use Rattle.lease_terms.specs.declared.refusals.Refusal.TheVariants as why
 use Rattle.lease_proto.specs.declared.lines.Op.TheVariants as ops
 use Rattle.lease_proto.specs.declared.lines.LeaseLine.{LeaseLine}
+use Rattle.lease_proto.specs.Requests.{demand_of}
 use Rattle.lease_book.specs.Answers.{IsNew, IsAnswer}
 use Rattle.lease_book.specs.BookState.{BookState, account_in}
 use Rattle.lease_book.specs.Calls.{IsGranted, IsRefused}
@@ -43,12 +44,12 @@ use Rattle.lease_history.specs.Told.{IsTellable, reply_to, reply_to_answer}
 use Rattle.lease_machine.specs.CallLaws.{IsFromCaches}
 use Rattle.lease_machine.specs.Chunks.{GoesBack, GoesBackBy}
 use Rattle.lease_machine.specs.Conversations.{BookDoes, RunsCall, AnswersRequest}
-use Rattle.lease_machine.specs.Held.{IsHeld, parts_in, with_parts}
-use Rattle.lease_machine.specs.Machine.{NewLease, demand_of}
+use Rattle.lease_machine.specs.Held.{parts_in, with_parts}
+use Rattle.lease_machine.specs.Machine.{NewLease}
 use Rattle.lease_machine.specs.Moves.{Climbs, ClimbsInVain, Returns}
-use Rattle.lease_machine.specs.Picture.{Picture, IsPicture, IsBookOf, Finds, SameSetup, arena_named}
+use Rattle.lease_machine.specs.Picture.{Picture, IsPicture, IsBookOf, Finds, SameSetup, arena_named, IsHeld}
 use Rattle.lease_machine.specs.Serving.{ServesWith, FallsBack}
-use Rattle.lease_machine.proofs.BookMoves.{held_of, picture_of, same_leases, book_enters, granted_is_picture}
+use Rattle.lease_machine.proofs.BookMoves.{same_leases, book_enters, granted_is_picture}
 use Rattle.lease_machine.proofs.Ending.{Ends, ended, alone, known_ends, refused_ends, answered_ends, refusal_ends}
 use Rattle.lease_machine.proofs.KnownAnswers.{looked_up}
 use Rattle.lease_machine.proofs.LeaseTaken.{index_within, taken_so}
@@ -179,14 +180,14 @@ module _ (D : Type 0) (d : Picture) (id : RequestId) (l : LeaseLine) (is : IsPic
           kept = record {
             named = answer_named d.tree d.book b id why.Leases Full A fresh y event;
             step = inr (fresh, kept_step);
-            picture = picture_of new back.held kept_book;
+            picture = record { held = back.held; book = kept_book };
             setup = record { tree = refl; owned = back.setup.owned ∙ served.4.owned };
           }
 
         not_leased : (c : BookState) (s : LocalState) (a : CallEnd D) → RunsCall d.tree (place_first d.tree t (Done (Ok (outcomes.Answered y)))) b m c s a → Gone c s a
         not_leased c s a path =
             let (books, done, back) = placed_told between t still_held (outcomes.Answered y) b c s a
-            (subst (λ (p : LocalState). RunsCall d.tree (place_first d.tree t (Done (Ok (outcomes.Answered y)))) b p c s a) (sym (parts_written (record d { book = b }) m is.cpus)) path) in
+            (subst (λ (p : LocalState). RunsCall d.tree (place_first d.tree t (Done (Ok (outcomes.Answered y)))) b p c s a) (sym (parts_written (record d { book = b }) m is.held.cpus)) path) in
             ended D d id (ops.Lease l) is b c s s (Ok (outcomes.Answered y)) a books refl done
             (kept s (subst (PlacedBack t between) (parts_again (record d { book = b }) m s) back))
 
@@ -211,7 +212,7 @@ module _ (D : Type 0) (d : Picture) (id : RequestId) (l : LeaseLine) (is : IsPic
         c s a path
     taken (Err (climbing.Refused carving.NoFit)) none c s a path =
         refusal_ends D d id (ops.Lease l) is m why.NoFit
-        (λ b y event. refused_ends D d id (ops.Lease l) is m (picture_of mid none.2 is.book) none.3 fresh why.NoFit b (Unit {0}) y event
+        (λ b y event. refused_ends D d id (ops.Lease l) is m (record { held = none.2; book = is.book }) none.3 fresh why.NoFit b (Unit {0}) y event
         (λ v refused e. (why.NoFit, record { receipt = v; refused = refused; reply = refl }, (index, x, record { finds = finds; good = none.0 }, none_then d mid b index x (demand_of l) none.1))))
         c s a path
     taken (Err (climbing.Refused carving.NoMemory)) missed c s a path =
@@ -232,7 +233,7 @@ module _ (D : Type 0) (d : Picture) (id : RequestId) (l : LeaseLine) (is : IsPic
               },
             ),
           );
-          picture = picture_of mid missed.3 is.book;
+          picture = record { held = missed.3; book = is.book };
           setup = missed.4;
         })
     taken (Err (climbing.Stuck t)) stuck c s a path = absurd stuck
@@ -249,7 +250,7 @@ module _ (D : Type 0) (d : Picture) (id : RequestId) (l : LeaseLine) (is : IsPic
       let split = path_under (SoundStep (nodes_of d.tree)) (BookDoes D) (take_plan d.tree index (demand_of l)) (on_take d.tree id index (demand_of l)) d.book (parts_in d) c s a path in
       let here = slice_get_some d.tree index (index_within d.tree l.arena index first) in
       taken fresh index here.0 (record { first = first; here = here.1 }) split.0 split.1
-      (taken_so d index here.0 (demand_of l) split.0 split.1 (held_of d is) here.1 split.2) c s a split.3
+      (taken_so d index here.0 (demand_of l) split.0 split.1 is.held here.1 split.2) c s a split.3
 
   looked : (c : BookState) (s : LocalState) (a : CallEnd D) (b : BookState) (n : LocalState) (x : Result (Option (Answer D)) Stopped) → BookDoes D d.book (parts_in d) (Look id) x b n
       → RunsCall d.tree (on_look (lease_at d.tree id (demand_of l) (index_in l.arena d.tree)) x) b n c s a → Gone c s a

@@ -1,5 +1,5 @@
 -- What the parts of a picture give for a lease.
-use Rattle.std.proofs.Common.{◌≡◌, ◌<◌, ◌^◌, ◌∙◌, ◌&&◌, ◌==◌, ℕ, Bool, true, false, refl, sym, subst, ap, inl, inr, List, [], Some, None, Result, Ok, Err, arith, cond, nat_lt, length, slice_get}
+use Rattle.std.proofs.Common.{◌≡◌, ◌<◌, ◌^◌, ◌∙◌, ℕ, Bool, true, false, refl, sym, subst, ap, inl, inr, List, [], Some, None, Result, Ok, Err, arith, cond, nat_lt, length, slice_get}
 use Rattle.std.specs.List.{position_or_len}
 use Rattle.std.specs.Str.{bytes_eq}
 use Rattle.std.proofs.lemmas.Bool.{cases_lt, ltb-true}
@@ -23,8 +23,8 @@ use Rattle.local_calls.specs.Runs.{RunsTo, SoundStep}
 use Rattle.lease_call.proofs.LawProofs.{is_plain_so}
 use Rattle.lease_call.specs.Leasing.{carve_end, is_plain, take_plan, take_steps}
 use Rattle.lease_machine.specs.CallLaws.{IsCarvedFor, IsClimbedFor, IsFromCaches}
-use Rattle.lease_machine.specs.Held.{IsHeld, parts_in, with_parts}
-use Rattle.lease_machine.specs.Picture.{Picture, SameSetup}
+use Rattle.lease_machine.specs.Held.{parts_in, with_parts}
+use Rattle.lease_machine.specs.Picture.{Picture, SameSetup, IsHeld}
 use Rattle.lease_machine.proofs.AllocLaws.{alloc_climbs}
 use Rattle.lease_machine.proofs.CachedLaws.{alloc_from_caches}
 use Rattle.lease_machine.proofs.XallocLaws.{xalloc_carves}

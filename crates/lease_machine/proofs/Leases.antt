@@ -15,12 +15,13 @@ use Rattle.lease_proto.specs.declared.operators.ServedLine.TheVariants as served
 use Rattle.lease_proto.specs.declared.replies.Reply.{Reply}
 use Rattle.lease_proto.specs.declared.replies.Reply.TheVariants as reply
 use Rattle.lease_proto.specs.Operators.{served_of}
+use Rattle.lease_proto.specs.Requests.{demand_of}
 use Rattle.lease_book.specs.Entry.{Settlement, Settled, Hello, Swept, Grant, Refuse, Return}
 use Rattle.lease_book.specs.Account.{Account, Lease, is_lease, is_older, without_first, leases_after}
 use Rattle.lease_book.specs.BookState.{BookState, HasHistory, Enters, account_in}
 use Rattle.lease_book.proofs.LawProofs.{entered_changes}
 use Rattle.lease_machine.specs.Picture.{Picture, IsPicture}
-use Rattle.lease_machine.specs.Machine.{NewLease, NewRelease, Sweeps, HelloStep, AnswersLine, LeaseStep, Welcomes, demand_of}
+use Rattle.lease_machine.specs.Machine.{NewLease, NewRelease, Sweeps, HelloStep, AnswersLine, LeaseStep, Welcomes}
 use Rattle.lease_machine.specs.LeaseLaws.{leases_in, LeasesStay, LeasesBecome, LeaseMoves, ReleaseMoves, HelloMoves, LeasesMove, grant_told}
 use Rattle.lease_machine.proofs.Repeats.{history_of, request_answer, operator_keeps}
 use Rattle.lease_machine.proofs.Fitting.{not_known, granted_fits}

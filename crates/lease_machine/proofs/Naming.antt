@@ -6,15 +6,15 @@ use Rattle.lease_proto.specs.declared.lines.Op.{Op}
 use Rattle.lease_proto.specs.declared.lines.Op.TheVariants as ops
 use Rattle.lease_proto.specs.declared.replies.Reply.{Reply}
 use Rattle.lease_proto.specs.declared.replies.Reply.TheVariants as reply
+use Rattle.lease_proto.specs.Requests.{demand_of, again_of}
 use Rattle.lease_book.specs.declared.receipts.KeptReply.{KeptReply}
 use Rattle.lease_book.specs.declared.receipts.KeptReply.TheVariants as kept
 use Rattle.lease_book.specs.BookState.{account_in}
 use Rattle.lease_book.specs.Entry.{Grant, kept_reply_of}
 use Rattle.lease_book.specs.Answers.{IsNew}
-use Rattle.lease_history.specs.Told.{reply_to}
+use Rattle.lease_history.specs.Told.{reply_to, IsKnownReply}
 use Rattle.lease_machine.specs.Picture.{Picture, arena_named}
-use Rattle.lease_machine.specs.Replies.{IsKnownReply, again_of}
-use Rattle.lease_machine.specs.Machine.{NewLease, NewRelease, NewRequest, RequestStep, demand_of}
+use Rattle.lease_machine.specs.Machine.{NewLease, NewRelease, NewRequest, RequestStep}
 use Rattle.lease_machine.specs.AnswerLaws.{NamesRequest}
 
 kept_names : (names : ℕ → List ℕ) (id : RequestId) (k : KeptReply) (r : Reply) → r ≡ reply_to names id k → NamesRequest id r
@@ -22,7 +22,7 @@ kept_names names id (kept.Granted arena base len) r is = subst (NamesRequest id)
 kept_names names id kept.Released r is = subst (NamesRequest id) (sym is) refl
 kept_names names id (kept.Refused why) r is = subst (NamesRequest id) (sym is) refl
 
-known_names : (d : Picture) (id : RequestId) (r : Reply) → IsKnownReply d id r → NamesRequest id r
+known_names : (d : Picture) (id : RequestId) (r : Reply) → IsKnownReply (arena_named d.tree) d.book id r → NamesRequest id r
 known_names d id (reply.Old o) known = known.0
 known_names d id (reply.Stale o) known = ap Some known.0
 known_names d id (reply.Gap o) known = ap Some known.0

@@ -28,22 +28,23 @@ use Rattle.lease_proto.specs.declared.operators.ServedLine.TheVariants as served
 use Rattle.lease_proto.specs.declared.replies.Reply.{Reply}
 use Rattle.lease_proto.specs.declared.replies.Reply.TheVariants as reply
 use Rattle.lease_proto.specs.Frames.{with_line_feed}
+use Rattle.lease_proto.specs.Requests.{demand_of}
 use Rattle.lease_book.specs.Entry.{Hello}
 use Rattle.lease_book.specs.Receipts.{Kept}
 use Rattle.lease_book.specs.Account.{Account}
 use Rattle.lease_book.specs.BookState.{BookState, account_in, account_or_nobody, leased_segments, segments_of_accounts}
 use Rattle.lease_book.proofs.LawProofs.{entered_changes}
-use Rattle.lease_machine.specs.Picture.{Picture, IsPicture, Finds}
+use Rattle.lease_machine.specs.Picture.{Picture, IsPicture, Finds, arena_named}
 use Rattle.local_calls.specs.NoFits.{HasBaseUp}
 use Rattle.lease_machine.specs.Serving.{CanServe}
-use Rattle.lease_machine.specs.Replies.{IsKnownReply, IsKeptReply}
-use Rattle.lease_machine.specs.Machine.{NewLease, RefusesLease, HelloStep, Sweeps, AnswersLine, demand_of}
+use Rattle.lease_machine.specs.Machine.{NewLease, RefusesLease, HelloStep, Sweeps, AnswersLine}
 use Rattle.lease_machine.specs.AnswerLaws.{reply_bytes}
 use Rattle.lease_machine.specs.RoomLaws.{NamesArena, NothingIsKept, NoFitMeansTaken, NoFitMeansTakenUp, NeverGrantedAndRefused, HasRunUp, FreedIsWhole, FirstLeaseIsServed, refusal_to}
 use Rattle.lease_machine.proofs.Repeats.{request_answer, history_of}
 use Rattle.lease_machine.proofs.Fitting.{not_known}
 use Rattle.lease_machine.proofs.Rooms.{run_serves, base_serves, plan_is}
 use Rattle.lease_machine.proofs.Freed.{span_is_run}
+use Rattle.lease_history.specs.Told.{IsKnownReply, IsKeptReply}
 
 module _ (id : RequestId) where
   abbrev refusal_with : List ℕ → List ℕ
@@ -101,7 +102,7 @@ module _ (id : RequestId) where
 serves_can : (d : Picture) → IsPicture d → (q : _) (k : ℕ) (x : TreeArena) (s : SpaceState) → slice_get d.tree k ≡ Some x → slice_get d.spaces k ≡ Some s
     → (run : Holding) (base : ℕ) → IsRun (spans_of s.arena) s.arena.allocated run → ServesIn x.quantum q run base → ¬ ¬ CanServe d k x q
 serves_can d is q k x s here at run base free serves =
-    let sound = (is.units.parts k s at).sound in
+    let sound = (is.held.units.parts k s at).sound in
     let same : s.arena.quantum ≡ x.quantum = ap (λ (p : SpacePlan). p.quantum) (plan_is d is k x s here at) in
     let own = subst (λ (n : ℕ). ServesIn n q run base) (sym same) serves in
     base_serves d k x q here (s, at, (base, run_serves s.arena sound q run base free own))
@@ -127,7 +128,7 @@ never_both old new other id l r g found =
 pub runs_up : (d : Picture) → IsPicture d → (chain : List Level) (n : ℕ) → HasRunUp d.spaces chain n → HasBaseUp d.spaces chain n
 runs_up d is [] n has = absurd has
 runs_up d is (l ∷ up) n has = elim has [
-  | inl run ↦ inl (run.0, run.1, (run.2.1, run_serves run.0.arena (is.units.parts l.id run.0 run.1).sound (plain_of n) run.2.0 run.2.1 run.2.2 run.2.3))
+  | inl run ↦ inl (run.0, run.1, (run.2.1, run_serves run.0.arena (is.held.units.parts l.id run.0 run.1).sound (plain_of n) run.2.0 run.2.1 run.2.2 run.2.3))
   | inr above ↦ inr (runs_up d is up (amount_of l up n) above)
 ]
 
@@ -152,11 +153,11 @@ none_some : (o : Option Kept) (k : Kept) → o ≡ None → o ≡ Some k → ⊥
 none_some None k none some = (let e : None ≡ Some k = some in cc)
 none_some (Some j) k none some = (let e : Some j ≡ None = none in cc)
 
-no_kept_reply : (d : Picture) (id : RequestId) (r : Reply) → KeepsNothing d.book → IsKeptReply d id r → ⊥
+no_kept_reply : (d : Picture) (id : RequestId) (r : Reply) → KeepsNothing d.book → IsKeptReply (arena_named d.tree) d.book id r → ⊥
 no_kept_reply d id r none known = none_some (account_in id.client d.book).kept (record { number = id.number; reply = known.0.reply; terms = known.0.terms }) (none id.client) known.1.kept
 
 -- with no reply kept, the answer by a number isn't `nofit`
-no_known : (d : Picture) (id : RequestId) (r : Reply) → KeepsNothing d.book → IsKnownReply d id r → reply_bytes r ≢ reply_bytes (refusal_to id NoFit)
+no_known : (d : Picture) (id : RequestId) (r : Reply) → KeepsNothing d.book → IsKnownReply (arena_named d.tree) d.book id r → reply_bytes r ≢ reply_bytes (refusal_to id NoFit)
 no_known d id (reply.Old o) none known same = (let e : 111 ≡ 114 = ap (λ xs. get_or xs 0 0) same in omega (arith, e))
 no_known d id (reply.Stale o) none known same = (let e : 115 ≡ 114 = ap (λ xs. get_or xs 0 0) same in omega (arith, e))
 no_known d id (reply.Gap o) none known same = (let e : 103 ≡ 114 = ap (λ xs. get_or xs 0 0) same in omega (arith, e))

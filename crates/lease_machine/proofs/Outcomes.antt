@@ -5,6 +5,7 @@ use Rattle.lease_terms.specs.Requests.{RequestId}
 use Rattle.lease_terms.specs.declared.refusals.Refusal.{Refusal}
 use Rattle.lease_proto.specs.declared.replies.Reply.{Reply}
 use Rattle.lease_proto.specs.declared.replies.Reply.TheVariants as reply
+use Rattle.lease_proto.specs.Requests.{again_of}
 use Rattle.lease_book.specs.Account.{Account, last_number, number_of}
 use Rattle.lease_book.specs.Answers.{IsNew, IsRepeated, IsAnswer}
 use Rattle.lease_book.specs.BookState.{BookState, account_in}
@@ -15,7 +16,6 @@ use Rattle.lease_book.specs.declared.answers.Answer.TheVariants as answer
 use Rattle.lease_history.specs.Told.{IsTellable, reply_to, reply_to_answer}
 use Rattle.lease_machine.specs.Conversations.{CanName}
 use Rattle.lease_machine.specs.Picture.{arena_named}
-use Rattle.lease_machine.specs.Replies.{again_of}
 use Rattle.lease_machine.proofs.KnownAnswers.{IsKnown}
 
 not_repeated : (book : BookState) (a : Account) (id : RequestId) (v : ReceiptState) → IsNew a id → IsRepeated book a id v → ⊥

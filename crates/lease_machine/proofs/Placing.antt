@@ -19,8 +19,8 @@ use Rattle.lease_call.specs.declared.outcomes.Outcome.{Outcome}
 use Rattle.lease_call.proofs.LawProofs.{path_under}
 use Rattle.lease_machine.specs.Chunks.{GoesBack, selected_caches, own_or_none}
 use Rattle.lease_machine.specs.Conversations.{BookDoes, RunsCall}
-use Rattle.lease_machine.specs.Held.{IsHeld, parts_in, with_parts, with_caches_of}
-use Rattle.lease_machine.specs.Picture.{AreCpus, NumberedCpu, Picture, SameSetup, is_cpu}
+use Rattle.lease_machine.specs.Held.{parts_in, with_parts, with_caches_of}
+use Rattle.lease_machine.specs.Picture.{AreCpus, NumberedCpu, Picture, SameSetup, is_cpu, IsHeld}
 use Rattle.lease_machine.proofs.CpuRows.{with_rows, round, found_then}
 use Rattle.lease_machine.proofs.FreeLaws.{free_goes_back}
 use Rattle.lease_machine.proofs.HeldLaws.{there_is, hand_is_local}

@@ -17,10 +17,9 @@ use Rattle.magazine_layer.specs.Magazines.{BothEmpty, CpuCacheState, Pops, cache
 use Rattle.magazine_layer.specs.Magazines.Pops.{Of_loaded, Of_previous}
 use Rattle.slab_layer.specs.Cache.{SlabCacheState, chunk_tag, deeds_of, idle_chunks}
 use Rattle.slab_layer.specs.Calls.{StandsAt}
-use Rattle.slab_layer.specs.Slab.{IsAllOut, IsLowestIdle, SlabState, chunk_at, deeds_in, gap_of, idle_chunks_by, items_where, tail_of}
-use Rattle.std.proofs.Common.{All, Bool, List, Some, [], ap, arith, cond, false, find, get_or, inr, length, length-append, refl, slice_get, subst, suc, sum_by, sym, true, zero, ℕ, ◌++◌, ◌+◌, ◌<◌, ◌∙◌, ◌∷◌, ◌≡◌, ◌≢◌, ◌≤◌}
+use Rattle.slab_layer.specs.Slab.{IsLowestIdle, SlabState, chunk_at, deeds_in, gap_of, idle_chunks_by, items_where, tail_of}
+use Rattle.std.proofs.Common.{Bool, List, Some, [], ap, arith, cond, false, find, get_or, inr, length, length-append, refl, slice_get, subst, suc, sum_by, sym, true, zero, ℕ, ◌++◌, ◌+◌, ◌<◌, ◌∙◌, ◌∷◌, ◌≡◌, ◌≢◌, ◌≤◌}
 use Rattle.std.proofs.lemmas.Bool.Decides.{Decides-eqb}
-use Rattle.std.proofs.lemmas.List.Elements.{All-head, All-tail}
 use Rattle.std.proofs.lemmas.List.Sums.{sum_by-append, sum_by-cons}
 use Rattle.std.specs.List.{flat_map}
 use Rattle.std.specs.Option.{option_to_list}
@@ -55,20 +54,6 @@ module _ {X : Type 0} (g : X → ℕ) where
   -- nothing weighs where there is nothing
   none_weighs : (xs : List X) (x : X) → g x ≡ 1 → g x ≤ sum_by g xs → xs ≢ []
   none_weighs xs x one le none = (let e : sum_by g xs ≡ 0 = ap (sum_by g) none in omega (arith, one, le, e))
-
-none_home : {X : Type 0} (f : ℕ → X) (i : ℕ) (xs : List Bool) → All (λ b. b ≡ false) xs → items_where (λ b. b) f i xs ≡ []
-none_home f i [] all = refl
-none_home f i (x ∷ xs) all =
-    ap (λ b. cond b (f i ∷ items_where (λ z. z) f (i + 1) xs) (items_where (λ z. z) f (i + 1) xs)) (All-head (λ b. b ≡ false) x xs all) ∙ none_home f (i + 1) xs (All-tail (λ b. b ≡ false) x xs all)
-
--- no chunk is idle where all are out
-pub none_idle : (c : SlabCacheState) → All IsAllOut c.slabs → idle_chunks c ≡ []
-none_idle c all = by c.slabs all
-  where
-    by : (ss : List SlabState) → All IsAllOut ss → flat_map (λ s. idle_chunks_by (chunk_tag c.arena c.k s) s) ss ≡ []
-    by [] all = refl
-    by (s ∷ ss) all =
-        ap (λ ts. ts ++ flat_map (λ z. idle_chunks_by (chunk_tag c.arena c.k z) z) ss) (none_home (chunk_tag c.arena c.k s) 0 s.home (All-head IsAllOut s ss all)) ∙ by ss (All-tail IsAllOut s ss all)
 
 module _ (c : SlabCacheState) (i j : ℕ) (s : SlabState) (stands : StandsAt i s c.slabs) (idle : IsLowestIdle j s.home) where
   -- one is where one is at home

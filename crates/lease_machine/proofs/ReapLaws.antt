@@ -16,10 +16,10 @@ use Rattle.local_calls.specs.Looks.{finds_in_spaces}
 use Rattle.local_calls.specs.Reaped.{HasNoneToReap, NoneToReap}
 use Rattle.local_calls.specs.Runs.{RunsTo}
 use Rattle.local_calls.proofs.LawProofs.{reap_leaves_nothing, reap_takes_few_looks}
-use Rattle.lease_machine.specs.Held.{IsHeld, with_parts}
+use Rattle.lease_machine.specs.Held.{with_parts}
 use Rattle.lease_machine.specs.Moves.{ReturnAll, arenas_with, outlines_of, slab_outlines}
 use Rattle.lease_machine.specs.Operators.{IsReapedOut, PartsAlone, ReapsAll, after_reap, cached_units, depots_of, depots_after_reap, outlines_after_reap, slabs_after_reap, spans_of_cache, spans_to_go}
-use Rattle.lease_machine.specs.Picture.{NumberedCpu, Picture, SameSetup, held_outside, is_cpu}
+use Rattle.lease_machine.specs.Picture.{NumberedCpu, Picture, SameSetup, held_outside, is_cpu, IsHeld}
 use Rattle.lease_machine.specs.ReapLaws.{ReapedTo, ReapReaps, ReapsNone, ReapsSome, ReapingsAdd}
 use Rattle.lease_machine.proofs.CachedUnits.{units_gone}
 use Rattle.lease_machine.proofs.FreeLaws.{cpus_same, parts_are, selected_then}

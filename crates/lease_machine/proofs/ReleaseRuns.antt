@@ -22,10 +22,10 @@ use Rattle.lease_call.specs.declared.call_faults.NotReleased.TheVariants as rele
 use Rattle.lease_call.specs.declared.outcomes.Outcome.TheVariants.{Settled, Answered}
 use Rattle.lease_history.specs.Told.{IsTellable, reply_to}
 use Rattle.lease_machine.specs.Conversations.{BookDoes, RunsCall, AnswersRequest}
-use Rattle.lease_machine.specs.Held.{IsHeld, parts_in, with_parts}
+use Rattle.lease_machine.specs.Held.{parts_in, with_parts}
 use Rattle.lease_machine.specs.Machine.{RequestStep}
-use Rattle.lease_machine.specs.Picture.{Picture, IsPicture, arena_named}
-use Rattle.lease_machine.proofs.BookMoves.{picture_of, released_in_hand, released_book}
+use Rattle.lease_machine.specs.Picture.{Picture, IsPicture, arena_named, IsHeld}
+use Rattle.lease_machine.proofs.BookMoves.{released_in_hand, released_book}
 use Rattle.lease_machine.proofs.Ending.{Ends, ended, alone, answered_ends, refusal_ends}
 use Rattle.lease_machine.proofs.HeldLaws.{hand_is_local}
 use Rattle.lease_machine.proofs.Placing.{placed_told}
@@ -77,7 +77,7 @@ module _ (D : Type 0) (d : Picture) (id : RequestId) (l : ReleaseLine) (is : IsP
                     },
                   ),
                 ));
-            picture = picture_of new back.held (released_book d b id arena l.base v t released is);
+            picture = record { held = back.held; book = released_book d b id arena l.base v t released is };
             setup = record { tree = back.setup.tree; owned = back.setup.owned };
           })
 

@@ -16,19 +16,18 @@ use Rattle.lease_proto.specs.declared.replies.Reply.{Reply}
 use Rattle.lease_proto.specs.declared.replies.Reply.TheVariants as reply
 use Rattle.lease_proto.specs.Frames.{Frame}
 use Rattle.lease_proto.specs.Operators.{served_of}
-use Rattle.lease_proto.specs.Requests.{client_of}
+use Rattle.lease_proto.specs.Requests.{client_of, demand_of}
 use Rattle.lease_book.specs.Entry.{Entry, Settlement, Settled, Hello, Swept, Grant, Refuse, Return, kept_settlement, subject_of}
 use Rattle.lease_book.specs.Receipts.{Kept}
 use Rattle.lease_book.specs.Account.{Account, number_of}
 use Rattle.lease_book.specs.BookState.{BookState, HasHistory, Enters, account_in}
 use Rattle.lease_book.specs.Answers.{IsNew}
 use Rattle.lease_book.proofs.LawProofs.{entered_changes}
-use Rattle.lease_history.specs.Told.{reply_to}
+use Rattle.lease_history.specs.Told.{reply_to, IsKnownReply, IsKeptReply}
 use Rattle.arena_tree.specs.declared.trees.TreeArena.{TreeArena}
 use Rattle.lease_machine.specs.Picture.{Picture, IsPicture, arena_named}
-use Rattle.lease_machine.specs.Replies.{IsKnownReply, IsKeptReply}
 use Rattle.lease_machine.specs.Operators.{Performs, LeavesOff, OperatorStep}
-use Rattle.lease_machine.specs.Machine.{RequestStep, NewRequest, Sweeps, HelloStep, ClientStep, AnswersLine, LeaseStep, demand_of}
+use Rattle.lease_machine.specs.Machine.{RequestStep, NewRequest, Sweeps, HelloStep, ClientStep, AnswersLine, LeaseStep}
 use Rattle.lease_machine.specs.Laws.{Runs}
 use Rattle.lease_machine.specs.AnswerLaws.{reply_bytes, IsKept, IsRequestLine, AreOfOthers, LinesRepeat}
 use Rattle.lease_machine.proofs.Homes.{setup_stays}
@@ -57,13 +56,13 @@ pub not_new : (book : BookState) (id : RequestId) (k : Kept) → IsLast book id 
 not_new book id k is new_number = omega (arith, new_number.next, is.number, ap (λ (o : Option Kept). number_of o) is.last)
 
 -- the reply to it
-by_kept : (d : Picture) (id : RequestId) (k : Kept) (r : Reply) → IsLast d.book id k → IsKeptReply d id r → r ≡ reply_to (arena_named d.tree) id k.reply
+by_kept : (d : Picture) (id : RequestId) (k : Kept) (r : Reply) → IsLast d.book id k → IsKeptReply (arena_named d.tree) d.book id r → r ≡ reply_to (arena_named d.tree) id k.reply
 by_kept d id k r is known =
     let e : Some k ≡ Some (record { number = id.number; reply = known.0.reply; terms = known.0.terms }) = sym is.last ∙ known.1.kept in
     let same : k ≡ record { number = id.number; reply = known.0.reply; terms = known.0.terms } = cc in
     known.2 ∙ sym (ap (λ (x : Kept). reply_to (arena_named d.tree) id x.reply) same)
 
-kept_again : (d : Picture) (id : RequestId) (k : Kept) (r : Reply) → IsLast d.book id k → IsKnownReply d id r → r ≡ reply_to (arena_named d.tree) id k.reply
+kept_again : (d : Picture) (id : RequestId) (k : Kept) (r : Reply) → IsLast d.book id k → IsKnownReply (arena_named d.tree) d.book id r → r ≡ reply_to (arena_named d.tree) id k.reply
 kept_again d id k (reply.Old o) is known = absurd (known.1.other is.current)
 kept_again d id k (reply.Stale o) is known = absurd (omega (arith, known.1.last, known.1.below, is.number, ap (λ (o : Option Kept). number_of o) is.last))
 kept_again d id k (reply.Gap o) is known = absurd (omega (arith, known.1.last, known.1.above, is.number, ap (λ (o : Option Kept). number_of o) is.last))
@@ -81,13 +80,13 @@ request_again d new id op k r is step = elim step [
 ]
 
 -- a reply that is kept is of the last number
-pub known_last : (d : Picture) (id : RequestId) (r : Reply) → IsKept r → IsKnownReply d id r → (k : Kept) × IsLast d.book id k × (r ≡ reply_to (arena_named d.tree) id k.reply)
+pub known_last : (d : Picture) (id : RequestId) (r : Reply) → IsKept r → IsKnownReply (arena_named d.tree) d.book id r → (k : Kept) × IsLast d.book id k × (r ≡ reply_to (arena_named d.tree) id k.reply)
 known_last d id r is known = by r is known
   where
-    at : (x : Reply) → IsKeptReply d id x → (k : Kept) × IsLast d.book id k × (x ≡ reply_to (arena_named d.tree) id k.reply)
+    at : (x : Reply) → IsKeptReply (arena_named d.tree) d.book id x → (k : Kept) × IsLast d.book id k × (x ≡ reply_to (arena_named d.tree) id k.reply)
     at x known = (record { number = id.number; reply = known.0.reply; terms = known.0.terms }, record { current = known.1.current; last = known.1.kept; number = refl }, known.2)
 
-    by : (x : Reply) → IsKept x → IsKnownReply d id x → (k : Kept) × IsLast d.book id k × (x ≡ reply_to (arena_named d.tree) id k.reply)
+    by : (x : Reply) → IsKept x → IsKnownReply (arena_named d.tree) d.book id x → (k : Kept) × IsLast d.book id k × (x ≡ reply_to (arena_named d.tree) id k.reply)
     by (reply.Granted g) is known = at (reply.Granted g) known
     by (reply.Released g) is known = at (reply.Released g) known
     by (reply.Refused g) is known = at (reply.Refused g) known

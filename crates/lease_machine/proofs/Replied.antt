@@ -21,6 +21,7 @@ use Rattle.lease_proto.specs.Operators.{served_of}
 use Rattle.lease_proto.specs.Replies.{reply_text, IsReply}
 use Rattle.lease_proto.specs.Texts.{IsLine}
 use Rattle.lease_proto.proofs.LawProofs.{lines_are_texts, clients_are_served, replies_are_texts}
+use Rattle.lease_proto.specs.Requests.{again_of}
 use Rattle.lease_book.specs.declared.receipts.KeptReply.{KeptReply}
 use Rattle.lease_book.specs.declared.receipts.KeptReply.TheVariants as kept
 use Rattle.lease_book.specs.Account.{number_of}
@@ -28,9 +29,8 @@ use Rattle.lease_book.specs.BookState.{account_in}
 use Rattle.lease_book.specs.ClientLaws.{IsReplyInRange, IsInBounds}
 use Rattle.lease_book.specs.Receipts.{Kept}
 use Rattle.lease_book.proofs.LawProofs.{books_in_bounds}
-use Rattle.lease_history.specs.Told.{reply_to}
+use Rattle.lease_history.specs.Told.{reply_to, IsKnownReply}
 use Rattle.lease_machine.specs.Picture.{Picture, IsPicture, arena_named, name_or_none}
-use Rattle.lease_machine.specs.Replies.{IsKnownReply, again_of}
 use Rattle.lease_machine.specs.Machine.{NewLease, NewRelease, NewRequest, RequestStep, HelloStep}
 use Rattle.lease_machine.specs.AnswerLaws.{reply_bytes, IsKept, IsReadAs, AreNamed, ClientsGetReplies, NamesHello}
 use Rattle.lease_machine.proofs.Repeats.{history_of, request_kept, kept_or}
@@ -69,7 +69,7 @@ kept_valid d is named id is_id k last = by k.reply refl
 
 module _ (old new : Picture) (is : IsPicture old) (is_new : IsPicture new) (tree : new.tree ≡ old.tree) (named : AreNamed old.tree) where
   module _ (id : RequestId) (is_id : IsRequestId id) where
-    known_valid : (r : Reply) → ¬ IsKept r → IsKnownReply old id r → IsReply r
+    known_valid : (r : Reply) → ¬ IsKept r → IsKnownReply (arena_named old.tree) old.book id r → IsReply r
     known_valid (reply.Old o) not known =
         (subst IsClient (sym known.0) is_id.client, subst IsQuantity (sym known.1.named) (bounds old is id.client).incarnation)
     known_valid (reply.Stale o) not known =

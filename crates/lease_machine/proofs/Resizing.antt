@@ -164,14 +164,16 @@ module _ (m : ℕ) (taken : IsSize m) where
   module _ (d : Picture) (is : IsPicture d) (index : ℕ) (s : SpaceState) (at : slice_get d.spaces index ≡ Some s) where
     picture_stays : IsPicture (record d { spaces = spaces_then d.spaces index s at })
     picture_stays = record {
-      tree = is.tree;
-      plans = plans_stay d.spaces index s at ∙ is.plans;
-      units = units_stay d.spaces index s at (held_outside d) is.units;
-      cpus = record {
-        each = subst (λ (ps : List SpacePlan). All (λ c. IsCpu c.number × (own_indexes c.caches ≡ indexes_from 0 ps)) d.cpus) (sym (plans_stay d.spaces index s at)) is.cpus.each;
-        shapes = λ i c below j o within. shape_stays d.spaces index s at _ (is.cpus.shapes i c below j o within);
-        numbers = is.cpus.numbers;
-        there = is.cpus.there;
+      held = record {
+        tree = is.held.tree;
+        plans = plans_stay d.spaces index s at ∙ is.held.plans;
+        units = units_stay d.spaces index s at (held_outside d) is.held.units;
+        cpus = record {
+          each = subst (λ (ps : List SpacePlan). All (λ c. IsCpu c.number × (own_indexes c.caches ≡ indexes_from 0 ps)) d.cpus) (sym (plans_stay d.spaces index s at)) is.held.cpus.each;
+          shapes = λ i c below j o within. shape_stays d.spaces index s at _ (is.held.cpus.shapes i c below j o within);
+          numbers = is.held.cpus.numbers;
+          there = is.held.cpus.there;
+        };
       };
       book = is.book;
     }

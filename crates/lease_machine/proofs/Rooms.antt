@@ -86,7 +86,7 @@ run_serves a sound q r base run serves =
 
 -- an arena is what it was set up as
 pub plan_is : (d : Picture) → IsPicture d → (k : ℕ) (x : TreeArena) (s : SpaceState) → slice_get d.tree k ≡ Some x → slice_get d.spaces k ≡ Some s → plan_of s ≡ plan_for x
-plan_is d is k x s here at = by d.spaces d.tree k is.plans here at
+plan_is d is k x s here at = by d.spaces d.tree k is.held.plans here at
   where
     by : (spaces : List SpaceState) (tree : List TreeArena) (k : ℕ) → plans_of spaces ≡ plans_for tree → slice_get tree k ≡ Some x → slice_get spaces k ≡ Some s → plan_of s ≡ plan_for x
     by [] tree k same here at = absurd (let e : None ≡ Some s = at in cc)

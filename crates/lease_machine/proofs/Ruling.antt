@@ -23,9 +23,9 @@ use Rattle.lease_history.specs.Told.{reply_to}
 use Rattle.lease_machine.specs.Picture.{Picture, IsPicture, arena_named}
 use Rattle.local_calls.specs.NoFits.{HasBase}
 use Rattle.lease_proto.specs.Operators.{served_of}
+use Rattle.lease_proto.specs.Requests.{demand_of}
 use Rattle.lease_machine.specs.Serving.{CanServe}
-use Rattle.lease_machine.specs.Replies.{SettlesRefusal}
-use Rattle.lease_machine.specs.Machine.{NewLease, NewRelease, NewRequest, RefusesLease, RefusesRelease, RequestStep, HelloStep, demand_of}
+use Rattle.lease_machine.specs.Machine.{NewLease, NewRelease, NewRequest, RefusesLease, RefusesRelease, RequestStep, HelloStep, SettlesRefusal}
 use Rattle.lease_machine.specs.AnswerLaws.{IsKept}
 use Rattle.lease_machine.specs.LeaseLaws.{grant_told}
 use Rattle.lease_machine.specs.RoomLaws.{HasRun}
@@ -46,7 +46,7 @@ nothing_serves old index x l is here none = record {
 }
   where
     base : HasRun old.spaces index (demand_of l) → HasBase old.spaces index (demand_of l)
-    base (s, at, (run, first, free, serves)) = (s, at, (first, run_serves s.arena (is.units.parts index s at).sound (demand_of l) run first free serves))
+    base (s, at, (run, first, free, serves)) = (s, at, (first, run_serves s.arena (is.held.units.parts index s at).sound (demand_of l) run first free serves))
 
 why_no_lease : (id : RequestId) (l : LeaseLine) (old new : Picture) → IsPicture old → (why : Refusal) → RefusesLease id l old new why → WhyNoLease id l old why
 why_no_lease id l old new is NoArena does = does.0

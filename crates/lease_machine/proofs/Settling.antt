@@ -1,7 +1,6 @@
 -- A new request that is refused has an answer: its refusal is entered, and nothing else changes.
 use Rattle.std.proofs.Common.{◌≡◌, ℕ, ◌+◌, Bool, true, false, cond, ◌==◌, refl, sym, subst, ap, ◌∙◌, inl, inr, List, [], ◌∷◌, ◌++◌, map, Some, Result}
 use Rattle.std.proofs.lemmas.Bool.{cases_eq}
-use Rattle.std.specs.List.{flat_map}
 use Rattle.deed_core.specs.Tag.{Tag}
 use Rattle.lease_terms.specs.Requests.{RequestId, IsRequestId}
 use Rattle.lease_terms.specs.declared.refusals.Refusal.{Refusal}
@@ -18,14 +17,12 @@ use Rattle.lease_book.specs.BookState.{BookState, Enters, IsHistory, account_in,
 use Rattle.lease_book.specs.Entry.{Entry, Refuse, Settled, kept_settlement}
 use Rattle.lease_book.specs.History.{AreOrderly, account, clients_of, leases_of}
 use Rattle.lease_book.proofs.LawProofs.{account_is, settled_changes}
-use Rattle.stock_audit.specs.Accounted.{IsAccountedFor}
-use Rattle.stock_audit.specs.Outside.{outside}
-use Rattle.lease_machine.specs.Picture.{Picture, IsPicture, caches_of}
-use Rattle.lease_machine.specs.Machine.{AnswersLine, NewRequest, RefusesLease}
-use Rattle.lease_machine.specs.Replies.{SettlesRefusal}
+use Rattle.lease_machine.specs.Picture.{Picture, IsPicture}
+use Rattle.lease_machine.specs.Machine.{AnswersLine, NewRequest, RefusesLease, SettlesRefusal}
 use Rattle.lease_machine.specs.RoomLaws.{refusal_to}
 use Rattle.lease_machine.specs.AnswerLaws.{reply_bytes}
 use Rattle.lease_machine.specs.StepLaws.{RefusesStill, RefusalsAreAnswered}
+use Rattle.lease_machine.proofs.BookMoves.{same_leases}
 use Rattle.lease_machine.proofs.Replied.{line_is}
 
 map_same : (f g : ℕ → Account) (xs : List ℕ) → ((x : ℕ) → f x ≡ g x) → map f xs ≡ map g xs
@@ -104,10 +101,7 @@ module _ (d : Picture) (is : IsPicture d) (id : RequestId) (in_range : IsRequest
 
   picture : IsPicture then_d
   picture = record {
-    tree = is.tree;
-    plans = is.plans;
-    units = subst (λ (ts : List Tag). IsAccountedFor d.spaces (outside [] ts (flat_map caches_of d.cpus))) (sym leases_same) is.units;
-    cpus = is.cpus;
+    held = same_leases d after_book [] leases_same is.held;
     book = record { entries = entry ∷ is.book.entries; history = enters.history is.book.entries is.book.history; possible = (tt, is.book.possible) };
   }
 

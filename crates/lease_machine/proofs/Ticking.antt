@@ -109,14 +109,16 @@ module _ (d : Picture) (is : IsPicture d) where
 
   picture_stays : IsPicture after
   picture_stays = record {
-    tree = is.tree;
-    plans = plans_same d.spaces ∙ is.plans;
-    units = units_stay d.spaces (held_outside d) is.units;
-    cpus = record {
-      each = subst (λ (ps : List SpacePlan). All (λ c. IsCpu c.number × (own_indexes c.caches ≡ indexes_from 0 ps)) d.cpus) (sym (plans_same d.spaces)) is.cpus.each;
-      shapes = λ i c below j o within. shape_stays d.spaces _ (is.cpus.shapes i c below j o within);
-      numbers = is.cpus.numbers;
-      there = is.cpus.there;
+    held = record {
+      tree = is.held.tree;
+      plans = plans_same d.spaces ∙ is.held.plans;
+      units = units_stay d.spaces (held_outside d) is.held.units;
+      cpus = record {
+        each = subst (λ (ps : List SpacePlan). All (λ c. IsCpu c.number × (own_indexes c.caches ≡ indexes_from 0 ps)) d.cpus) (sym (plans_same d.spaces)) is.held.cpus.each;
+        shapes = λ i c below j o within. shape_stays d.spaces _ (is.held.cpus.shapes i c below j o within);
+        numbers = is.held.cpus.numbers;
+        there = is.held.cpus.there;
+      };
     };
     book = is.book;
   }

@@ -15,8 +15,8 @@ use Rattle.lease_machine.proofs.FreeLaws.{cpus_same, fits_before, parts_are, see
 use Rattle.lease_machine.proofs.HeldLaws.{Everywhere, FitsIn, hands_of, held_then, reach, same_setup, there_is}
 use Rattle.lease_machine.proofs.Lasting.{all_last, run_lasts}
 use Rattle.lease_machine.specs.CallLaws.{IsCarvedFor, XallocCarves}
-use Rattle.lease_machine.specs.Held.{IsHeld, with_caches_of, with_parts}
-use Rattle.lease_machine.specs.Picture.{NumberedCpu, Picture, SameSetup, is_cpu}
+use Rattle.lease_machine.specs.Held.{with_caches_of, with_parts}
+use Rattle.lease_machine.specs.Picture.{NumberedCpu, Picture, SameSetup, is_cpu, IsHeld}
 use Rattle.local_calls.specs.Runs.{RunsTo}
 use Rattle.local_parts.proofs.LawProofs.{plan_conserves, plan_keeps_setup, plan_keeps_stock}
 use Rattle.local_parts.specs.SharedSteps.{DoesCarve}

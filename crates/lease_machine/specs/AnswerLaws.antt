@@ -24,14 +24,14 @@ use Rattle.lease_proto.specs.declared.replies.Reply.TheVariants as reply
 use Rattle.lease_proto.specs.Frames.{Frame, with_line_feed}
 use Rattle.lease_proto.specs.Operators.{served_of}
 use Rattle.lease_proto.specs.Replies.{reply_of, reply_text}
-use Rattle.lease_proto.specs.Requests.{client_of, request_named}
+use Rattle.lease_proto.specs.Requests.{client_of, request_named, demand_of}
 use Rattle.lease_book.specs.Receipts.{Kept}
 use Rattle.lease_book.specs.BookState.{account_in}
 use Rattle.lease_book.specs.Answers.{IsNew}
 use Rattle.lease_book.specs.declared.receipts.Terms.{Terms}
 use Rattle.lease_book.specs.declared.receipts.KeptReply.TheVariants as kept
 use Rattle.lease_machine.specs.Picture.{NumberedCpu, Picture, IsPicture, Finds, is_cpu, caches_of}
-use Rattle.lease_machine.specs.Machine.{LeaseStep, Grants, demand_of}
+use Rattle.lease_machine.specs.Machine.{LeaseStep, Grants}
 use Rattle.lease_machine.specs.Laws.{Runs}
 
 -- the bytes of a reply, as they are written

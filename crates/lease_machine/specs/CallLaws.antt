@@ -19,11 +19,11 @@ use Rattle.quantum_cache.specs.Frees.{free_plan}
 use Rattle.stock.specs.Spaces.{SpaceState}
 use Rattle.local_parts.specs.States.{LocalState}
 use Rattle.local_calls.specs.Runs.{IsLocalOf, IsAccountedWith, RunsTo}
-use Rattle.lease_machine.specs.Picture.{NumberedCpu, Picture, SameSetup, is_cpu}
+use Rattle.lease_machine.specs.Picture.{NumberedCpu, Picture, SameSetup, is_cpu, IsHeld}
 use Rattle.lease_machine.specs.Chunks.{GoesBack}
 use Rattle.lease_machine.specs.Serving.{IsCachedIn, CanServe, ServesWith, ServesNone, FallsBack}
 use Rattle.lease_machine.specs.Operators.{GoesOffline, after_renewal}
-use Rattle.lease_machine.specs.Held.{IsHeld, parts_in, with_parts}
+use Rattle.lease_machine.specs.Held.{parts_in, with_parts}
 
 -- the parts that the selected CPU reaches are set up by the tree, and their accounts balance
 abbrev pub HeldIsLocal : Type 0

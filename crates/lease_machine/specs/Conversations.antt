@@ -11,6 +11,7 @@ use Rattle.lease_proto.specs.declared.lines.Op.{Op}
 use Rattle.lease_proto.specs.declared.lines.HelloLine.{HelloLine}
 use Rattle.lease_proto.specs.declared.replies.Reply.{Reply}
 use Rattle.lease_proto.specs.declared.replies.Reply.TheVariants as reply
+use Rattle.lease_proto.specs.Requests.{again_of}
 use Rattle.local_parts.specs.States.{LocalState}
 use Rattle.local_calls.specs.Runs.{SoundStep}
 use Rattle.lease_call.specs.BookEvents.{BookEvent}
@@ -26,7 +27,6 @@ use Rattle.lease_history.specs.Told.{IsTellable, reply_to, reply_to_answer, hell
 use Rattle.lease_machine.specs.Held.{parts_in, with_parts}
 use Rattle.lease_machine.specs.Machine.{RequestStep, HelloStep}
 use Rattle.lease_machine.specs.Picture.{Picture, IsPicture, SameSetup, arena_named}
-use Rattle.lease_machine.specs.Replies.{again_of}
 
 -- a call of the book is its event, and nothing stops; the parts stay
 abbrev pub BookDoes : (D : Type 0) → BookState → LocalState → (k : BookCall) → AnswerOf D k

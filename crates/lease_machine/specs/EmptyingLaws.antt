@@ -12,11 +12,11 @@ use Rattle.lease_proto.specs.declared.operators.OperatorLine.TheVariants as oper
 use Rattle.lease_proto.specs.declared.operators.ServedLine.TheVariants as served
 use Rattle.lease_proto.specs.Faults.{error_text}
 use Rattle.lease_proto.specs.Operators.{served_of}
+use Rattle.lease_proto.specs.Requests.{demand_of, again_of}
 use Rattle.lease_machine.specs.Picture.{NumberedCpu, Picture, Finds, caches_of}
 use Rattle.lease_machine.specs.Operators.{IsReapedOut}
 use Rattle.lease_machine.specs.Serving.{CanServe}
-use Rattle.lease_machine.specs.Replies.{again_of}
-use Rattle.lease_machine.specs.Machine.{LeaseStep, demand_of}
+use Rattle.lease_machine.specs.Machine.{LeaseStep}
 use Rattle.lease_machine.specs.AnswerLaws.{reply_bytes, IsRequestLine}
 use Rattle.lease_machine.specs.RoomLaws.{NothingIsKept}
 

@@ -3,7 +3,6 @@ pub mod Moves
 pub mod Chunks
 pub mod Held
 pub mod Serving
-pub mod Replies
 pub mod Operators
 pub mod Machine
 pub mod Laws

@@ -4,7 +4,6 @@ use Rattle.std.specs.Prelude.{Result, Ok, Err}
 use Rattle.std.specs.List.{find}
 use Rattle.deed_core.specs.Tag.{Tag}
 use Rattle.deed_core.specs.Request.{IsGood}
-use Rattle.deed_core.specs.declared.requests.Request.{Request}
 use Rattle.arena_tree.specs.declared.trees.TreeArena.{TreeArena}
 use Rattle.arena_tree.specs.Trees.{index_in}
 use Rattle.lease_terms.specs.Requests.{RequestId}
@@ -27,30 +26,21 @@ use Rattle.lease_proto.specs.Faults.{error_line}
 use Rattle.lease_proto.specs.Frames.{with_line_feed}
 use Rattle.lease_proto.specs.Operators.{served_of}
 use Rattle.lease_proto.specs.Replies.{reply_text}
+use Rattle.lease_proto.specs.Requests.{demand_of, again_of}
 use Rattle.lease_book.specs.Account.{is_lease}
 use Rattle.lease_book.specs.Receipts.{ReceiptState}
-use Rattle.lease_book.specs.Entry.{Hello, Grant}
+use Rattle.lease_book.specs.Entry.{Hello, Grant, Refuse}
 use Rattle.lease_book.specs.BookState.{BookState, Enters, account_in, leased_segments}
 use Rattle.lease_book.specs.Answers.{IsNew}
-use Rattle.lease_book.specs.Calls.{IsGranted, IsReleased, IsSwept}
+use Rattle.lease_book.specs.Calls.{IsGranted, IsRefused, IsReleased, IsSwept}
 use Rattle.lease_book.specs.declared.books.TheConstants.{MOST_LEASES}
+use Rattle.lease_history.specs.Told.{IsKnownReply, reply_of_settled}
 use Rattle.lease_machine.specs.Picture.{Picture, IsPicture, SameSetup, BookAlone, Finds}
+use Rattle.lease_machine.specs.Picture.{arena_named}
 use Rattle.lease_machine.specs.Moves.{SameNames}
 use Rattle.lease_machine.specs.Chunks.{GoesBack}
 use Rattle.lease_machine.specs.Serving.{CanServe, ServesWith, ServesNone, ServesInVain, FallsBack}
-use Rattle.lease_machine.specs.Replies.{IsKnownReply, SettlesRefusal, reply_of_settled, again_of}
 use Rattle.lease_machine.specs.Operators.{OperatorStep}
-
--- what a lease asks of its arena
-abbrev pub demand_of : LeaseLine → Request
-demand_of l = record {
-  size = l.size;
-  align = l.options.align;
-  phase = l.options.phase;
-  nocross = l.options.nocross;
-  min = l.options.min;
-  max = l.options.max;
-}
 
 -- the arena that the line names takes its request
 pub record TakesDemand (d : Picture) (l : LeaseLine) (index : ℕ) (x : TreeArena) : Type 0 where
@@ -68,7 +58,7 @@ pub record Grants (id : RequestId) (l : LeaseLine) (old new : Picture) (r : Repl
   pub receipt : ReceiptState
   pub granted : IsGranted old.book new.book id segment
       (record { quantum = arena.quantum; request = demand_of l }) receipt
-  pub reply : r ≡ reply_of_settled old id
+  pub reply : r ≡ reply_of_settled (arena_named old.tree) id
       (Grant segment (record { quantum = arena.quantum; request = demand_of l }))
 
 -- why a new lease is refused: the first of these that is so
@@ -92,6 +82,13 @@ pub record MissesLease (id : RequestId) (l : LeaseLine) (old new : Picture) : Ty
   pub back : FallsBack index arena (demand_of l) old new
   pub names : SameNames old new
   pub book : new.book ≡ old.book
+
+-- the new request is settled by a refusal
+pub record SettlesRefusal (id : RequestId) (why : Refusal) (old new : Picture) (r : Reply)
+    : Type 0 where
+  pub receipt : ReceiptState
+  pub refused : IsRefused old.book new.book id why receipt
+  pub reply : r ≡ reply_of_settled (arena_named old.tree) id (Refuse why)
 
 -- the answer to a new lease
 abbrev pub NewLease : RequestId → LeaseLine → Picture → Picture → Reply → Type 0
@@ -135,7 +132,7 @@ NewRequest id (ops.Release l) old new r = NewRelease id l old new r
 -- the answer to a request: by its number, with nothing changed, or, where that is new, what the
 -- request comes to
 abbrev pub RequestStep : RequestId → Op → Picture → Picture → Reply → Type 0
-RequestStep id op old new r = (IsKnownReply old id r × (new ≡ old))
+RequestStep id op old new r = (IsKnownReply (arena_named old.tree) old.book id r × (new ≡ old))
     ⊎ (IsNew (account_in id.client old.book) id × NewRequest id op old new r)
 
 -- these leases of older incarnations of the client ended one after another, and went back

@@ -3,6 +3,7 @@ use Rattle.std.specs.Prelude.{◌≡◌, ◌≢◌, ℕ, ◌≤◌, ◌==◌, Bo
 use Rattle.std.specs.Prelude.{map, slice_get, Option, Some, None}
 use Rattle.std.specs.List.{find, flat_map, AllByRecursion}
 use Rattle.deed_core.specs.Holding.{Holding}
+use Rattle.deed_core.specs.Tag.{Tag}
 use Rattle.arena_tree.specs.declared.trees.TreeArena.{TreeArena}
 use Rattle.arena_tree.specs.Trees.{IsTree, index_in}
 use Rattle.magazine_layer.specs.Magazines.{IsShaped}
@@ -37,9 +38,13 @@ is_cpu n c = c.number == n
 abbrev pub caches_of : NumberedCpu → List OwnCacheState
 caches_of c = flat_map (λ row. row) c.caches
 
--- what is out of the parts: leases, and rounds of CPUs
+-- what is out of the parts: in hands, leased, and in the caches of CPUs
+abbrev pub outside_with : List Tag → Picture → Outside
+outside_with hands d = outside hands (leased_segments d.book) (flat_map caches_of d.cpus)
+
+-- the same with nothing in a hand
 abbrev pub held_outside : Picture → Outside
-held_outside d = outside [] (leased_segments d.book) (flat_map caches_of d.cpus)
+held_outside d = outside_with [] d
 
 -- a CPU with no round, whose magazines are of the least size
 abbrev pub fresh_cpu : ℕ → List SpaceState → NumberedCpu
@@ -86,14 +91,18 @@ pub record AreCpus (spaces : List SpaceState) (cpus : List NumberedCpu) (selecte
   pub numbers : AllPairs (λ a b. a.number ≢ b.number) cpus
   pub there : find (is_cpu selected) cpus ≢ None
 
--- What is so between any two lines: the stock is set up as the tree says; each unit is accounted
--- for, nothing being in a hand; the free ranges of each arena are the longest runs; and the book is
--- what is read off what happened to it.
-pub record IsPicture (d : Picture) : Type 0 where
+-- What is so while hands hold these segments: the stock is set up as the tree says; each unit is
+-- accounted for; and the free ranges of each arena are the longest runs.
+pub record IsHeld (hands : List Tag) (d : Picture) : Type 0 where
   pub tree : IsTree d.tree
   pub plans : plans_of d.spaces ≡ plans_for d.tree
-  pub units : IsAccountedFor d.spaces (held_outside d)
+  pub units : IsAccountedFor d.spaces (outside_with hands d)
   pub cpus : AreCpus d.spaces d.cpus d.selected
+
+-- What is so between any two lines: nothing is in a hand, and the book is what is read off what
+-- happened to it.
+pub record IsPicture (d : Picture) : Type 0 where
+  pub held : IsHeld [] d
   pub book : IsBookOf d.tree d.book
 
 -- the spans that an arena owns

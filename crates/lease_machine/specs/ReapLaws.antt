@@ -8,11 +8,11 @@ use Rattle.stock.specs.Spaces.{SpaceState}
 use Rattle.local_parts.specs.States.{LocalState}
 use Rattle.local_calls.specs.Looks.{finds_in_spaces}
 use Rattle.local_calls.specs.Runs.{RunsTo}
-use Rattle.lease_machine.specs.Picture.{Picture, SameSetup}
+use Rattle.lease_machine.specs.Picture.{Picture, SameSetup, IsHeld}
 use Rattle.lease_machine.specs.Moves.{ReturnAll, arenas_with}
 use Rattle.lease_machine.specs.Operators.{PartsAlone, ReapsAll, cached_units, depots_after_reap}
 use Rattle.lease_machine.specs.Operators.{outlines_after_reap, spans_to_go}
-use Rattle.lease_machine.specs.Held.{IsHeld, parts_in, with_parts}
+use Rattle.lease_machine.specs.Held.{parts_in, with_parts}
 
 -- What a reaping comes to that may have been broken off: so many units of whole slabs went, the
 -- first of those that go. Of depots and slabs it leaves what is left when all is reaped.

@@ -25,11 +25,12 @@ use Rattle.lease_proto.specs.declared.operators.ServedLine.TheVariants as served
 use Rattle.lease_proto.specs.declared.replies.Reply.{Reply}
 use Rattle.lease_proto.specs.declared.replies.Reply.TheVariants as reply
 use Rattle.lease_proto.specs.Operators.{served_of}
+use Rattle.lease_proto.specs.Requests.{demand_of}
 use Rattle.lease_book.specs.BookState.{leased_segments, account_in}
 use Rattle.lease_book.specs.Answers.{IsNew}
 use Rattle.lease_machine.specs.Picture.{Picture, IsPicture, Finds, held_outside}
 use Rattle.local_calls.specs.NoFits.{HasBaseUp}
-use Rattle.lease_machine.specs.Machine.{LeaseStep, Grants, demand_of}
+use Rattle.lease_machine.specs.Machine.{LeaseStep, Grants}
 use Rattle.lease_machine.specs.AnswerLaws.{reply_bytes, IsRequestLine}
 
 -- the request is refused so

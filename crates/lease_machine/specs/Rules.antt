@@ -28,19 +28,18 @@ use Rattle.lease_proto.specs.declared.replies.Reply.TheVariants as reply
 use Rattle.lease_proto.specs.Faults.{error_line}
 use Rattle.lease_proto.specs.Frames.{Frame}
 use Rattle.lease_proto.specs.Operators.{served_of}
-use Rattle.lease_proto.specs.Requests.{client_of}
+use Rattle.lease_proto.specs.Requests.{client_of, demand_of, again_of}
 use Rattle.lease_book.specs.Account.{Account, lease_of}
 use Rattle.lease_book.specs.Receipts.{Kept}
 use Rattle.lease_book.specs.BookState.{account_in, leased_segments}
 use Rattle.lease_book.specs.Answers.{IsNew}
 use Rattle.lease_book.specs.declared.books.TheConstants.{MOST_LEASES}
-use Rattle.lease_history.specs.Told.{reply_to}
+use Rattle.lease_history.specs.Told.{reply_to, IsKnownReply}
 use Rattle.lease_proto.specs.Serving.{ServesLines}
 use Rattle.lease_machine.specs.Picture.{Picture, IsPicture, Finds, SameSetup, arena_named}
 use Rattle.lease_machine.specs.Serving.{CanServe}
 use Rattle.lease_machine.specs.Operators.{OperatorStep}
-use Rattle.lease_machine.specs.Replies.{IsKnownReply, again_of}
-use Rattle.lease_machine.specs.Machine.{LeaseStep, TakesDemand, RefusesRelease, demand_of}
+use Rattle.lease_machine.specs.Machine.{LeaseStep, TakesDemand, RefusesRelease}
 use Rattle.lease_machine.specs.Laws.{Runs, UnitsAtHome}
 use Rattle.lease_machine.specs.AnswerLaws.{reply_bytes, IsKept, IsRequestLine, WasReachable}
 use Rattle.lease_machine.specs.LeaseLaws.{leases_in, LeasesStay, LeasesBecome, LosesLease}
@@ -154,7 +153,8 @@ pub record KeepsRules (old : Picture) (line text : List ℕ) (new : Picture) : T
   -- any other is answered by its number: the last one by its kept reply
   pub repeat : (id : RequestId) (op : Op) → IsRequestLine line id op
       → ¬ IsNew (account_in id.client old.book) id
-      → (r : Reply) × (text ≡ reply_bytes r) × IsKnownReply old id r × (new ≡ old)
+      → (r : Reply) × (text ≡ reply_bytes r)
+      × IsKnownReply (arena_named old.tree) old.book id r × (new ≡ old)
   -- an operator's is answered as `OperatorStep` says, and changes nothing of the book
   pub operator : (o : OperatorLine) → served_of line ≡ Ok (served.Operator o)
       → OperatorStep o old text new × (new.book ≡ old.book)

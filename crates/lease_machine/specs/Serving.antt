@@ -1,23 +1,21 @@
 -- What a request for a lease can be served with.
-use Rattle.std.specs.Prelude.{◌≡◌, ◌≢◌, ◌⊎◌, ℕ, ◌+◌, ◌*◌, ◌≤◌, [], ◌∷◌}
+use Rattle.std.specs.Prelude.{◌≡◌, ◌⊎◌, ℕ, ◌+◌, ◌*◌, ◌≤◌, [], ◌∷◌}
 use Rattle.deed_core.specs.Tag.{Tag}
 use Rattle.deed_core.specs.Request.{Fits, IsPlain, rounding_of}
 use Rattle.deed_core.specs.declared.requests.Request.{Request}
 use Rattle.magazine_layer.specs.declared.rounds.RoundOp.TheVariants.{Take}
 use Rattle.magazine_layer.specs.declared.rounds.RoundAnswer.TheVariants.{Nothing}
-use Rattle.slab_layer.specs.Cache.{idle_chunks}
 use Rattle.arena_tree.specs.declared.trees.TreeArena.{TreeArena}
 use Rattle.quantum_cache.specs.Caches.{chain_in}
 use Rattle.stock.specs.Spaces.{QuantumCacheState, IsCacheAt}
-use Rattle.stock.specs.OwnCaches.{OwnCacheState, own_rounds}
+use Rattle.stock.specs.OwnCaches.{OwnCacheState}
 use Rattle.local_parts.specs.Cpus.{IsOwnAt}
-use Rattle.lease_machine.specs.Picture.{Picture}
-use Rattle.local_calls.specs.NoFits.{HasBase, HasBaseUp}
+use Rattle.lease_machine.specs.Picture.{Picture, IsHeld}
+use Rattle.local_calls.specs.NoFits.{HasBase, HasBaseUp, CanTake}
 use Rattle.lease_machine.specs.Moves.{CarvesAt, Climbs, CarvesInVain}
 use Rattle.lease_machine.specs.Moves.{ClimbsInVain, SameNames}
 use Rattle.lease_machine.specs.Chunks.{selected_caches, MovesNone, WasRound, WasIdle, LacksChunks}
 use Rattle.lease_machine.specs.Chunks.{IsOfNewSlab, GoesBack}
-use Rattle.lease_machine.specs.Held.{IsHeld}
 
 -- the arena serves the request by its caches: it isn't constrained, and no greater than they are
 abbrev pub IsCachedIn : TreeArena → Request → Type 0
@@ -31,13 +29,7 @@ pub record CacheFor (d : Picture) (index : ℕ) (x : TreeArena) (q : Request)
   pub shared : IsCacheAt d.spaces index cache c
   pub own : IsOwnAt (selected_caches d) index cache o
 
--- the selected CPU can take a chunk: one of its rounds, one of a full magazine of the depot's,
--- which is of the size of its own, or an idle one of a slab
-abbrev pub CanTake : QuantumCacheState → OwnCacheState → Type 0
-CanTake c o = (own_rounds o ≢ [])
-    ⊎ ((o.cpu.size ≡ c.depot.size) × (c.depot.full ≢ []))
-    ⊎ (idle_chunks c.slab ≢ [])
-
+-- the selected CPU can take a chunk of that cache
 abbrev pub HasChunk : Picture → ℕ → TreeArena → Request → Type 0
 HasChunk d index x q =
     (c : QuantumCacheState) × (o : OwnCacheState) × CacheFor d index x q c o × CanTake c o

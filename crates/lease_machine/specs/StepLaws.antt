@@ -22,13 +22,13 @@ use Rattle.lease_proto.specs.Reports.{ok_text}
 use Rattle.lease_book.specs.Answers.{IsNew}
 use Rattle.lease_book.specs.BookState.{account_in}
 use Rattle.lease_book.specs.Reports.{report_of}
-use Rattle.lease_machine.specs.Picture.{Picture, IsPicture, SameSetup, BookAlone}
+use Rattle.lease_machine.specs.Picture.{Picture, IsPicture, SameSetup, BookAlone, arena_named}
 use Rattle.lease_machine.specs.Operators.{Resizes, with_cpu, with_depots_by, audit_texts_of}
 use Rattle.lease_machine.specs.Operators.{client_text_of}
-use Rattle.lease_machine.specs.Replies.{IsKnownReply}
 use Rattle.lease_machine.specs.Machine.{LeaseStep, RefusesLease, Releases, RefusesRelease}
 use Rattle.lease_machine.specs.AnswerLaws.{reply_bytes, IsRequestLine}
 use Rattle.lease_machine.specs.RoomLaws.{refusal_to}
+use Rattle.lease_history.specs.Told.{IsKnownReply}
 
 -- bytes that are no line: by its error line
 abbrev pub FaultsAreAnswered : Type 0
@@ -38,7 +38,7 @@ FaultsAreAnswered = (d : Picture) (line : List ℕ) (fault : LineFault) → IsPi
 -- a request by its number, where that isn't new: by the reply that is known
 abbrev pub KnownAreAnswered : Type 0
 KnownAreAnswered = (d : Picture) (line : List ℕ) (id : RequestId) (op : Op) (r : Reply)
-    → IsPicture d → IsRequestLine line id op → IsKnownReply d id r
+    → IsPicture d → IsRequestLine line id op → IsKnownReply (arena_named d.tree) d.book id r
     → LeaseStep d line (reply_bytes r) d
 
 -- a hello of an older incarnation than the client's: by that one

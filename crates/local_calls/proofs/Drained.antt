@@ -33,11 +33,10 @@ use Rattle.local_parts.specs.OwnSteps.{DoesPop}
 use Rattle.local_parts.specs.States.{LocalState}
 use Rattle.local_parts.specs.Steps.{IsSetUpAs}
 use Rattle.local_calls.specs.Laws.{DrainEmptiesCpu}
-use Rattle.local_calls.specs.NoFits.{HasNoRoundOf}
 use Rattle.local_calls.specs.Runs.{SoundStep, RunsTo}
 use Rattle.local_calls.proofs.Chains.{tree_chain, first_arena}
 use Rattle.local_calls.proofs.CpuIndexes.{EmptyAt, own_written, empty_pops, reached_here, within_plan}
-use Rattle.local_calls.proofs.StagesNone.{popped_none}
+use Rattle.local_calls.proofs.StagesNone.{popped_none, HasNoRoundOf}
 use Rattle.local_calls.proofs.Walks.{caches_walk, arenas_walk}
 
 -- what each step of a drain keeps

@@ -7,6 +7,7 @@ pub use Rattle.local_calls.proofs.ArenaReaps.{reap_arena_always_done, reap_arena
 pub use Rattle.local_calls.proofs.CpuIndexes.{reached_here}
 pub use Rattle.local_calls.proofs.Chains.{tree_chain}
 pub use Rattle.local_calls.proofs.NoFits.{no_fit_is_right, xalloc_no_fit_is_right}
+pub use Rattle.local_calls.proofs.Idle.{none_idle}
 use Rattle.std.proofs.Common.{◌≡◌, ℕ, List, Some, None, Ok, Err, refl, ap, subst, ◌∙◌}
 use Rattle.arena_tree.specs.declared.trees.TreeArena.{TreeArena}
 use Rattle.arena_tree.specs.Chains.{Node}

@@ -9,6 +9,7 @@ mod Refusals
 mod Steps
 mod CarvesNone
 mod StagesNone
+mod Idle
 mod NoFits
 mod Walks
 mod CpuIndexes

@@ -1,5 +1,5 @@
 -- An allocation that ends with NoFit has found nothing that serves.
-use Rattle.std.proofs.Common.{◌≡◌, ◌≢◌, ℕ, ◌+◌, List, [], ◌∷◌, Option, Some, None, Result, Ok, Err, set, inl, inr, sym, ap, subst, ◌∙◌}
+use Rattle.std.proofs.Common.{◌≡◌, ◌≢◌, ℕ, ◌+◌, List, [], ◌∷◌, ◌++◌, Option, Some, None, Result, Ok, Err, set, inl, inr, sym, ap, subst, ◌∙◌}
 use Rattle.std.specs.Prelude.{slice_get}
 use Rattle.deed_core.specs.Tag.{Tag}
 use Rattle.deed_core.proofs.LawProofs.{set_same}
@@ -37,10 +37,21 @@ use Rattle.local_parts.specs.SharedSteps.{DoesCarve}
 use Rattle.local_parts.specs.States.{LocalState, IsReached, IsUnchanged}
 use Rattle.arena_tree.specs.Tags.{wording_of}
 use Rattle.local_calls.specs.Laws.{NoFitIsRight, XallocNoFitIsRight}
-use Rattle.local_calls.specs.NoFits.{HasBaseUp, HasNoRoundOf, HasNoFullOf, HasNoChunkOf, NoneInCacheBy}
+use Rattle.local_calls.specs.NoFits.{HasBaseUp, CanTakeNone, NoneInCacheBy}
 use Rattle.local_calls.specs.Runs.{SoundStep, RunsTo}
 use Rattle.local_calls.proofs.CarvesNone.{carve_none, given_back, climb_none}
-use Rattle.local_calls.proofs.StagesNone.{own_is, own_same, one_index, cache_one, popped_none, taken_none, changed_over, swapped_some}
+use Rattle.local_calls.proofs.Idle.{none_idle}
+use Rattle.local_calls.proofs.StagesNone.{HasNoRoundOf, HasNoFullOf, HasNoChunkOf, own_is, own_same, one_index, cache_one, popped_none, taken_none, changed_over, swapped_some}
+
+-- where no stage gave one, there is none to take
+none_to_take : (s : LocalState) (k c : ℕ) → HasNoRoundOf s k c → HasNoFullOf s k c → HasNoChunkOf s.spaces k c → CanTakeNone s k c
+none_to_take s k c rounds full idle j o q number reached at can = elim can [
+  | inl some ↦ some (ap (λ ts. ts ++ o.cpu.loaded) (rounds j o number reached).previous_empty ∙ (rounds j o number reached).loaded_empty)
+  | inr more ↦ elim more [
+    | inl one ↦ one.1 (full j o q number reached at one.0)
+    | inr one ↦ one (none_idle q.slab (idle j q number at))
+  ]
+]
 
 -- a stage that gives nothing
 module _ (arenas : List TreeArena) (k c : ℕ) where
@@ -275,9 +286,7 @@ module _ (arenas : List TreeArena) where
       let e4 : p4.0.spaces ≡ old.spaces = r4.0.spaces ∙ e3 in (
         (
           record {
-            magazines = r1.1;
-            depot = r2.1;
-            chunks = subst (λ xs. HasNoChunkOf xs l.id c) r2.0.0 r3.1;
+            chunks = none_to_take old l.id c r1.1 r2.1 (subst (λ xs. HasNoChunkOf xs l.id c) r2.0.0 r3.1);
             slab = subst (λ xs. ¬ HasBaseUp xs (l ∷ up) l.slab_size) e3 r4.1;
           },
           subst (λ xs. ¬ HasBaseUp xs (l ∷ up) size) e4 r5.0,

@@ -21,7 +21,18 @@ use Rattle.local_parts.specs.OwnSteps.{DoesPop, DoesChange, OnExchange, SwapsFul
 use Rattle.local_parts.specs.SharedSteps.{DoesTake}
 use Rattle.local_parts.specs.States.{LocalState, IsReached, IsUnchanged}
 use Rattle.arena_tree.specs.Tags.{wording_of}
-use Rattle.local_calls.specs.NoFits.{HasNoRoundOf, HasNoChunkOf}
+
+-- the CPU's magazines have no round of the cache
+abbrev pub HasNoRoundOf : LocalState → ℕ → ℕ → Type 0
+HasNoRoundOf s arena cache = (j : ℕ) (o : OwnCacheState) → cache ≡ j + 1 → IsReached s arena j o → BothEmpty o.cpu
+
+-- where the CPU's magazines are of the depot's size, the depot has no full one
+abbrev pub HasNoFullOf : LocalState → ℕ → ℕ → Type 0
+HasNoFullOf s arena cache = (j : ℕ) (o : OwnCacheState) (c : QuantumCacheState) → cache ≡ j + 1 → IsReached s arena j o → IsCacheAt s.spaces arena j c → o.cpu.size ≡ c.depot.size → c.depot.full ≡ []
+
+-- each chunk of the slabs is out
+abbrev pub HasNoChunkOf : List SpaceState → ℕ → ℕ → Type 0
+HasNoChunkOf spaces arena cache = (j : ℕ) (c : QuantumCacheState) → cache ≡ j + 1 → IsCacheAt spaces arena j c → All IsAllOut c.slab.slabs
 
 -- the caches of a CPU, of which one is written over by one with the same rounds
 flat_set_same : {X Y : Type 0} (f : X → List Y) (xs : List X) (i : ℕ) (x y : X) → slice_get xs i ≡ Some x → f y ≡ f x → flat_map f (set xs i y) ≡ flat_map f xs

@@ -1,13 +1,12 @@
 -- What serves an allocation, and when nothing fits.
-use Rattle.std.specs.Prelude.{◌≡◌, ◌⊎◌, ℕ, ◌+◌, List, [], ◌∷◌, All, slice_get, Option, Some, None}
+use Rattle.std.specs.Prelude.{◌≡◌, ◌≢◌, ◌⊎◌, ℕ, ◌+◌, List, [], ◌∷◌, slice_get, Option, Some, None}
 use Rattle.deed_core.specs.Request.{plain_of}
 use Rattle.deed_core.specs.declared.requests.Request.{Request}
 use Rattle.tag_arena.specs.Place.{Serves}
-use Rattle.slab_layer.specs.Slab.{IsAllOut}
-use Rattle.magazine_layer.specs.Magazines.{BothEmpty}
+use Rattle.slab_layer.specs.Cache.{idle_chunks}
 use Rattle.arena_tree.specs.declared.levels.Level.{Level}
 use Rattle.arena_tree.specs.Chains.{amount_of}
-use Rattle.stock.specs.OwnCaches.{OwnCacheState}
+use Rattle.stock.specs.OwnCaches.{OwnCacheState, own_rounds}
 use Rattle.stock.specs.Spaces.{SpaceState, QuantumCacheState, IsCacheAt}
 use Rattle.quantum_cache.specs.Sizes.{cache_for}
 use Rattle.local_parts.specs.States.{LocalState, IsReached}
@@ -24,27 +23,21 @@ HasBaseUp spaces [] n = ⊥
 HasBaseUp spaces (l ∷ up) n =
     HasBase spaces l.id (plain_of n) ⊎ HasBaseUp spaces up (amount_of l up n)
 
--- the CPU's magazines have no round of the cache
-abbrev pub HasNoRoundOf : LocalState → ℕ → ℕ → Type 0
-HasNoRoundOf s arena cache = (j : ℕ) (o : OwnCacheState) → cache ≡ j + 1
-    → IsReached s arena j o → BothEmpty o.cpu
+-- with this cache of its own the CPU can take a chunk: one of its rounds, one of a full magazine of
+-- the depot's, which is of the size of its own, or an idle one of a slab
+abbrev pub CanTake : QuantumCacheState → OwnCacheState → Type 0
+CanTake c o = (own_rounds o ≢ [])
+    ⊎ ((o.cpu.size ≡ c.depot.size) × (c.depot.full ≢ []))
+    ⊎ (idle_chunks c.slab ≢ [])
 
--- where the CPU's magazines are of the depot's size, the depot has no full one
-abbrev pub HasNoFullOf : LocalState → ℕ → ℕ → Type 0
-HasNoFullOf s arena cache = (j : ℕ) (o : OwnCacheState) (c : QuantumCacheState) → cache ≡ j + 1
-    → IsReached s arena j o → IsCacheAt s.spaces arena j c → o.cpu.size ≡ c.depot.size
-    → c.depot.full ≡ []
-
--- each chunk of the slabs is out
-abbrev pub HasNoChunkOf : List SpaceState → ℕ → ℕ → Type 0
-HasNoChunkOf spaces arena cache = (j : ℕ) (c : QuantumCacheState) → cache ≡ j + 1
-    → IsCacheAt spaces arena j c → All IsAllOut c.slab.slabs
+-- of the arena's cache of so many quanta the CPU can take none
+abbrev pub CanTakeNone : LocalState → ℕ → ℕ → Type 0
+CanTakeNone s arena cache = (j : ℕ) (o : OwnCacheState) (c : QuantumCacheState) → cache ≡ j + 1
+    → IsReached s arena j o → IsCacheAt s.spaces arena j c → ¬ CanTake c o
 
 -- the cache has no chunk to give, and no address serves for a new slab
 pub record NoneInCache (s : LocalState) (l : Level) (up : List Level) (cache : ℕ) : Type 0 where
-  pub magazines : HasNoRoundOf s l.id cache
-  pub depot : HasNoFullOf s l.id cache
-  pub chunks : HasNoChunkOf s.spaces l.id cache
+  pub chunks : CanTakeNone s l.id cache
   pub slab : ¬ HasBaseUp s.spaces (l ∷ up) l.slab_size
 
 abbrev pub NoneInCacheBy : Option ℕ → LocalState → Level → List Level → Type 0

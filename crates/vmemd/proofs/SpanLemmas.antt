@@ -16,7 +16,7 @@ use Rattle.arena_tree.specs.Trees.{index_in}
 use Rattle.stock.specs.Setups.{deeds_owned, numbered_deeds, plan_for, plans_for}
 use Rattle.stock.specs.Spaces.{SpaceState, SpacePlan, plan_of, plans_of}
 use Rattle.lease_proto.specs.declared.lines.LeaseLine.{LeaseLine}
-use Rattle.lease_machine.specs.Machine.{demand_of}
+use Rattle.lease_proto.specs.Requests.{demand_of}
 use Rattle.lease_machine.specs.Picture.{Picture, SameSetup, owned_spans}
 use Rattle.lease_machine.specs.RoomLaws.{NamesArena}
 use Rattle.vmemd.specs.Desks.{IsDeskOf}

@@ -51,7 +51,7 @@ cpus_none (c ∷ cpus) none =
 
 module _ (d : Picture) (is : IsPicture d) (none : All (λ x. x.qcache_max ≡ 0) d.tree) where
   plans_none : All HasNone (plans_of d.spaces)
-  plans_none = subst (λ (ps : List SpacePlan). All HasNone ps) (sym is.plans) (all_from HasNone (plans_for d.tree) (λ k p at.
+  plans_none = subst (λ (ps : List SpacePlan). All HasNone ps) (sym is.held.plans) (all_from HasNone (plans_for d.tree) (λ k p at.
       (let x = mapped plan_for d.tree k p at in
       subst HasNone (sym x.2) (planned_none x.0 (all_at (λ (y : TreeArena). y.qcache_max ≡ 0) d.tree k x.0 none x.1)))))
 
@@ -64,7 +64,7 @@ module _ (d : Picture) (is : IsPicture d) (none : All (λ x. x.qcache_max ≡ 0)
 
   cpu_caches : flat_map caches_of d.cpus ≡ []
   cpu_caches = cpus_none d.cpus (all_from (λ (c : NumberedCpu). caches_of c ≡ []) d.cpus (λ k c at.
-      rows_none 0 (plans_of d.spaces) c.caches plans_none (all_at (λ (x : NumberedCpu). IsCpu x.number × IsCpuOf d.spaces x.caches) d.cpus k c is.cpus.each at).1))
+      rows_none 0 (plans_of d.spaces) c.caches plans_none (all_at (λ (x : NumberedCpu). IsCpu x.number × IsCpuOf d.spaces x.caches) d.cpus k c is.held.cpus.each at).1))
 
   pub nothing_kept : leased_segments d.book ≡ [] → NothingIsKept d
   nothing_kept free = record { leases = free; rounds = ap all_own_rounds cpu_caches; reaped = all_bare }

@@ -27,9 +27,10 @@ use Rattle.lease_proto.specs.declared.replies.Reply.{Reply}
 use Rattle.lease_proto.specs.Faults.{error_text}
 use Rattle.lease_proto.specs.Frames.{Frame}
 use Rattle.lease_proto.specs.Operators.{served_of}
+use Rattle.lease_proto.specs.Requests.{demand_of}
 use Rattle.lease_machine.specs.Picture.{Picture}
 use Rattle.lease_machine.specs.Operators.{sums_in, audit_texts_of}
-use Rattle.lease_machine.specs.Machine.{LeaseStep, demand_of}
+use Rattle.lease_machine.specs.Machine.{LeaseStep}
 use Rattle.lease_machine.specs.Laws.{Runs, UnitsAtHome}
 use Rattle.lease_machine.specs.AnswerLaws.{reply_bytes, IsUnkept, IsRequestLine, AreOfOthers}
 use Rattle.lease_machine.specs.AnswerLaws.{NamesRequest, FitsLine}
