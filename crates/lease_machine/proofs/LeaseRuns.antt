@@ -184,10 +184,10 @@ module _ (D : Type 0) (d : Picture) (id : RequestId) (l : LeaseLine) (is : IsPic
             setup = record { tree = refl; owned = back.setup.owned ∙ served.4.owned };
           }
 
-        not_leased : (c : BookState) (s : LocalState) (a : CallEnd D) → RunsCall d.tree (place_first d.tree t (Done (Ok (outcomes.Answered y)))) b m c s a → Gone c s a
+        not_leased : (c : BookState) (s : LocalState) (a : CallEnd D) → RunsCall {D = D} d.tree (place_first d.tree t (Done (Ok (outcomes.Answered y)))) b m c s a → Gone c s a
         not_leased c s a path =
             let (books, done, back) = placed_told between t still_held (outcomes.Answered y) b c s a
-            (subst (λ (p : LocalState). RunsCall d.tree (place_first d.tree t (Done (Ok (outcomes.Answered y)))) b p c s a) (sym (parts_written (record d { book = b }) m is.held.cpus)) path) in
+            (subst (λ (p : LocalState). RunsCall {D = D} d.tree (place_first d.tree t (Done (Ok (outcomes.Answered y)))) b p c s a) (sym (parts_written (record d { book = b }) m is.held.cpus)) path) in
             ended D d id (ops.Lease l) is b c s s (Ok (outcomes.Answered y)) a books refl done
             (kept s (subst (PlacedBack t between) (parts_again (record d { book = b }) m s) back))
 
@@ -198,8 +198,8 @@ module _ (D : Type 0) (d : Picture) (id : RequestId) (l : LeaseLine) (is : IsPic
           (granted b r (subst (λ (quantum : ℕ). IsGranted d.book b id t (terms_by (demand_of l) quantum) r) (arena_read d.tree index x finds.here).0 event.0))
       settled c s a b n (Err (settling.NotLeased y)) event rest =
           not_leased b _ y.answer event.0.1 c s a
-          (subst (λ (p : LocalState). RunsCall d.tree (place_first d.tree t (Done (Ok (outcomes.Answered y.answer)))) b p c s a) event.1
-          (subst (λ (g : Tag). RunsCall d.tree (place_first d.tree g (Done (Ok (outcomes.Answered y.answer)))) b n c s a) event.0.0 rest))
+          (subst (λ (p : LocalState). RunsCall {D = D} d.tree (place_first d.tree t (Done (Ok (outcomes.Answered y.answer)))) b p c s a) event.1
+          (subst (λ (g : Tag). RunsCall {D = D} d.tree (place_first d.tree g (Done (Ok (outcomes.Answered y.answer)))) b n c s a) event.0.0 rest))
       settled c s a b n (Err (settling.Stopped g)) event done = absurd event.0
 
     -- by what came of the parts

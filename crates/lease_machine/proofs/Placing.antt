@@ -92,9 +92,9 @@ module _ (d : Picture) (t : Tag) (held : IsHeld (t ∷ []) d) where
   placed_back s r run = freed s r (subst (λ (p : Plan ReturnEnd). RunsTo d.tree p (parts_in d) s r) (place_frees d.tree t (hand_is_local d t held).1) run)
 
   -- and so the request ends as was meant
-  pub placed_told : {D : Type 0} (o : Outcome D) (b c : BookState) (s : LocalState) (a : CallEnd D) → RunsCall d.tree (place_first d.tree t (Done (Ok o))) b (parts_in d) c s a → (b ≡ c) × (Ok o ≡ a) × PlacedBack t d (with_parts s d)
+  pub placed_told : {D : Type 0} (o : Outcome D) (b c : BookState) (s : LocalState) (a : CallEnd D) → RunsCall {D = D} d.tree (place_first d.tree t (Done (Ok o))) b (parts_in d) c s a → (b ≡ c) × (Ok o ≡ a) × PlacedBack t d (with_parts s d)
   placed_told {D = D} o b c s a path =
       let split = path_under (SoundStep (nodes_of d.tree)) (BookDoes D) (place_plan d.tree t) (on_place (Done (Ok o))) b (parts_in d) c s a path in
       let went = placed_back split.0 split.1 split.2 in
-      let end : RunsCall d.tree (Done (Ok o)) b split.0 c s a = subst (λ (r : ReturnEnd). RunsCall d.tree (on_place (Done (Ok o)) r) b split.0 c s a) went.0 split.3 in
+      let end : RunsCall {D = D} d.tree (Done (Ok o)) b split.0 c s a = subst (λ (r : ReturnEnd). RunsCall {D = D} d.tree (on_place (Done (Ok o)) r) b split.0 c s a) went.0 split.3 in
       (end.0, end.2, subst (λ (x : LocalState). PlacedBack t d (with_parts x d)) end.1 went.1)

@@ -54,7 +54,7 @@ module _ (D : Type 0) (d : Picture) (id : RequestId) (l : ReleaseLine) (is : IsP
       within = subst (λ (n : ℕ). n < length d.tree) released.of_arena (hand_is_local between t held).1
 
       -- the segment went back
-      went : RunsCall d.tree (place_first d.tree t (Done (Ok (Settled v)))) b (parts_in d) c s a → Gone c s a
+      went : RunsCall {D = D} d.tree (place_first d.tree t (Done (Ok (Settled v)))) b (parts_in d) c s a → Gone c s a
       went path =
           let (books, done, back) = placed_told between t held (Settled v) b c s a path in
           let here = slice_get_some d.tree arena within in
@@ -82,7 +82,7 @@ module _ (D : Type 0) (d : Picture) (id : RequestId) (l : ReleaseLine) (is : IsP
           })
 
     named : (n : LocalState) (x : Result (ReceiptState × Tag) (NotReleased D)) → BookDoes D d.book (parts_in d) (Release id arena l.base) x b n → RunsCall d.tree (on_release d.tree x) b n c s a → Gone c s a
-    named n (Ok r) event rest = went r.0 r.1 event.0 (subst (λ (z : LocalState). RunsCall d.tree (place_first d.tree r.1 (Done (Ok (Settled r.0)))) b z c s a) event.1 rest)
+    named n (Ok r) event rest = went r.0 r.1 event.0 (subst (λ (z : LocalState). RunsCall {D = D} d.tree (place_first d.tree r.1 (Done (Ok (Settled r.0)))) b z c s a) event.1 rest)
     named n (Err (releasing.Answered x)) event done =
         ended D d id (ops.Release l) is b c (parts_in d) s (Ok (Answered x)) a done.0 (sym event.1 ∙ done.1) done.2
         (answered_ends D d id (ops.Release l) is b why.NotYours (find (is_lease id.incarnation arena l.base) (account_in id.client d.book).leases ≡ None) x event.0
