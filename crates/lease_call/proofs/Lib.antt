@@ -5,4 +5,6 @@ mod Sweeping
 mod TreeChains
 mod Takings
 mod CallBounds
+mod CallHands
+mod NoFitAsks
 mod Unplaced

@@ -1,20 +1,28 @@
--- Laws of the lists of steps of lines, over all trees: how many locks of parts they take. A call of
--- the book takes none of these, and what was in the hand before is a free of its own.
-use Rattle.std.specs.Prelude.{ℕ, ◌+◌, ◌*◌, ◌≤◌, List, Option, Some, None, Ok, Err, length}
+-- Laws of the lists of steps of lines, over all trees: how many locks of parts they take, where
+-- each segment is then, and when nothing fits. A call of the book takes none of the locks, and what
+-- was in the hand before is a free of its own.
+use Rattle.std.specs.Prelude.{ℕ, ◌+◌, ◌*◌, ◌≤◌, List, [], Option, Some, None, Ok, Err, length}
+use Rattle.deed_core.specs.Tag.{Tag}
 use Rattle.lease_terms.specs.Requests.{RequestId}
 use Rattle.arena_tree.specs.Events.{AnswerTo, locks}
-use Rattle.arena_tree.specs.Trees.{index_in}
+use Rattle.arena_tree.specs.Trees.{IsTree, index_in, nodes_of}
 use Rattle.arena_tree.specs.declared.limits.TheConstants.{LONGEST_CHAIN}
 use Rattle.arena_tree.specs.declared.trees.TreeArena.{TreeArena}
 use Rattle.quantum_cache.specs.Caches.{chain_in}
+use Rattle.lease_book.specs.BookState.{BookState}
 use Rattle.lease_proto.specs.declared.lines.HelloLine.{HelloLine}
 use Rattle.lease_proto.specs.declared.lines.LeaseLine.{LeaseLine}
+use Rattle.lease_proto.specs.declared.lines.Op.{Op}
 use Rattle.lease_proto.specs.declared.lines.ReleaseLine.{ReleaseLine}
+use Rattle.lease_call.specs.BookEvents.{BookEvent, StoppedCall}
 use Rattle.lease_call.specs.CallPlans.{CallPlan, Done, Part, Call}
-use Rattle.lease_call.specs.Calls.{AnswerOf}
-use Rattle.lease_call.specs.Greeting.{HelloEnd, greet_plan}
+use Rattle.lease_call.specs.Calls.{BookCall, AnswerOf}
+use Rattle.lease_call.specs.Greeting.{HelloEnd, greet_plan, hello_plan}
+use Rattle.lease_call.specs.Kept.{CallHandles, HandsBack, KeepsAll, call_left, put_first}
 use Rattle.lease_call.specs.Leasing.{lease_plan}
+use Rattle.lease_call.specs.NoFits.{AsksAfter, NoFitAfter}
 use Rattle.lease_call.specs.Releasing.{CallEnd, release_plan}
+use Rattle.lease_call.specs.Requesting.{request_plan}
 use Rattle.lease_call.specs.declared.outcomes.Outcome.TheVariants.{Settled, Answered, Again}
 
 -- after so many locks, there are at most so many in all, by what it ends with
@@ -51,3 +59,41 @@ ReleaseIsShort D = (arenas : List TreeArena) (id : RequestId) (l : ReleaseLine)
 abbrev pub HelloIsShort : Type 0 → Type 0
 HelloIsShort D = (arenas : List TreeArena) (h : HelloLine) (turns : ℕ)
     → CallWithin {D = D} (λ (r : HelloEnd). turns * LONGEST_CHAIN) (greet_plan arenas h turns) 0
+
+-- A line begins with what a line before it left in the hand; each step is asked with an empty hand,
+-- or with the segment in it, and in the end the hand is as the line's end says.
+abbrev pub RequestHandles : Type 0 → Type 0
+RequestHandles D = (arenas : List TreeArena) (hand : Option Tag) (id : RequestId) (op : Op)
+    → CallHandles {D = D} call_left (request_plan arenas hand id op) hand
+
+abbrev pub HelloHandles : Type 0 → Type 0
+HelloHandles D = (arenas : List TreeArena) (hand : Option Tag) (h : HelloLine) (turns : ℕ)
+    → CallHandles {D = D} call_left (hello_plan arenas hand h turns) hand
+
+-- No line loses a segment: what was in the hand, what parts gave, and what the ended leases were of
+-- went into parts, or was leased, or is left in the hand.
+abbrev pub RequestKeeps : Type 0 → Type 0
+RequestKeeps D = (arenas : List TreeArena) (hand : Option Tag) (id : RequestId) (op : Op)
+    → KeepsAll {D = D} (nodes_of arenas) call_left (request_plan arenas hand id op)
+    (put_first hand []) []
+
+abbrev pub HelloKeeps : Type 0 → Type 0
+HelloKeeps D = (arenas : List TreeArena) (hand : Option Tag) (h : HelloLine) (turns : ℕ)
+    → KeepsAll {D = D} (nodes_of arenas) call_left (hello_plan arenas hand h turns)
+    (put_first hand []) []
+
+-- The books of which that is so: an event of the book, and a call that was stopped, hand back what
+-- isn't leased.
+abbrev pub EventHandsBack : Type 0 → Type 0
+EventHandsBack D = (b c : BookState) (k : BookCall) (a : AnswerOf D k) → BookEvent D b k a c
+    → HandsBack D k a
+
+abbrev pub StopHandsBack : Type 0 → Type 0
+StopHandsBack D = (k : BookCall) (a : AnswerOf D k) → StoppedCall D k a → HandsBack D k a
+
+-- The book is asked to refuse a request for NoFit only where each carve of the last climb found
+-- none.
+abbrev pub NoFitIsLast : Type 0 → Type 0
+NoFitIsLast D = (arenas : List TreeArena) (hand : Option Tag) (id : RequestId) (op : Op)
+    → IsTree arenas
+    → AsksAfter {D = D} (nodes_of arenas) (NoFitAfter arenas op) (request_plan arenas hand id op) []

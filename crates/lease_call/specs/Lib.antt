@@ -10,4 +10,6 @@ pub mod Leasing
 pub mod Taking
 pub mod Requesting
 pub mod Greeting
+pub mod Kept
+pub mod NoFits
 pub mod Laws

@@ -11,7 +11,8 @@
 //! a list of steps over both is, BookEvents.antt what each call does to a book, and Placing.antt,
 //! Hands.antt, Releasing.antt, Leasing.antt, Requesting.antt and Greeting.antt the lists of steps,
 //! line by line. A function has the one clause that its list of steps was gone through
-//! (`CallRan`), and a few that follow from it; how many locks that takes at most are laws (laws).
+//! (`CallRan`), and a few that follow from it; all else is a law (laws): how many locks of parts a
+//! line takes at most, that it loses no segment (Kept.antt), and when nothing fits (NoFits.antt).
 #![tactic(auto)]
 
 mod books;
@@ -27,7 +28,7 @@ mod requesting;
 pub use books::Books;
 pub use call_faults::{CallFault, NotGreeted, NotReleased, NotSettled};
 pub use greeting::hello;
-pub use laws::lock_laws;
+pub use laws::{hand_laws, kept_laws, lock_laws, no_fit_laws};
 pub use outcomes::{Greeting, Outcome};
 pub use placing::place;
 pub use requesting::request;
