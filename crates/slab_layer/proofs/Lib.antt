@@ -8,6 +8,7 @@ pub mod BaseLemmas
 pub mod ListedLemmas
 pub mod SoundLemmas
 pub mod MoveLemmas
+pub mod SumLemmas
 pub mod MineLemmas
 pub mod CountLemmas
 pub mod FindLemmas

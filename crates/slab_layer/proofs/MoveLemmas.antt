@@ -29,7 +29,7 @@ pub sum_by-kept : (g : Holding → ℕ) (s : SlabState) → sum_by g (deeds_in s
 sum_by-kept g s =
     omega (arith, sum_by-append g (option_to_list (gap_of s)) (idle_chunks_by (chunk_at s) s ++ option_to_list (tail_of s)), sum_by-append g (idle_chunks_by (chunk_at s) s) (option_to_list (tail_of s)))
 
-same_tail : (s : SlabState) (j : ℕ) (b : Bool) → tail_of (with_chunk s j b) ≡ tail_of s
+pub same_tail : (s : SlabState) (j : ℕ) (b : Bool) → tail_of (with_chunk s j b) ≡ tail_of s
 same_tail s j b =
     let e : length (set s.home j b) * s.chunk ≡ length s.home * s.chunk = ap (λ n. n * s.chunk) (length-set s.home j b) in
     ap (λ n. piece_or_none s.span.root (s.span.range.base + s.colour + n) (s.span.range.len - (s.colour + n))) e

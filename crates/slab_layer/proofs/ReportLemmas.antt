@@ -15,19 +15,6 @@ use Rattle.slab_layer.proofs.PassingLemmas.{sum_by-items_where-cons}
 use Rattle.slab_layer.proofs.ListLemmas.{both_nil}
 use Rattle.slab_layer.proofs.MoveLemmas.{sum_by-kept, tile, slab_of_size}
 
--- the spans of slabs by ascending base are together no longer than the space
-spans_from : (m : ℕ) (slabs : List SlabState) → m ≤ 2 ^ 62 → All (λ s. m ≤ s.span.range.base) slabs → All (λ s. end_of s.span.range ≤ 2 ^ 62) slabs → AllPairs IsBelow slabs → m + sum_by (λ s. s.span.range.len) slabs ≤ 2 ^ 62
-spans_from m [] fits above ends ascending = omega arith
-spans_from m (s ∷ ss) fits above ends ascending =
-    let here = All-head (λ x. m ≤ x.span.range.base) s ss above in
-    let end = All-head (λ x. end_of x.span.range ≤ 2 ^ 62) s ss ends in
-    let next : All (λ x. end_of s.span.range ≤ x.span.range.base) ss = λ k d within. ascending 0 (suc k) d (omega arith) (omega arith) in
-    let rest = spans_from (end_of s.span.range) ss end next (All-tail (λ x. end_of x.span.range ≤ 2 ^ 62) s ss ends) (λ i j d before within. ascending (suc i) (suc j) d (omega arith) (omega arith)) in
-    omega (arith, here, rest, sum_by-cons (λ x. x.span.range.len) s ss)
-
-pub spans_fit : (c : SlabCacheState) → IsSoundCache c → sum_by (λ s. s.span.range.len) c.slabs ≤ 2 ^ 62
-spans_fit c sound = omega (arith, spans_from 0 c.slabs (omega arith) (λ k d within. omega arith) (All-weaker (IsOfSize c.slab_size (chunk_of c)) (λ s. end_of s.span.range ≤ 2 ^ 62) (λ s size. size.end) c.slabs sound.slabs) sound.ascending)
-
 -- what lies in the cache, by its parts
 sums_of : (idle gap tail all : SlabState → ℕ) (slabs : List SlabState) → ((s : SlabState) → all s ≡ gap s + idle s + tail s) → sum_by idle slabs + sum_by gap slabs + sum_by tail slabs ≡ sum_by all slabs
 sums_of idle gap tail all [] e = refl

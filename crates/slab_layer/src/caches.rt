@@ -39,7 +39,7 @@ ghost use Rattle.slab_layer.specs.Cache.{
 ghost use Rattle.slab_layer.specs.Calls.{IsAlike, TakeOf, PutOf, AddOf, ReapOf};
 
 use crate::faults::{AddFault, PutFault};
-use crate::reports::{SlabReport, are_empty, discard_all, total};
+use crate::reports::{SlabReport, are_empty, discard_all};
 use crate::slab_lists::SlabList;
 use crate::slabs::Slab;
 use deed_core::{Deed, Route, Segment, Stored};
@@ -311,7 +311,7 @@ impl<D: Deed> SlabCache<D> {
             → covering_held u (deeds_of self.now) + covering_tags u (chunks_out self.now)
             ≡ covering_tags u (span_tags self.now) }
     {
-        total(self.slabs.as_deque())
+        self.slabs.report()
     }
 
     /// Ends the cache where no deed lies in it. Chunks that are out then have no slab to go back

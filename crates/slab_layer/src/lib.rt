@@ -23,8 +23,8 @@
 //! `reap` move the slabs on one side of theirs, at most s / 2, and none where it is the highest or
 //! the lowest; `add` splits n deeds off and `reap` joins them. How many units they cover costs
 //! nothing. A base that comes to a list, or goes, moves bases there, as that crate says. `add`
-//! moves all slabs where it has to take a larger block for them, ever more seldom. `report` goes
-//! along all slabs, `close` along all their places.
+//! moves all slabs where it has to take a larger block for them, ever more seldom. `report` looks
+//! at none, since what lies in the slabs is counted; `close` goes along all their places.
 //!
 //! A cache has a place for each chunk, a few numbers for each slab, and room for all bases in
 //! both lists: 2 kilobytes with the first slab, and 64 bytes or more for each.

@@ -1,8 +1,7 @@
 //! What the slabs of a cache hold, together.
-ghost use Rattle.std.specs.Prelude.{◌≡◌, ◌^◌, ◌≤◌, ◌↔◌, [], All, IsTrue, sum_by};
-ghost use Rattle.std.specs.Option.{option_to_list};
-ghost use Rattle.deed_core.specs.Covering.{units_held};
-ghost use Rattle.slab_layer.specs.Slab.{chunk_at, gap_of, tail_of, idle_chunks_by, deeds_in};
+ghost use Rattle.std.specs.Prelude.{◌≡◌, ◌+◌, ◌^◌, ◌≤◌, ◌↔◌, [], All, IsTrue};
+ghost use Rattle.slab_layer.specs.Slab.{deeds_in};
+ghost use Rattle.slab_layer.specs.Sums.{idle_in, gap_in, tail_in};
 
 use crate::slabs::Slab;
 use deed_core::Deed;
@@ -19,26 +18,34 @@ pub struct SlabReport {
     pub tail: u64,
 }
 
-/// The sums over the slabs.
-pub(crate) fn total<D: Deed>(slabs: &VecDeque<Slab<D>>) -> SlabReport
-    requires { sum_by (λ s. s.span.range.len) slabs.now.items ≤ 2 ^ 62 }
-    ensures idle { result.idle
-        ≡ sum_by (λ s. units_held (idle_chunks_by (chunk_at s) s)) slabs.now.items }
-    ensures gap { result.gap
-        ≡ sum_by (λ s. units_held (option_to_list (gap_of s))) slabs.now.items }
-    ensures tail { result.tail
-        ≡ sum_by (λ s. units_held (option_to_list (tail_of s))) slabs.now.items }
-{
-    let mut idle = 0;
-    let mut gap = 0;
-    let mut tail = 0;
-    for i in 0..slabs.len() {
-        let slab = &slabs[i];
-        idle += slab.idle();
-        gap += slab.gap();
-        tail += slab.tail();
+impl SlabReport {
+    /// What lies in one more slab comes to it.
+    pub(crate) fn add<D: Deed>(&mut self, slab: &Slab<D>)
+        requires idle { self.old.idle + idle_in slab.now ≤ 2 ^ 62 }
+        requires gap { self.old.gap + gap_in slab.now ≤ 2 ^ 62 }
+        requires tail { self.old.tail + tail_in slab.now ≤ 2 ^ 62 }
+        ensures idle { self.new.idle ≡ self.old.idle + idle_in slab.now }
+        ensures gap { self.new.gap ≡ self.old.gap + gap_in slab.now }
+        ensures tail { self.new.tail ≡ self.old.tail + tail_in slab.now }
+    {
+        self.idle += slab.idle();
+        self.gap += slab.gap();
+        self.tail += slab.tail();
     }
-    SlabReport { idle, gap, tail }
+
+    /// What lies in a slab goes from it.
+    pub(crate) fn subtract<D: Deed>(&mut self, slab: &Slab<D>)
+        requires idle { idle_in slab.now ≤ self.old.idle }
+        requires gap { gap_in slab.now ≤ self.old.gap }
+        requires tail { tail_in slab.now ≤ self.old.tail }
+        ensures idle { self.new.idle + idle_in slab.now ≡ self.old.idle }
+        ensures gap { self.new.gap + gap_in slab.now ≡ self.old.gap }
+        ensures tail { self.new.tail + tail_in slab.now ≡ self.old.tail }
+    {
+        self.idle -= slab.idle();
+        self.gap -= slab.gap();
+        self.tail -= slab.tail();
+    }
 }
 
 /// Whether no deed lies in any slab.

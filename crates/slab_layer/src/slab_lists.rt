@@ -33,8 +33,10 @@ ghost use Rattle.slab_layer.specs.Slab.{
   with_chunk,
 };
 ghost use Rattle.slab_layer.specs.Calls.{StandsAt, IsLowest, IsNext};
+ghost use Rattle.slab_layer.specs.Sums.{AreSums};
 
 use crate::idle_slabs::IdleSlabs;
+use crate::reports::SlabReport;
 use crate::search::{find_chunk, index_for, lowest, overlaps};
 use crate::slabs::Slab;
 use crate::standings::Standing;
@@ -44,16 +46,18 @@ use std::collections::VecDeque;
 use std::marker::Model;
 
 /// Slabs in order of their bases. The lowest goes first where all are reaped, which moves none in
-/// a deque.
+/// a deque. What lies in them is counted.
 pub(crate) struct SlabList<D: Deed> {
     slabs: VecDeque<Slab<D>>,
     idle: IdleSlabs,
+    sums: SlabReport,
 }
 
 impl<D: Deed> Model for SlabList<D> {
     ghost use Rattle.std.specs.Prelude.{min};
     ghost use Rattle.std.specs.VecDeque.{deque_capacity};
-    ghost use Rattle.slab_layer.specs.Bases.{SlabListState, AreListed};
+    ghost use Rattle.slab_layer.specs.Bases.{SlabListState};
+    ghost use Rattle.slab_layer.specs.Sums.{IsSlabList};
 
     ghost Value = { SlabListState };
 
@@ -62,7 +66,7 @@ impl<D: Deed> Model for SlabList<D> {
       room = min (deque_capacity l.slabs) l.idle.room;
     } };
 
-    ghost invariant = { λ l. AreListed l.slabs.items l.idle };
+    ghost invariant = { λ l. IsSlabList l.slabs.items l.idle l.sums };
 }
 
 impl<D: Deed> SlabList<D> {
@@ -74,6 +78,11 @@ impl<D: Deed> SlabList<D> {
         SlabList {
             slabs: VecDeque::new(alloc),
             idle: IdleSlabs::new(alloc),
+            sums: SlabReport {
+                idle: 0,
+                gap: 0,
+                tail: 0,
+            },
         }
     }
 
@@ -95,6 +104,13 @@ impl<D: Deed> SlabList<D> {
         ensures { result.now.items ≡ self.now.items }
     {
         &self.slabs
+    }
+
+    /// What lies in them, in units.
+    pub(crate) fn report(&self) -> SlabReport
+        ensures { AreSums self.now.items result }
+    {
+        self.sums
     }
 
     /// The lowest slab with all chunks at home.
@@ -187,6 +203,7 @@ impl<D: Deed> SlabList<D> {
         let slab = &mut self.slabs[i];
         let was = slab.standing();
         let deed = slab.take(j);
+        self.sums.idle -= slab.chunk();
         self.idle.relist(slab.span().base(), was, slab.standing());
         deed
     }
@@ -202,6 +219,7 @@ impl<D: Deed> SlabList<D> {
         let slab = &mut self.slabs[i];
         let before = slab.standing();
         slab.put(j, deed);
+        self.sums.idle += slab.chunk();
         self.idle
             .relist(slab.span().base(), before, slab.standing());
     }
@@ -220,6 +238,7 @@ impl<D: Deed> SlabList<D> {
         // As if it had come with all its chunks out: so it stands in no list.
         self.idle
             .relist(slab.span().base(), Standing::AllOut, slab.standing());
+        self.sums.add(&slab);
         match self.slabs.insert(place, slab) {
             Ok(()) => {}
             Err(_) => unreachable!(),
@@ -236,6 +255,7 @@ impl<D: Deed> SlabList<D> {
         let slab = self.slabs.remove(i).unwrap();
         self.idle
             .relist(slab.span().base(), slab.standing(), Standing::AllOut);
+        self.sums.subtract(&slab);
         slab
     }
 
@@ -243,7 +263,11 @@ impl<D: Deed> SlabList<D> {
     pub(crate) fn into_slabs(self) -> VecDeque<Slab<D>>
         ensures { result.items ≡ self.items }
     {
-        let SlabList { slabs, idle: _ } = self;
+        let SlabList {
+            slabs,
+            idle: _,
+            sums: _,
+        } = self;
         slabs
     }
 }

@@ -26,6 +26,7 @@ ghost use Rattle.deed_core.specs.Extent.{IsRange};
 ghost use Rattle.slab_layer.specs.Standings.{standing_of};
 ghost use Rattle.slab_layer.specs.Slab.{
   SlabState,
+  IsSlab,
   IsComplete,
   IsLowestIdle,
   chunk_at,
@@ -149,10 +150,18 @@ impl<D: Deed> Slab<D> {
     pub(crate) fn span(&self) -> Range
         ensures value { result ≡ self.now.span.range }
         ensures range { IsRange result }
+        ensures shape { IsSlab self.now }
     {
         // For its clause: the span ends at 2^62 or below.
         let _ = self.span.len();
         self.span
+    }
+
+    /// The units of a chunk.
+    pub(crate) fn chunk(&self) -> u64
+        ensures { result ≡ self.now.chunk }
+    {
+        self.chunk
     }
 
     /// The lowest chunk at home.

@@ -8,6 +8,6 @@ use Rattle.slab_layer.proofs.slab_lists.SlabList.lowest_complete.Goals as goal
 pub returns : goal.returns
 returns g c =
     let items = ap (λ (l : SlabListState). l.items) c.self.view_is in
-    let listed = c.complete.ensures ∙ c.self.invariant.complete in
+    let listed = c.complete.ensures ∙ c.self.invariant.listed.complete in
     let lowest = rw items at (c.lowest.ensures lists_complete listed) in
     lowest_of lists_complete IsComplete c.args.self.now.items c.lowest.result complete_true complete_is lowest

@@ -8,6 +8,6 @@ use Rattle.slab_layer.proofs.slab_lists.SlabList.lowest_partial.Goals as goal
 pub returns : goal.returns
 returns g c =
     let items = ap (λ (l : SlabListState). l.items) c.self.view_is in
-    let listed = c.partial.ensures ∙ c.self.invariant.partial in
+    let listed = c.partial.ensures ∙ c.self.invariant.listed.partial in
     let lowest = rw items at (c.lowest.ensures lists_partial listed) in
     lowest_of lists_partial IsPartial c.args.self.now.items c.lowest.result partial_true partial_is lowest
