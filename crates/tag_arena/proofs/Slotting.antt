@@ -1,13 +1,14 @@
 -- Slots that are filled and emptied.
-use Rattle.std.proofs.Common.{◌≡◌, ◌≢◌, ⊎_elim, ℕ, ◌+◌, ◌<◌, refl, sym, ap, subst, ◌∙◌, List, [], ◌∷◌, ◌++◌, length, get_or, set, All, AllPairs, Contains, Option, None, Some, is_some, cond, vec_len, vec_capacity, arith}
+use Rattle.std.proofs.Common.{◌≡◌, ◌≢◌, ⊎_elim, ℕ, ◌+◌, ◌^◌, ◌<◌, ◌≤◌, refl, sym, ap, subst, ◌∙◌, List, [], ◌∷◌, ◌++◌, length, get_or, set, All, AllPairs, Contains, Option, None, Some, is_some, cond, vec_len, vec_capacity, sum_by, arith}
 use Rattle.std.proofs.lemmas.List.{get_or-set_same, get_or-set_other, get_or_append_left, get_or_push, get_or_default, get_or_past, length_push, length-set, set-set, set-get_or}
-use Rattle.std.proofs.lemmas.List.Elements.{All-push, All-contains, Contains-push}
-use Rattle.std.proofs.lemmas.List.Sums.{sum_by-set, sum_by_push}
+use Rattle.std.proofs.lemmas.Bool.{cases_order}
+use Rattle.std.proofs.lemmas.List.Elements.{All-push, All-set, All-contains, Contains-push}
+use Rattle.std.proofs.lemmas.List.Sums.{sum_by-set, sum_by_push, sum_by-le, get_or-le-sum_by}
 use Rattle.std.specs.Global.{Vec}
 use Rattle.deed_core.specs.Holding.{Holding}
 use Rattle.tag_arena.proofs.Members.{All-from_members, AllPairs-append, Contains-cases, Contains-nil}
 use Rattle.tag_arena.specs.FreeTags.{FreeTag, tag_at, SlotBecomes}
-use Rattle.tag_arena.specs.Slotted.{taken_count, IsSlotted}
+use Rattle.tag_arena.specs.Slotted.{taken_count, slot_units, IsSlotted, AreCounted}
 use Rattle.tag_arena.proofs.Listing.{None≢Some, Some-injective, AllPairs-one}
 
 abbrev pub one_of : Option FreeTag → ℕ
@@ -60,6 +61,32 @@ module _ (slots : Vec (Option FreeTag)) (vacant rest : Vec ℕ) (room k : ℕ) (
         slots_hold = omega (arith, s.slots_hold, same);
         vacant_holds = omega (arith, s.vacant_holds, capacity);
       }
+
+-- where none is vacant, a slot that is added
+pub grown : (slots new : Vec (Option FreeTag)) (vacant rest : Vec ℕ) (room : ℕ) (t : FreeTag) → IsSlotted slots vacant room → vec_len vacant ≡ 0 → vec_len rest ≡ 0 → vec_capacity rest ≡ vec_capacity vacant → taken_count slots.items < room
+    → new.items ≡ slots.items ++ Some t ∷ [] → vec_len new ≡ vec_len slots + 1 → vec_capacity new ≡ vec_capacity slots → IsSlotted new rest room
+grown slots new vacant rest room t s none left capacity more is len same =
+    let count = taken_last new.items slots.items (Some t) is in
+    record {
+      empty = λ p d below. absurd (omega (arith, below, left));
+      apart = λ i j d less within. absurd (omega (arith, less, within, left));
+      counted = omega (arith, s.counted, none, left, count, len);
+      within = omega (arith, s.counted, none, more, len);
+      slots_hold = omega (arith, s.slots_hold, same);
+      vacant_holds = omega (arith, s.vacant_holds, capacity);
+    }
+
+pub slot_pushed : (old : List (Option FreeTag)) (o : Option FreeTag) (k : ℕ) → length old ≡ k → SlotBecomes old (old ++ o ∷ []) k o
+slot_pushed old o k at = record {
+  changed = get_or_push old o None k at;
+  others = λ j ne. ⊎_elim
+      (λ e. absurd (ne e))
+      (λ apart. ⊎_elim
+      (λ less. get_or_append_left old (o ∷ []) None j (omega arith))
+      (λ past. get_or_past (old ++ o ∷ []) j None (omega (arith, length_push old o)) ∙ sym (get_or_past old j None (omega arith)))
+      apart)
+      (cases_order j k);
+}
 
 -- where a slot is taken, there is room for one more vacant slot
 pub room_beside : (slots : Vec (Option FreeTag)) (vacant : Vec ℕ) (room k : ℕ) (t : FreeTag) → IsSlotted slots vacant room → tag_at slots.items k ≡ Some t → vec_len vacant < vec_capacity vacant
@@ -126,3 +153,30 @@ tag_is made t range since power is range_is since_is power_is =
 -- what was taken out of a slot is what lay there
 pub taken_is : (tags : List (Option FreeTag)) (k : ℕ) (t u : FreeTag) (o d : Option FreeTag) → tag_at tags k ≡ Some t → o ≡ Some u → o ≡ d → d ≡ get_or tags k d → u ≡ t
 taken_is tags k t u o d here is read at = Some-injective (sym is ∙ (read ∙ (at ∙ (get_or_default tags k d None (slot_within tags k t here) ∙ here))))
+
+-- the units of slots, after a change
+module _ (old new : List (Option FreeTag)) (k units after : ℕ) (c : AreCounted old units) where
+  pub counted_set : (o : Option FreeTag) → k < length old → slot_units o ≤ 2 ^ 62 → new ≡ set old k o → after + slot_units (tag_at old k) ≡ units + slot_units o → AreCounted new after
+  counted_set o lt here is sums = record {
+    small = subst (All (λ p. slot_units p ≤ 2 ^ 62)) (sym is) (All-set (λ p. slot_units p ≤ 2 ^ 62) old k o here c.small);
+    sum = omega (arith, sum_by-set slot_units old k o None lt, ap (sum_by slot_units) is, c.sum, sums);
+  }
+
+  pub counted_push : (o : Option FreeTag) → slot_units o ≤ 2 ^ 62 → new ≡ old ++ o ∷ [] → after ≡ units + slot_units o → AreCounted new after
+  counted_push o here is sums = record {
+    small = subst (All (λ p. slot_units p ≤ 2 ^ 62)) (sym is) (All-push (λ p. slot_units p ≤ 2 ^ 62) old o c.small here);
+    sum = omega (arith, sum_by_push slot_units old o, ap (sum_by slot_units) is, c.sum, sums);
+  }
+
+  pub counted_same : new ≡ old → after ≡ units → AreCounted new after
+  counted_same is same = record {
+    small = subst (All (λ p. slot_units p ≤ 2 ^ 62)) (sym is) c.small;
+    sum = omega (arith, ap (sum_by slot_units) is, c.sum, same);
+  }
+
+-- a slot's units are counted, and there is room to count one more's
+pub one_counted : (slots : List (Option FreeTag)) (k units : ℕ) (t : FreeTag) → AreCounted slots units → tag_at slots k ≡ Some t → t.range.range.len ≤ units
+one_counted slots k units t c here = omega (arith, get_or-le-sum_by slot_units slots k None (slot_within slots k t here), ap slot_units here, c.sum)
+
+pub room_counted : (slots : List (Option FreeTag)) (units : ℕ) → AreCounted slots units → length slots < 2 ^ 64 → units < 2 ^ 126
+room_counted slots units c few = omega (arith, sum_by-le slot_units (2 ^ 62) slots c.small, c.sum)

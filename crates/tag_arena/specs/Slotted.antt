@@ -1,6 +1,6 @@
 -- What is always so of the slots.
-use Rattle.std.specs.Prelude.{◌≡◌, ◌≢◌, ℕ, ◌+◌, ◌<◌, ◌≤◌, List, Option, None, Some, All, AllPairs}
-use Rattle.std.specs.Prelude.{length, count_by, is_some, vec_len, vec_capacity}
+use Rattle.std.specs.Prelude.{◌≡◌, ◌≢◌, ℕ, ◌+◌, ◌^◌, ◌<◌, ◌≤◌, List, Option, None, Some}
+use Rattle.std.specs.Prelude.{All, AllPairs, length, count_by, sum_by, is_some, vec_len, vec_capacity}
 use Rattle.std.specs.Global.{Vec}
 use Rattle.tag_arena.specs.FreeTags.{FreeTag, tag_at}
 
@@ -26,3 +26,14 @@ pub record IsSlotted (slots : Vec (Option FreeTag)) (vacant : Vec ℕ) (room : �
   pub within : vec_len slots ≤ room
   pub slots_hold : room ≤ vec_capacity slots
   pub vacant_holds : room ≤ vec_capacity vacant
+
+-- the units of what lies in slots are counted, and none of it is longer than the space
+pub record AreCounted (slots : List (Option FreeTag)) (units : ℕ) : Type 0 where
+  pub small : All (λ o. slot_units o ≤ 2 ^ 62) slots
+  pub sum : units ≡ sum_by slot_units slots
+
+-- both
+pub record AreSlots (slots : Vec (Option FreeTag)) (vacant : Vec ℕ) (room units : ℕ)
+    : Type 0 where
+  pub slotted : IsSlotted slots vacant room
+  pub counted : AreCounted slots.items units

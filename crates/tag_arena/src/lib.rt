@@ -32,16 +32,16 @@
 //! cells a neighbor is found without a search. On the lists a range comes and goes without one, and
 //! `instant` looks at 64 heads at most. `next`, and a request with an `align` or a `nocross` of its
 //! own, pass by the rows that have no room with one look at each; `Arena::probes` tells how many
-//! ranges the last grant tried. Other calls look at more: `Arena::report` at each slot that a free
-//! range ever had, `Arena::remove_owned` at each owned span below the one that it takes, a carve, a
-//! new span or an import that makes a table larger at each range, and the first call that needs
-//! `sizes` at each free range: under `instant` one with options, or for which no list serves, or
-//! `Arena::remove_owned`. A request with a window of its own, from `min` to `max`, may try many
-//! ranges that don't serve it, and one on another grid than the last may weigh many anew. An index
-//! takes some 100 bytes for each range, free or allocated, whether `sizes` is kept yet or not,
-//! cells and chains some 40 to 80, and the lists 8 to 16, beside 1,024 of each arena: a carve and
-//! a new span make room for what they add, and for each allocated range to become free, before they
-//! change anything. So `Arena::free` and `Arena::remove_owned` take no memory.
+//! ranges the last grant tried. Other calls look at more: `Arena::remove_owned` at each owned span
+//! below the one that it takes, a carve, a new span or an import that makes a table larger at each
+//! range, and the first call that needs `sizes` at each free range: under `instant` one with
+//! options, or for which no list serves, or `Arena::remove_owned`. A request with a window of its
+//! own, from `min` to `max`, may try many ranges that don't serve it, and one on another grid than
+//! the last may weigh many anew. An index takes some 100 bytes for each range, free or allocated,
+//! whether `sizes` is kept yet or not, cells and chains some 40 to 80, and the lists 8 to 16,
+//! beside 1,024 of each arena: a carve and a new span make room for what they add, and for each
+//! allocated range to become free, before they change anything. So `Arena::free` and
+//! `Arena::remove_owned` take no memory.
 //!
 //! Its rules are those of "Magazines and Vmem" (2001), where no other source is named.
 #![tactic(auto)]

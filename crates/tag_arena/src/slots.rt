@@ -1,6 +1,6 @@
 //! Deeds of free ranges in numbered slots.
-ghost use Rattle.std.specs.Prelude.{◌≡◌, ◌+◌, ◌<◌, ◌≤◌, [], None, Some, OnOk, OnErr, IsTrue, ◌↔◌};
-ghost use Rattle.std.specs.Prelude.{All, length, max, IfOk, IfSome, sum_by};
+ghost use Rattle.std.specs.Prelude.{◌≡◌, ◌+◌, ◌^◌, ◌<◌, ◌≤◌, [], None, Some, OnOk, OnErr, IsTrue};
+ghost use Rattle.std.specs.Prelude.{◌↔◌, All, length, max, IfOk, IfSome, sum_by};
 ghost use Rattle.deed_core.specs.Extent.{IsRange, end_of};
 ghost use Rattle.tag_arena.specs.Boundaries.{LiesIn, StandsAt, begin_of, tag_end};
 ghost use Rattle.tag_arena.specs.Cuts.{IsCut};
@@ -41,6 +41,14 @@ impl<D: Deed> TimedDeed<D> {
             power,
             cell: ShortIndex::none(),
         }
+    }
+
+    /// How many units it has.
+    fn len(&self) -> u64
+        ensures value { result ≡ self.now.range.range.len }
+        ensures small { result ≤ 2 ^ 62 }
+    {
+        self.deed.range().len()
     }
 
     /// The deed itself.
@@ -107,21 +115,22 @@ impl SlotTag {
     }
 }
 
-/// Deeds in numbered slots, with room for a number of them.
+/// Deeds in numbered slots, with room for a number of them. Their units are counted.
 pub(crate) struct Slots<D: Deed> {
     slots: Vec<Option<TimedDeed<D>>>,
     vacant: Vec<usize>,
     room: usize,
+    units: u128,
 }
 
 impl<D: Deed> Model for Slots<D> {
-    ghost use Rattle.tag_arena.specs.Slotted.{SlotsState, IsSlotted};
+    ghost use Rattle.tag_arena.specs.Slotted.{SlotsState, AreSlots};
 
     ghost Value = { SlotsState };
 
     ghost view = { λ s. record { tags = s.slots.items; room = s.room } };
 
-    ghost invariant = { λ s. IsSlotted s.slots s.vacant s.room };
+    ghost invariant = { λ s. AreSlots s.slots s.vacant s.room s.units };
 }
 
 impl<D: Deed> Slots<D> {
@@ -133,6 +142,7 @@ impl<D: Deed> Slots<D> {
             slots: Vec::new(alloc),
             vacant: Vec::new(alloc),
             room: 0,
+            units: 0,
         }
     }
 
@@ -160,6 +170,9 @@ impl<D: Deed> Slots<D> {
         ensures room { self.new.room ≡ self.old.room }
         ensures within { result < self.new.room }
     {
+        // For its clause: a `usize` holds the number of all slots.
+        let _ = self.slots.len();
+        self.units += deed.len() as u128;
         match self.vacant.pop() {
             Some(slot) => {
                 match self.slots[slot].replace(deed) {
@@ -186,6 +199,7 @@ impl<D: Deed> Slots<D> {
         let Some(deed) = self.slots[slot].take() else {
             unreachable!()
         };
+        self.units -= deed.len() as u128;
         self.vacant.push_reserved(slot);
         deed
     }
@@ -215,6 +229,7 @@ impl<D: Deed> Slots<D> {
         };
         match cut_out(timed.into_deed(), base, end) {
             Ok(cut) => {
+                self.units -= tag.range().len() as u128;
                 self.vacant.push_reserved(at);
                 Ok(cut)
             }
@@ -392,13 +407,7 @@ impl<D: Deed> Slots<D> {
     pub(crate) fn units(&self) -> u128
         ensures { result ≡ sum_by slot_units self.now.tags }
     {
-        let mut units: u128 = 0;
-        for slot in &self.slots {
-            if let Some(deed) = slot {
-                units += deed.tag().range().len() as u128;
-            }
-        }
-        units
+        self.units
     }
 
     /// Ends the slots where no deed lies in any.
@@ -409,6 +418,7 @@ impl<D: Deed> Slots<D> {
             slots,
             vacant: _,
             room: _,
+            units: _,
         } = self;
         drop_vacant(slots);
     }

@@ -1,7 +1,7 @@
 use Rattle.std.proofs.Common.{◌<◌, length, Some, ap, ◌∙◌, sym, subst, refl, arith}
-use Rattle.tag_arena.specs.Slotted.{IsSlotted}
+use Rattle.tag_arena.specs.Slotted.{AreSlots}
 use Rattle.tag_arena.proofs.Lying.{same_slot}
-use Rattle.tag_arena.proofs.Slotting.{slotted_same}
+use Rattle.tag_arena.proofs.Slotting.{counted_same, slotted_same}
 use Rattle.tag_arena.proofs.slots.Slots.set_cell.Goals as goal
 use Rattle.tag_arena.proofs.slots.Slots.set_cell.Goals.{in-Some, in_default}
 
@@ -12,8 +12,8 @@ invariant_of-self g c =
     elim c.match-index_mut.branch [
       | in-Some w ↦
           let same = same_slot s.slots.items c.args.slot _ c.index_mut.result.now lt (ap (λ u. Some u) w.timed.view_is ∙ sym w.in-Some.is) c.index_mut.ensures.value in
-          subst (λ x. IsSlotted x.slots x.vacant x.room) (sym w.self-inside-is) (slotted_same s.slots _ s.vacant s.room c.self.invariant same refl)
+          subst (λ x. AreSlots x.slots x.vacant x.room x.units) (sym w.self-inside-is) (record { slotted = slotted_same s.slots _ s.vacant s.room c.self.invariant.slotted same refl; counted = counted_same s.slots.items _ c.args.slot s.units s.units c.self.invariant.counted same refl })
       | in_default w ↦
           let same = same_slot s.slots.items c.args.slot c.index_mut.result.now c.index_mut.result.now lt refl c.index_mut.ensures.value in
-          subst (λ x. IsSlotted x.slots x.vacant x.room) (sym w.self-inside-is) (slotted_same s.slots _ s.vacant s.room c.self.invariant same refl)
+          subst (λ x. AreSlots x.slots x.vacant x.room x.units) (sym w.self-inside-is) (record { slotted = slotted_same s.slots _ s.vacant s.room c.self.invariant.slotted same refl; counted = counted_same s.slots.items _ c.args.slot s.units s.units c.self.invariant.counted same refl })
     ]
