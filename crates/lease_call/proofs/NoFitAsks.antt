@@ -37,7 +37,7 @@ use Rattle.lease_call.specs.Calls.{BookCall}
 use Rattle.lease_call.specs.Hands.{on_place, place_first, hand_first}
 use Rattle.lease_call.specs.Laws.{NoFitIsLast}
 use Rattle.lease_call.specs.Leasing.{is_plain, carve_end, take_steps, take_plan, on_settle, on_take, lease_at, on_look}
-use Rattle.lease_call.specs.NoFits.{AsksAfter, LastFoundNone, NoFitAfter}
+use Rattle.lease_call.specs.Refusing.{AsksAfter, LastFoundNone, NoFitAfter}
 use Rattle.lease_call.specs.Placing.{place_plan}
 use Rattle.lease_call.specs.Releasing.{CallEnd, on_release, release_at}
 use Rattle.lease_call.specs.Requesting.{op_plan}

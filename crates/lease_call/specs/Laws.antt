@@ -20,7 +20,7 @@ use Rattle.lease_call.specs.Calls.{BookCall, AnswerOf}
 use Rattle.lease_call.specs.Greeting.{HelloEnd, greet_plan, hello_plan}
 use Rattle.lease_call.specs.Kept.{CallHandles, HandsBack, KeepsAll, call_left, put_first}
 use Rattle.lease_call.specs.Leasing.{lease_plan}
-use Rattle.lease_call.specs.NoFits.{AsksAfter, NoFitAfter}
+use Rattle.lease_call.specs.Refusing.{AsksAfter, NoFitAfter}
 use Rattle.lease_call.specs.Releasing.{CallEnd, release_plan}
 use Rattle.lease_call.specs.Requesting.{request_plan}
 use Rattle.lease_call.specs.declared.outcomes.Outcome.TheVariants.{Settled, Answered, Again}

@@ -11,5 +11,5 @@ pub mod Taking
 pub mod Requesting
 pub mod Greeting
 pub mod Kept
-pub mod NoFits
+pub mod Refusing
 pub mod Laws

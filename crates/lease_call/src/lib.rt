@@ -12,7 +12,7 @@
 //! Hands.antt, Releasing.antt, Leasing.antt, Requesting.antt and Greeting.antt the lists of steps,
 //! line by line. A function has the one clause that its list of steps was gone through
 //! (`CallRan`), and a few that follow from it; all else is a law (laws): how many locks of parts a
-//! line takes at most, that it loses no segment (Kept.antt), and when nothing fits (NoFits.antt).
+//! line takes at most, that it loses no segment (Kept.antt), and when nothing fits (Refusing.antt).
 #![tactic(auto)]
 
 mod books;

@@ -41,16 +41,16 @@ LastFoundNone true arenas arena q told = NoneFitted (chain_in arenas arena) q.si
 LastFoundNone false arenas arena q told = NotCarved arena q told
 
 -- for a lease, in the arena that it names; a release never comes to that
-abbrev pub NothingFits : List TreeArena → Op → List AnsweredEvent → Type 0
-NothingFits arenas (ops.Lease l) told = (arena : ℕ) × (index_in l.arena arenas ≡ Some arena)
+abbrev pub NoneWasFound : List TreeArena → Op → List AnsweredEvent → Type 0
+NoneWasFound arenas (ops.Lease l) told = (arena : ℕ) × (index_in l.arena arenas ≡ Some arena)
     × LastFoundNone (is_plain (demand_of l)) arenas arena (demand_of l) told
-NothingFits arenas (ops.Release l) told = ⊥
+NoneWasFound arenas (ops.Release l) told = ⊥
 
 -- where the book is asked to refuse the request for NoFit, nothing fitted
 abbrev pub NoFitAfter : List TreeArena → Op → BookCall → List AnsweredEvent → Type 0
 NoFitAfter arenas op (Look id) told = Unit {0}
 NoFitAfter arenas op (Settle id given terms) told = Unit {0}
-NoFitAfter arenas op (Refuse id why) told = why ≡ NoFit → NothingFits arenas op told
+NoFitAfter arenas op (Refuse id why) told = why ≡ NoFit → NoneWasFound arenas op told
 NoFitAfter arenas op (Release id arena base) told = Unit {0}
 NoFitAfter arenas op (Hello client incarnation) told = Unit {0}
 NoFitAfter arenas op (Sweep client) told = Unit {0}
