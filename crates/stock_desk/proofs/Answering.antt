@@ -7,7 +7,7 @@ use Rattle.lease_proto.specs.Faults.{error_line}
 use Rattle.lease_proto.specs.Operators.{served_of}
 use Rattle.lease_machine.specs.Picture.{Picture, IsPicture}
 use Rattle.lease_machine.specs.Machine.{AnswersLine, ServedStep, LeaseStep}
-use Rattle.stock_desk.specs.Operating.{StaysPicture}
+use Rattle.stock_desk.specs.Operators.{StaysPicture}
 
 module _ {A E : Type 0} where
   -- bytes were appended where there was room

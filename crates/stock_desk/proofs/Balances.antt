@@ -25,12 +25,12 @@ use Rattle.lease_book.specs.BookState.{BookState, leased_segments, units_of_aren
 use Rattle.lease_proto.specs.Reports.{audit_text}
 use Rattle.lease_machine.specs.Picture.{NumberedCpu, Picture, IsPicture, caches_of, held_outside}
 use Rattle.lease_machine.specs.Operators.{audit_line, sums_in}
-use Rattle.stock_desk.specs.Parting.{HasParts}
 use Rattle.stock_desk.proofs.CpuUnits.{cpus_weigh}
+use Rattle.stock_desk.specs.Supplies.{HasParts}
 
 -- as many arenas as the tree has
 pub same_length : (d : Picture) → IsPicture d → length d.spaces ≡ length d.tree
-same_length d is = sym (length-map d.spaces plan_of) ∙ ap length is.plans ∙ length-map d.tree plan_for
+same_length d is = sym (length-map d.spaces plan_of) ∙ ap length is.held.plans ∙ length-map d.tree plan_for
 
 -- text that more was appended to begins as it did
 starts_front : (a x c : List ℕ) → StartsWith c (a ++ x) → StartsWith c a
@@ -56,16 +56,16 @@ module _ (d : Picture) (is : IsPicture d) (k : ℕ) (s : SpaceState) (at : slice
   in_depots = flat_map (λ c. holdings_of (depot_rounds c.depot)) s.caches
 
   here : (ts : List Tag) → units_of_arena_in k ts ≡ units_held (held_of s.arena.id ts)
-  here ts = ap (λ i. units_held (held_of i ts)) (sym (is.units.parts k s at).id)
+  here ts = ap (λ i. units_held (held_of i ts)) (sym (is.held.units.parts k s at).id)
 
   rounds_weigh : units_of_arena_in k all_rounds ≡ rounds_in_cpus k d.cpus
-  rounds_weigh = units_weigh k all_rounds ∙ cpus_weigh k d.spaces d.cpus (λ i c below. (is.cpus.each i c below).1) is.units.cpus
+  rounds_weigh = units_weigh k all_rounds ∙ cpus_weigh k d.spaces d.cpus (λ i c below. (is.held.cpus.each i c below).1) is.held.units.cpus
 
   magazine_parts : (sums_in d s).magazine ≡ units_held in_depots + units_held (held_of s.arena.id all_rounds)
   magazine_parts = sum_by-append units_in in_depots (held_of s.arena.id all_rounds)
 
   pub rounds_fit : rounds_in_cpus k d.cpus ≤ units_held (spans_of s.arena)
-  rounds_fit = omega (arith, audit_adds_up d.spaces (held_outside d) is.units k s at, magazine_parts, here all_rounds, rounds_weigh)
+  rounds_fit = omega (arith, audit_adds_up d.spaces (held_outside d) is.held.units k s at, magazine_parts, here all_rounds, rounds_weigh)
 
   pub tally_of : (rounds leases : ℕ) → rounds ≡ min (rounds_in_cpus k d.cpus) (2 ^ 128 - 1) → leases ≡ sum_by (units_of_arena k) (leased_segments d.book) → units_held (spans_of s.arena) ≤ 2 ^ 128 - 1
       → IsTally k (out_of (held_outside d)) (record { rounds = rounds; leased = leases; hand = 0 })
@@ -77,7 +77,7 @@ module _ (d : Picture) (is : IsPicture d) (k : ℕ) (s : SpaceState) (at : slice
 
   pub balanced_of : (rounds leases : ℕ) → rounds ≡ min (rounds_in_cpus k d.cpus) (2 ^ 128 - 1) → leases ≡ sum_by (units_of_arena k) (leased_segments d.book) → units_held (spans_of s.arena) ≤ 2 ^ 128 - 1
       → IsBalanced d.spaces k (record { rounds = rounds; leased = leases; hand = 0 })
-  balanced_of rounds leases counted sum fits = record { out = out_of (held_outside d); accounts = is.units.accounts; tally = tally_of rounds leases counted sum fits }
+  balanced_of rounds leases counted sum fits = record { out = out_of (held_outside d); accounts = is.held.units.accounts; tally = tally_of rounds leases counted sum fits }
 
 -- the same of the parts
 module _ (tree : List TreeArena) (spaces : List SpaceState) (cpus : List NumberedCpu) (book : BookState) (d : Picture) (is : IsPicture d) (parts : HasParts tree spaces cpus book d)

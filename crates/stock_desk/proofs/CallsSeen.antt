@@ -14,7 +14,7 @@ use Rattle.local_parts.specs.Steps.{LocalStep}
 use Rattle.stock.specs.OwnCaches.{OwnCacheState}
 use Rattle.stock.specs.Spaces.{SpaceState}
 use Rattle.lease_machine.specs.Conversations.{BookDoes, RunsCall}
-use Rattle.stock_desk.specs.Parts.{local_of}
+use Rattle.stock_desk.specs.Supplies.{local_of}
 
 module _ {B P D : Type 0} (arenas : List TreeArena) (read : B → BookState) (see : P → LocalState) (part : P → (e : Event) → AnswerTo e → P → Type 0) (tree : P → List Node) (count rounds : P → ℕ) (book : B → P → (k : BookCall) → AnswerOf D k → B → P → Type 0)
     (parts : (s t : P) (e : Event) (x : AnswerTo e) → part s e x t → LocalStep (see s) e x (see t)) (books : (b c : B) (s t : P) (k : BookCall) (x : AnswerOf D k) → book b s k x c t → BookDoes D (read b) (see s) k x (read c) (see t)) where

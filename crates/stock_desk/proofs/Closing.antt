@@ -8,7 +8,7 @@ use Rattle.stock.specs.OwnCaches.{OwnCacheState, own_rounds, all_own_rounds}
 use Rattle.local_parts.specs.Cpus.{cpu_rounds}
 use Rattle.lease_book.specs.BookState.{leased_segments}
 use Rattle.lease_machine.specs.Picture.{NumberedCpu, Picture, IsPicture, caches_of}
-use Rattle.stock_desk.specs.Emptyings.{rounds_of_all}
+use Rattle.stock_desk.specs.Supplies.{rounds_of_all}
 
 -- the rounds of all caches are those of all CPUs
 joined_rounds : (rows : List (List OwnCacheState)) → all_own_rounds (flat_map (λ row. row) rows) ≡ cpu_rounds rows
@@ -21,4 +21,4 @@ rounds_joined (c ∷ cs) = flat_map-append own_rounds (caches_of c) (flat_map ca
 
 -- so leases are out and they, and nothing else
 pub out_of_picture : (d : Picture) → IsPicture d → Accounts d.spaces (leased_segments d.book ++ rounds_of_all d.cpus)
-out_of_picture d is = subst (λ (ts : List Tag). Accounts d.spaces (leased_segments d.book ++ ts)) (rounds_joined d.cpus) is.units.accounts
+out_of_picture d is = subst (λ (ts : List Tag). Accounts d.spaces (leased_segments d.book ++ ts)) (rounds_joined d.cpus) is.held.units.accounts

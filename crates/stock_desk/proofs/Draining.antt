@@ -22,9 +22,8 @@ use Rattle.local_parts.specs.Steps.{LocalStep}
 use Rattle.local_parts.proofs.LawProofs.{plan_conserves, plan_keeps_setup, path_seen}
 use Rattle.local_calls.specs.Runs.{SoundStep, RunsTo}
 use Rattle.lease_machine.specs.Picture.{NumberedCpu}
-use Rattle.stock_desk.specs.Emptyings.{rounds_of_all}
-use Rattle.stock_desk.specs.Parts.{local_of}
 use Rattle.stock_desk.proofs.NumberedCpus.{last_cpu}
+use Rattle.stock_desk.specs.Supplies.{local_of, rounds_of_all}
 
 -- its steps, each by what it does
 pub local_path : (arenas : List TreeArena) (A : Type 0) (p : Plan A) (old new : LocalState) (a : A) → RunsTo arenas p old new a → Path LocalStep p old new a

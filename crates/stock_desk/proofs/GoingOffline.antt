@@ -9,13 +9,12 @@ use Rattle.stock.specs.OwnCaches.{OwnCacheState}
 use Rattle.stock.specs.Spaces.{SpaceState, plans_of}
 use Rattle.local_parts.specs.Cpus.{cpu_rounds, new_cpu}
 use Rattle.local_calls.specs.Runs.{IsLocalOf, RunsTo}
-use Rattle.lease_machine.specs.Picture.{NumberedCpu, Picture, is_cpu}
-use Rattle.lease_machine.specs.Held.{IsHeld}
+use Rattle.lease_machine.specs.Picture.{NumberedCpu, Picture, is_cpu, IsHeld}
 use Rattle.lease_machine.proofs.LawProofs.{offline_is_local, drain_goes_offline}
-use Rattle.stock_desk.specs.Operating.{IsOffline}
-use Rattle.stock_desk.specs.Parts.{local_of}
+use Rattle.stock_desk.specs.Operators.{IsOffline}
 use Rattle.stock_desk.proofs.NumberedCpus.{found_cpu}
 use Rattle.stock_desk.proofs.SelectedCpu.{found_here, renewed_caches, renewed_none}
+use Rattle.stock_desk.specs.Supplies.{local_of}
 
 -- a CPU that has an index is found
 pub found_there : (n : ℕ) (cs : List NumberedCpu) (k : ℕ) → position (is_cpu n) cs ≡ Some k → find (is_cpu n) cs ≢ None

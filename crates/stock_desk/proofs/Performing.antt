@@ -13,11 +13,10 @@ use Rattle.lease_proto.specs.declared.operators.ResizeLine.{ResizeLine}
 use Rattle.lease_proto.specs.Operators.{rounds_named}
 use Rattle.lease_book.specs.BookState.{BookState}
 use Rattle.stock.specs.Spaces.{SpaceState}
-use Rattle.lease_machine.specs.Picture.{NumberedCpu, Picture, IsPicture, IsBookOf, SameSetup}
+use Rattle.lease_machine.specs.Picture.{NumberedCpu, Picture, IsPicture, IsBookOf, SameSetup, IsHeld}
 use Rattle.lease_machine.specs.Operators.{Resizes, with_depots_by, with_cpu}
-use Rattle.lease_machine.specs.Held.{IsHeld}
-use Rattle.lease_machine.proofs.LawProofs.{picture_of, ticks_keep, resizes_keep, selected_is_picture}
-use Rattle.stock_desk.specs.Operating.{StaysPicture, IsPerformed}
+use Rattle.lease_machine.proofs.LawProofs.{ticks_keep, resizes_keep, selected_is_picture}
+use Rattle.stock_desk.specs.Operators.{StaysPicture, IsPerformed}
 use Rattle.stock_desk.specs.Supplies.{SupplyState, picture_with}
 
 pub error_short : (w : ErrorWord) → length (error_text w) ≤ LINE_ROOM
@@ -37,7 +36,7 @@ keeps_none d is = record { setup = record { tree = refl; owned = refl }; picture
 pub keeps_held : (b : BookState) (old new : SupplyState) → IsPicture (picture_with b old) → IsHeld [] (picture_with b new) → SameSetup (picture_with b old) (picture_with b new) → StaysPicture (picture_with b old) (picture_with b new)
 keeps_held b old new is held setup = record {
   setup = setup;
-  picture = picture_of (picture_with b new) held (subst (λ tree. IsBookOf tree b) (sym setup.tree) is.book);
+  picture = record { held = held; book = subst (λ tree. IsBookOf tree b) (sym setup.tree) is.book };
 }
 
 pub keeps_selected : (d : Picture) (n : ℕ) → IsPicture d → IsCpu n → StaysPicture d (record d { cpus = with_cpu n d; selected = n })

@@ -5,14 +5,13 @@ use Rattle.quantum_cache.specs.declared.reaps.Reaping.{Reaping}
 use Rattle.quantum_cache.specs.Reaps.{reap_plan}
 use Rattle.local_parts.specs.States.{LocalState}
 use Rattle.local_calls.specs.Runs.{RunsTo}
-use Rattle.lease_machine.specs.Picture.{NumberedCpu, Picture, SameSetup, is_cpu}
+use Rattle.lease_machine.specs.Picture.{NumberedCpu, Picture, SameSetup, is_cpu, IsHeld}
 use Rattle.lease_machine.specs.ReapLaws.{ReapsSome}
-use Rattle.lease_machine.specs.Held.{IsHeld}
 use Rattle.lease_machine.proofs.LawProofs.{reap_reaps, reaps_none, reapings_add, cached_units_fit}
 use Rattle.arena_tree.specs.declared.limits.TheConstants.{MOST_ARENAS}
-use Rattle.stock_desk.specs.Operating.{IsReapedOnce, IsReapedSo}
-use Rattle.stock_desk.specs.Parts.{local_of}
+use Rattle.stock_desk.specs.Operators.{IsReapedOnce, IsReapedSo}
 use Rattle.stock_desk.proofs.SelectedParts.{is_after, same_parts}
+use Rattle.stock_desk.specs.Supplies.{local_of}
 
 pub reaped_so : (d : Picture) (k : ℕ) (c : NumberedCpu) → position (is_cpu d.selected) d.cpus ≡ Some k → slice_get d.cpus k ≡ Some c → IsHeld [] d → (s : LocalState) (r : Reaping) → RunsTo d.tree (reap_plan d.tree (2 ^ 64 - 1)) (local_of d.spaces c.caches) s (Ok r)
     → IsReapedOnce r d (record d { spaces = s.spaces; cpus = set d.cpus k (record { number = c.number; caches = s.cpu }) })

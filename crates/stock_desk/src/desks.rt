@@ -1,32 +1,29 @@
-//! The desk.
-ghost use Rattle.std.specs.Prelude.{◌≡◌, ◌*◌, ◌++◌, ◌+◌, ◌≤◌, ℕ, List, IfOk, OnOk, OnErr, IsErr};
+//! The desk, as what answers the lines that a server reads.
+ghost use Rattle.std.specs.Prelude.{◌≡◌, ◌++◌, ◌+◌, ◌≤◌, ℕ, List, IfOk, OnOk, OnErr, IsErr};
 ghost use Rattle.std.specs.Prelude.{vec_len};
 ghost use Rattle.std.specs.Vec.{vec_capacity};
-ghost use Rattle.arena_tree.specs.declared.limits.TheConstants.{MOST_ARENAS, MOST_SPANS};
+ghost use Rattle.arena_tree.specs.declared.limits.TheConstants.{MOST_ROOTS};
 ghost use Rattle.lease_proto.specs.Grammar.{line_of};
 ghost use Rattle.lease_proto.specs.declared.limits.TheConstants.{LINE_ROOM};
 ghost use Rattle.lease_proto.specs.declared.operators.ServedLine.TheVariants as served;
-ghost use Rattle.lease_machine.specs.Machine.{LeaseStep, ServedStep};
-ghost use Rattle.lease_machine.specs.Picture.{IsPicture};
+ghost use Rattle.lease_machine.specs.Machine.{LeaseStep, ServedStep, ClientStep};
+ghost use Rattle.lease_machine.specs.Picture.{IsPicture, SameSetup};
 ghost use Rattle.stock_desk.specs.Openings.{IsOpenedFrom};
-ghost use Rattle.stock_desk.specs.Operating.{StaysPicture};
+ghost use Rattle.stock_desk.specs.Supplies.{picture_with};
+ghost use Rattle.stock_desk.specs.Operators.{StaysPicture};
 
-use crate::emptyings::empty_all;
+use crate::endings::{empty_all, end_leases};
 use crate::openings::open_supply;
-use crate::operating::tell;
-use crate::replying::reply;
-use crate::returns::end_leases;
+use crate::operators::tell;
 use crate::supplies::Supply;
-use arena_tree::{MOST_ARENAS, MOST_SPANS, Setup};
+use arena_tree::{MOST_ROOTS, Setup};
 use deed_core::{PlainDeed, Range};
 use lease_book::Book;
-use lease_proto::{LINE_ROOM, Line, OperatorLine, ServedLine, served_law};
+use lease_proto::{LINE_ROOM, Line, OperatorLine, Reply, ServedLine, served_law};
+use lease_server::Responder;
 use std::alloc::{AllocError, Global};
 use std::marker::Model;
 use stock::close_plain_stock;
-
-/// The root of the book's mark: the number after those of all roots of spans.
-const MARK: u32 = (MOST_ARENAS * MOST_SPANS) as u32;
 
 /// Arenas with their caches, CPUs, and the book of their leases.
 pub struct Desk {
@@ -58,10 +55,10 @@ impl Desk {
     pub fn open(alloc: Global, setup: Setup) -> Result<Desk, AllocError>
         ensures opened { IfOk result (IsOpenedFrom setup) }
         ensures picture { IfOk result IsPicture }
-        ensures mark { IfOk result (λ desk. desk.book.mark.root ≡ MOST_ARENAS * MOST_SPANS) }
+        ensures mark { IfOk result (λ desk. desk.book.mark.root ≡ MOST_ROOTS) }
     {
         let supply = open_supply(alloc, setup)?;
-        let mark = PlainDeed::new(MARK, Range::new(0, 1).unwrap());
+        let mark = PlainDeed::new(MOST_ROOTS, Range::new(0, 1).unwrap());
         Ok(Desk {
             supply,
             book: Book::new(alloc, mark),
@@ -155,5 +152,30 @@ impl Desk {
         }
         empty_all(alloc, &tree, &mut stock, cpus);
         close_plain_stock(stock);
+    }
+}
+
+/// Replies to the line of a client.
+fn reply(supply: &mut Supply, book: &mut Book<PlainDeed>, line: &Line) -> Reply
+    requires picture { IsPicture (picture_with book.old supply.old) }
+    ensures picture { IsPicture (picture_with book.new supply.new) }
+    ensures setup { SameSetup (picture_with book.old supply.old)
+        (picture_with book.new supply.new) }
+    ensures step { ClientStep line.now
+        (picture_with book.old supply.old) (picture_with book.new supply.new) result }
+{
+    match line {
+        Line::Hello(hello) => supply.greet(book, hello),
+        Line::Request(id, op) => supply.answer(book, *id, op),
+    }
+}
+
+impl Responder for Desk {
+    ghost use Rattle.lease_machine.specs.Machine.{LeaseStep};
+
+    ghost may_answer = { LeaseStep };
+
+    fn answer(&mut self, line: &[u8], out: &mut Vec<u8>) -> Result<(), AllocError> {
+        Desk::answer(self, line, out)
     }
 }

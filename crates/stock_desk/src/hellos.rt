@@ -1,15 +1,13 @@
 //! The answer to a hello.
-ghost use Rattle.std.specs.Prelude.{◌≡◌};
 ghost use Rattle.lease_call.specs.Greeting.{greet_plan};
 ghost use Rattle.local_calls.specs.Runs.{IsLocalOf};
 ghost use Rattle.lease_machine.specs.Conversations.{RunsCall, AnswersHello};
 ghost use Rattle.lease_machine.specs.Machine.{HelloStep};
 ghost use Rattle.lease_machine.specs.Picture.{IsPicture, SameSetup};
-ghost use Rattle.stock_desk.specs.Parts.{local_of};
-ghost use Rattle.stock_desk.specs.Supplies.{picture_with};
+ghost use Rattle.stock_desk.specs.Supplies.{picture_with, local_of};
 
-use crate::answers::{refused, welcome};
 use crate::own_books::OwnBook;
+use crate::replies::{refused, welcome};
 use crate::supplies::Supply;
 use arena_tree::Tree;
 use deed_core::{PlainDeed, Segment};

@@ -1,14 +1,14 @@
 //! The desk of one thread: arenas by name with their caches, CPUs, and the book of leases, which
 //! together answer the lines of the lease protocol and of its operator.
 //!
-//! Begin with desks, which has the desk itself, and responding, what a server asks of it. Each step
-//! has a module of its own: what segments come from (supplies), the book as `lease_call` asks it
-//! (own_books), the answers to requests and hellos by its lists of steps (requests, hellos) and how
-//! they are told (answers, replying), an operator's choice of a CPU (cpus), his intervals and
-//! magazine sizes (depots), what he is told of the arenas and clients (telling), the answers to an
-//! operator (operating), CPUs that go offline (offlines), what is reaped (reapings), what a setup
-//! gives (openings), and how leases (returns) and CPUs (emptyings) end. What a line may be answered
-//! is stated in the crate `lease_machine`.
+//! Begin with desks, which has the desk itself, as a server asks it. Each step has a module of its
+//! own: what segments come from (supplies), the book as `lease_call` asks it (own_books), the
+//! answers to requests and hellos by its lists of steps (requests, hellos) and the replies that
+//! they are (replies), the answers to an operator (operators), his choice of a CPU (cpus), his
+//! intervals and magazine sizes (depots), what he is told of the arenas and clients (reports), CPUs
+//! that go offline (offlines), what is reaped (reapings), what a setup gives (openings), and how
+//! leases and CPUs end (endings). What a line may be answered is stated in the crate
+//! `lease_machine`.
 //!
 //! A client's line costs what the calls of `quantum_cache` and of the book do, and a look at the
 //! names of the arenas and the numbers of the CPUs, which are few; a hello one free for each lease
@@ -18,22 +18,19 @@
 //! rounds, slabs and spans back one by one, and takes no memory.
 #![tactic(auto)]
 
-mod answers;
 mod cpus;
 mod depots;
 mod desks;
-mod emptyings;
+mod endings;
 mod hellos;
 mod offlines;
 mod openings;
-mod operating;
+mod operators;
 mod own_books;
 mod reapings;
-mod replying;
+mod replies;
+mod reports;
 mod requests;
-mod responding;
-mod returns;
 mod supplies;
-mod telling;
 
 pub use desks::Desk;

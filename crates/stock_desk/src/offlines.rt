@@ -2,13 +2,12 @@
 ghost use Rattle.std.specs.Prelude.{◌≡◌, ◌≢◌, [], None, OnOk, OnErr};
 ghost use Rattle.std.specs.List.{find};
 ghost use Rattle.lease_book.specs.BookState.{BookState};
-ghost use Rattle.lease_machine.specs.Held.{IsHeld};
-ghost use Rattle.lease_machine.specs.Picture.{is_cpu};
-ghost use Rattle.stock_desk.specs.Operating.{IsOffline};
+ghost use Rattle.lease_machine.specs.Picture.{is_cpu, IsHeld};
+ghost use Rattle.stock_desk.specs.Operators.{IsOffline};
 ghost use Rattle.stock_desk.specs.Supplies.{picture_with};
 
 use crate::cpus::{FIRST_ROUNDS, index_of};
-use crate::emptyings::empty;
+use crate::endings::empty;
 use crate::supplies::Supply;
 use lease_proto::CpuNumber;
 use local_parts::CpuCaches;

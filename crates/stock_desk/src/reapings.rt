@@ -1,13 +1,12 @@
 //! What depots and slabs no longer need.
-ghost use Rattle.std.specs.Prelude.{◌≡◌, ◌-◌, ◌^◌, List, [], None, Ok};
+ghost use Rattle.std.specs.Prelude.{◌-◌, ◌^◌, List, [], None, Ok};
 ghost use Rattle.deed_core.specs.Tag.{Tag};
 ghost use Rattle.quantum_cache.specs.Reaps.{reap_plan};
 ghost use Rattle.local_calls.specs.Runs.{IsLocalOf, IsAccountedWith, RunsTo};
 ghost use Rattle.lease_book.specs.BookState.{BookState};
-ghost use Rattle.lease_machine.specs.Held.{IsHeld};
-ghost use Rattle.stock_desk.specs.Operating.{IsReapedOnce, IsReapedSo};
-ghost use Rattle.stock_desk.specs.Parts.{local_of};
-ghost use Rattle.stock_desk.specs.Supplies.{picture_with};
+ghost use Rattle.stock_desk.specs.Operators.{IsReapedOnce, IsReapedSo};
+ghost use Rattle.stock_desk.specs.Supplies.{picture_with, local_of};
+ghost use Rattle.lease_machine.specs.Picture.{IsHeld};
 
 use crate::supplies::Supply;
 use arena_tree::Tree;

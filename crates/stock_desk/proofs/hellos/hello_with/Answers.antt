@@ -5,10 +5,10 @@ use Rattle.lease_call.specs.Greeting.{HelloEnd, greet_plan}
 use Rattle.deed_core.specs.declared.plain.PlainDeed.{PlainDeed}
 use Rattle.lease_call.proofs.LawProofs.{end_same}
 use Rattle.lease_machine.specs.Conversations.{RunsCall}
-use Rattle.stock_desk.specs.Parts.{local_of}
 use Rattle.stock_desk.proofs.CallsSeen.{call_seen, call_stays, same_local}
 use Rattle.stock_desk.proofs.Runs.{local_nodes}
 use Rattle.stock_desk.proofs.hellos.hello_with.Goals as goal
+use Rattle.stock_desk.specs.Supplies.{local_of}
 
 pub hello-requires : goal.hello-requires
 hello-requires c = local_nodes c.args.tree.now (local_of c.args.stock.now c.args.cpu.now) c.requires.local

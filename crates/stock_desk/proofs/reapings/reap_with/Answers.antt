@@ -1,8 +1,8 @@
 use Rattle.std.proofs.Common.{rules}
 use Rattle.local_calls.proofs.LawProofs.{reap_always_done}
-use Rattle.stock_desk.specs.Parts.{local_of}
 use Rattle.stock_desk.proofs.Runs.{ran_leaves, local_nodes, ran_here}
 use Rattle.stock_desk.proofs.reapings.reap_with.Goals as goal
+use Rattle.stock_desk.specs.Supplies.{local_of}
 
 pub reap-requires : goal.reap-requires
 reap-requires c = record { tree = local_nodes c.args.tree.now (local_of c.args.stock.now c.args.cpu.now) c.requires.local }

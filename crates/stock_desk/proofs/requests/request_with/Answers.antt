@@ -3,10 +3,10 @@ use Rattle.lease_call.specs.Releasing.{CallEnd}
 use Rattle.lease_call.specs.Requesting.{op_plan}
 use Rattle.lease_call.proofs.LawProofs.{end_same}
 use Rattle.lease_machine.specs.Conversations.{RunsCall}
-use Rattle.stock_desk.specs.Parts.{local_of}
 use Rattle.stock_desk.proofs.CallsSeen.{call_seen, call_stays, same_local}
 use Rattle.stock_desk.proofs.Runs.{local_nodes}
 use Rattle.stock_desk.proofs.requests.request_with.Goals as goal
+use Rattle.stock_desk.specs.Supplies.{local_of}
 
 pub request-requires : goal.request-requires
 request-requires c = local_nodes c.args.tree.now (local_of c.args.stock.now c.args.cpu.now) c.requires.local

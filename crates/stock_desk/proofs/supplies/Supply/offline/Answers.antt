@@ -8,11 +8,9 @@ use Rattle.stock.specs.Spaces.{plans_of}
 use Rattle.local_parts.specs.Cpus.{cpu_rounds, new_cpu}
 use Rattle.quantum_cache.specs.Drains.{drain_plan}
 use Rattle.local_calls.specs.Runs.{RunsTo}
-use Rattle.lease_machine.specs.Picture.{NumberedCpu, is_cpu}
-use Rattle.lease_machine.specs.Held.{IsHeld}
-use Rattle.stock_desk.specs.Operating.{IsOffline}
-use Rattle.stock_desk.specs.Parts.{local_of}
-use Rattle.stock_desk.specs.Supplies.{SupplyState, picture_with}
+use Rattle.lease_machine.specs.Picture.{NumberedCpu, is_cpu, IsHeld}
+use Rattle.stock_desk.specs.Operators.{IsOffline}
+use Rattle.stock_desk.specs.Supplies.{SupplyState, picture_with, local_of}
 use Rattle.stock_desk.proofs.NumberedCpus.{first_is}
 use Rattle.stock_desk.proofs.GoingOffline.{found_there, was_offline, off_out, went_offline, on_err}
 use Rattle.stock_desk.proofs.supplies.Supply.offline.Goals as goal

@@ -1,4 +1,0 @@
-use Rattle.stock_desk.proofs.emptyings.empty.Goals as goal
-
-pub returns-clause-ran : goal.returns-clause-ran
-returns-clause-ran c turns more = (c.drain_with.new.cpu, c.drain_with.ensures.ran turns more)
