@@ -19,7 +19,7 @@ impl<N: Name> System<N> {
         ensures rest { IfErr result (λ rest. ¬ HoldsNothing rest) }
     {
         let mut cpu = cpu;
-        self.empty(rt, &mut cpu);
+        self.drain(rt, &mut cpu);
         if cpu.hand.is_none() && cpu.is_drained() {
             cpu.end();
             Ok(())
@@ -37,8 +37,9 @@ impl<N: Name> System<N> {
         self.retire(rt, cpu)
     }
 
-    // Places the hand, and then the rounds, of which one that is refused is the hand.
-    fn empty<R: Wait>(&self, rt: &R, cpu: &mut Cpu<N>)
+    /// Places the hand, and then all rounds of the CPU, as far as that goes: one that a part refuses
+    /// is the hand then.
+    pub fn drain<R: Wait>(&self, rt: &R, cpu: &mut Cpu<N>)
         ensures number { cpu.new.number ≡ cpu.old.number }
         ensures magazines { AreForSame cpu.old.caches cpu.new.caches }
     {
