@@ -1,9 +1,9 @@
 -- Quantum caches, and what a contract sees of a CPU's magazines and of a depot with theirs.
-use Rattle.std.specs.Prelude.{◌≡◌, ℕ, zero, suc, ◌*◌, ◌/◌, ◌<◌, List, [], ◌∷◌, ◌++◌, All, length}
-use Rattle.std.specs.Prelude.{◌≤◌, map, sum_by, min}
+use Rattle.std.specs.Prelude.{◌≡◌, ℕ, zero, suc, ◌*◌, ◌<◌, List, [], ◌∷◌, ◌++◌, All, length}
+use Rattle.std.specs.Prelude.{◌≤◌, map, sum_by}
 use Rattle.std.specs.Prelude.{Option, Some, None, slice_get, slice_index}
 use Rattle.arena_tree.specs.Chains.{quantum_in}
-use Rattle.arena_tree.specs.Trees.{nodes_of}
+use Rattle.arena_tree.specs.Trees.{caches_up_to, nodes_of}
 use Rattle.arena_tree.specs.declared.trees.TreeArena.{TreeArena}
 use Rattle.deed_core.specs.Tag.{Tag}
 use Rattle.deed_core.specs.declared.segments.Route.TheVariants.{Cached}
@@ -51,7 +51,7 @@ count_of_rounds caches = sum_by (λ r. length (cache_rounds r.cpu)) caches
 -- how many quantum caches an arena has
 abbrev pub caches_if : Option TreeArena → ℕ
 caches_if None = 0
-caches_if (Some x) = min (x.qcache_max / x.quantum) 255
+caches_if (Some x) = caches_up_to x.quantum x.qcache_max
 
 abbrev pub count_of_caches : List TreeArena → ℕ → ℕ
 count_of_caches arenas id = caches_if (slice_get arenas id)

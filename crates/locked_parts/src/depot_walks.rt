@@ -37,6 +37,7 @@ pub(crate) fn tick_each<D: Depots>(depots: &mut D, tree: &Tree)
     }
 }
 
+/// Begins an interval in the depots of the arena's first caches, so many.
 fn tick_caches<D: Depots>(depots: &mut D, arena: u32, count: u8)
     ensures { TicksCaches D.ticks arena count depots.old depots.new }
 {
@@ -56,6 +57,7 @@ pub(crate) fn resize_each<D: Depots>(depots: &mut D, tree: &Tree, arena: u32, si
     resize_caches(depots, arena, cache_count(tree, arena), size)
 }
 
+/// Asks those of the arena's first caches, so many.
 fn resize_caches<D: Depots>(depots: &mut D, arena: u32, count: u8, size: usize) -> bool
     requires { IsSize size }
     ensures { ResizesCaches D.resizes arena size count depots.old result depots.new }

@@ -32,7 +32,7 @@ impl<N: Name> LockedParts<N> {
     }
 }
 
-// Ends arenas in which no deed lies, the last first.
+/// Ends arenas in which no deed lies, the last first.
 fn end_all<N: Name>(alloc: Global, arenas: &mut Vec<LockedArena<N>>) -> bool
     ensures { result ≡ true → vec_len arenas.new ≡ 0 }
 {
@@ -45,6 +45,7 @@ fn end_all<N: Name>(alloc: Global, arenas: &mut Vec<LockedArena<N>>) -> bool
     true
 }
 
+/// Ends an arena in which no deed lies, with its caches.
 fn end_locked<N: Name>(alloc: Global, locked: LockedArena<N>) -> Result<(), LockedArena<N>> {
     let LockedArena { part, mut caches } = locked;
     if !end_caches(alloc, &mut caches) {
@@ -62,7 +63,7 @@ fn end_locked<N: Name>(alloc: Global, locked: LockedArena<N>) -> Result<(), Lock
     }
 }
 
-// Ends quantum caches in which no deed lies, the last first.
+/// Ends quantum caches in which no deed lies, the last first.
 fn end_caches<N: Name>(alloc: Global, caches: &mut Vec<LockedCache<N>>) -> bool
     ensures { result ≡ true → caches.new.items ≡ [] }
 {
@@ -75,6 +76,7 @@ fn end_caches<N: Name>(alloc: Global, caches: &mut Vec<LockedCache<N>>) -> bool
     true
 }
 
+/// Ends a quantum cache in which no deed lies.
 fn end_cache<N: Name>(alloc: Global, cache: LockedCache<N>) -> Result<(), LockedCache<N>> {
     let LockedCache { slab, depot } = cache;
     let depot = depot.into_inner();

@@ -1,5 +1,5 @@
 //! Gates: who lets a request go on.
-ghost use Rattle.std.specs.Prelude.{◌≡◌, ◌⊎◌, true, false, OnErr};
+ghost use Rattle.std.specs.Prelude.{◌≡◌, ◌⊎◌, true, false};
 ghost use Rattle.locked_parts.specs.Gates.{MayStop};
 
 /// What may happen next: one call on one part under its lock, or one change of the CPU's own
@@ -93,23 +93,13 @@ impl StepCount {
         }
     }
 
-    /// The same count, for a list of steps in which no Stop was said yet.
-    pub fn anew(&self) -> StepCount
-        ensures { result.noted ≡ false }
-    {
-        StepCount {
-            cpu: self.cpu,
-            turn: self.turn,
-            noted: false,
-        }
-    }
-
     /// Asks the gate before the next step, and notes a Stop.
     pub fn stops<G: Gate>(&mut self, gate: &G, event: EventName) -> bool
         ensures noted { self.new.noted ≡ true
             → (self.old.noted ≡ true) ⊎ MayStop G.may_stop gate.now }
         ensures stops { result ≡ true → MayStop G.may_stop gate.now }
-        ensures kept { result ≡ true → self.new.noted ≡ true }
+        ensures told { result ≡ true → self.new.noted ≡ true }
+        ensures kept { self.old.noted ≡ true → self.new.noted ≡ true }
     {
         let step = NextStep {
             cpu: self.cpu,
@@ -124,15 +114,5 @@ impl StepCount {
                 true
             }
         }
-    }
-
-    /// The same for code that ends there.
-    pub fn ask<G: Gate>(&mut self, gate: &G, event: EventName) -> Result<(), RequestStopped>
-        ensures { OnErr result (MayStop G.may_stop gate.now) }
-    {
-        if self.stops(gate, event) {
-            return Err(RequestStopped);
-        }
-        Ok(())
     }
 }

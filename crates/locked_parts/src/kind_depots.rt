@@ -190,6 +190,7 @@ impl<D: Deed> KindDepot<D> {
     }
 }
 
+/// Ends a magazine of no rounds.
 fn end_empty<D: Deed>(magazine: Magazine<D>)
     requires { magazine.rounds ≡ [] }
 {

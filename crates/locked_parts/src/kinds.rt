@@ -1,7 +1,5 @@
 //! Quantum caches by their arena, number and quantum, and how many an arena has.
 ghost use Rattle.std.specs.Prelude.{◌≡◌, ◌<◌, ◌↔◌, IsTrue, length};
-ghost use Rattle.arena_tree.specs.Chains.{quantum_in};
-ghost use Rattle.arena_tree.specs.Trees.{nodes_of};
 ghost use Rattle.locked_parts.specs.Kinds.{IsOfKind, count_of_caches};
 
 use arena_tree::{Tree, TreeArena};
@@ -40,15 +38,6 @@ impl CacheKind {
     }
 }
 
-/// The quantum of an arena, in units.
-pub fn quantum_of(tree: &Tree, arena: u32) -> u64
-    requires { arena < length tree.now }
-    ensures value { quantum_in (nodes_of tree.now) arena ≡ result }
-    ensures some { 0 < result }
-{
-    tree.arena(arena).quantum
-}
-
 /// How many quantum caches an arena has; they are numbered from 1 on.
 pub(crate) fn cache_count(tree: &Tree, arena: u32) -> u8
     requires { arena < length tree.now }
@@ -59,5 +48,5 @@ pub(crate) fn cache_count(tree: &Tree, arena: u32) -> u8
         qcache_max,
         ..
     } = *tree.arena(arena);
-    (qcache_max / quantum).min(255) as u8
+    arena_tree::cache_count(quantum, qcache_max)
 }

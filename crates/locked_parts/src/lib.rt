@@ -42,7 +42,7 @@ mod running;
 mod slab_parts;
 
 pub use gates::{EventName, Gate, NextStep, OpenGate, Pass, RequestStopped, StepCount};
-pub use kinds::{CacheKind, quantum_of};
+pub use kinds::CacheKind;
 pub use new_arenas::NewArena;
 pub use own_caches::OwnCache;
 pub use own_rounds::{end_rounds, new_rounds};

@@ -17,7 +17,7 @@ pub(crate) struct LockedDepots<'a, N: Name, R: Wait> {
 }
 
 impl<'a, N: Name, R: Wait> LockedDepots<'a, N, R> {
-    // Where the depot of this quantum cache is kept, if the arena was set up, and whose it is.
+    /// Where the depot of this quantum cache is kept, if the arena was set up, and whose it is.
     fn depot(
         &self,
         arena: u32,

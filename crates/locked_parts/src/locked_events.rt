@@ -7,7 +7,6 @@ ghost use Rattle.arena_tree.specs.Events.{SlabReap, DepotReap};
 ghost use Rattle.arena_tree.specs.Trees.{nodes_of};
 ghost use Rattle.locked_parts.specs.Answers.{AnswersSoundly};
 
-use crate::kinds::quantum_of;
 use crate::parts::LockedParts;
 use crate::slab_parts::{add_slab, reap_slab, take_chunk};
 use arena_tree::{GivenFault, PartFault, Stopped, Tree};
@@ -17,6 +16,7 @@ use slab_layer::{AddFault, PutFault};
 use std::sync::Wait;
 use tag_arena::{ArenaFault, SpanFault};
 
+/// Carves a segment from the arena.
 pub(crate) fn carve_in<N: Name, R: Wait>(
     parts: &LockedParts<N>,
     rt: &R,
@@ -26,7 +26,7 @@ pub(crate) fn carve_in<N: Name, R: Wait>(
     requires { arena < length parts.now.arenas }
     ensures { AnswersSoundly (nodes_of parts.now.arenas) (Carve arena request.now) result }
 {
-    let quantum = quantum_of(parts.tree(), arena);
+    let quantum = parts.tree().quantum(arena);
     let Some(locked) = parts.arenas.get(arena as usize) else {
         if request.is_good(quantum) {
             return Err(PartFault::Refused(ArenaFault::NoMemory));
@@ -36,7 +36,7 @@ pub(crate) fn carve_in<N: Name, R: Wait>(
     PartFault::wrap(locked.part.lock(rt).carve(arena, quantum, request))
 }
 
-// The source of an arena.
+/// The source of an arena.
 fn source_in(tree: &Tree, arena: u32) -> Option<u32>
     requires { arena < length tree.now }
     ensures { source_of (nodes_of tree.now) arena ≡ result }
@@ -44,6 +44,7 @@ fn source_in(tree: &Tree, arena: u32) -> Option<u32>
     tree.arena(arena).source
 }
 
+/// Frees a segment in its arena.
 pub(crate) fn free_in<N: Name, R: Wait>(
     parts: &LockedParts<N>,
     rt: &R,
@@ -62,6 +63,7 @@ pub(crate) fn free_in<N: Name, R: Wait>(
     GivenFault::wrap(locked.part.lock(rt).free(source, segment))
 }
 
+/// Adds a span that the arena imports, and carves its first units.
 pub(crate) fn add_carve_in<N: Name, R: Wait>(
     parts: &LockedParts<N>,
     rt: &R,
@@ -76,13 +78,14 @@ pub(crate) fn add_carve_in<N: Name, R: Wait>(
     requires direct { span.route ≡ Route.Direct }
     ensures { AnswersSoundly (nodes_of parts.now.arenas) (AddCarve child span size) result }
 {
-    let quantum = quantum_of(parts.tree(), child);
+    let quantum = parts.tree().quantum(child);
     let Some(locked) = parts.arenas.get(child as usize) else {
         return Err(GivenFault::Refused(SpanFault::Overlaps(span)));
     };
     GivenFault::wrap(locked.part.lock(rt).add_carve(child, quantum, span, size))
 }
 
+/// Takes a chunk out of a slab of the cache.
 pub(crate) fn slab_take_in<N: Name, R: Wait>(
     parts: &LockedParts<N>,
     rt: &R,
@@ -101,6 +104,7 @@ pub(crate) fn slab_take_in<N: Name, R: Wait>(
     Ok(take_chunk(&mut slab, &kind))
 }
 
+/// Puts a chunk back into its slab.
 pub(crate) fn slab_put_in<N: Name, R: Wait>(
     parts: &LockedParts<N>,
     rt: &R,
@@ -118,6 +122,7 @@ pub(crate) fn slab_put_in<N: Name, R: Wait>(
     GivenFault::wrap(slab.put(segment))
 }
 
+/// Makes a slab of the span, and takes its first chunk.
 pub(crate) fn slab_add_in<N: Name, R: Wait>(
     parts: &LockedParts<N>,
     rt: &R,
@@ -140,6 +145,7 @@ pub(crate) fn slab_add_in<N: Name, R: Wait>(
     GivenFault::wrap(add_slab(&mut slab, &kind, span))
 }
 
+/// Takes a slab out of which no chunk is.
 pub(crate) fn slab_reap_in<N: Name, R: Wait>(
     parts: &LockedParts<N>,
     rt: &R,
@@ -158,6 +164,7 @@ pub(crate) fn slab_reap_in<N: Name, R: Wait>(
     Ok(reap_slab(&mut slab, &kind))
 }
 
+/// Takes a round that the depot may let go.
 pub(crate) fn depot_reap_in<N: Name, R: Wait>(
     parts: &LockedParts<N>,
     rt: &R,

@@ -133,7 +133,7 @@ impl<N: Name> NewArena<N> {
     }
 }
 
-// The arena of this number, with a root of its span, if it owns one.
+/// The arena of this number, with a root of its span, if it owns one.
 fn own<N: Name>(
     alloc: Global,
     tree: &Tree,
@@ -174,7 +174,7 @@ fn own<N: Name>(
     }
 }
 
-// The arena, which had nothing in it, with this one span; where it isn't added, the deed is back.
+/// The arena, which had nothing in it, with this one span; where it isn't added, the deed is back.
 fn add_span<N: Name>(
     mut arena: Arena<SeatDeed<N>>,
     deed: SeatDeed<N>,
@@ -197,7 +197,7 @@ fn add_span<N: Name>(
     }
 }
 
-// Closes a root by the deed of the whole.
+/// Closes a root by the deed of the whole.
 fn end_root<N: Name>(root: Root<N>, deed: SeatDeed<N>)
     requires { deed ≡ root }
 {
@@ -207,7 +207,7 @@ fn end_root<N: Name>(root: Root<N>, deed: SeatDeed<N>)
     }
 }
 
-// Ends an arena in which no deed lies.
+/// Ends an arena in which no deed lies.
 fn end_empty<N: Name>(arena: Arena<SeatDeed<N>>)
     requires { arena.free ≡ [] }
 {
@@ -217,7 +217,7 @@ fn end_empty<N: Name>(arena: Arena<SeatDeed<N>>)
     }
 }
 
-// Ends an arena whose one span, if it has one, is this root's, and free.
+/// Ends an arena whose one span, if it has one, is this root's, and free.
 fn end_whole<N: Name>(mut arena: Arena<SeatDeed<N>>, root: Option<Root<N>>)
     requires owned { arena.owned ≡ option_to_list root }
     requires free { arena.free ≡ option_to_list root }

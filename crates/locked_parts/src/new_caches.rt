@@ -39,6 +39,7 @@ impl<N: Name> Model for NewCache<N> {
 }
 
 impl<N: Name> NewCache<N> {
+    /// The cache with its slabs and its depot each under a lock.
     fn lock(self) -> LockedCache<N> {
         let NewCache { slab, depot } = self;
         LockedCache {
@@ -47,6 +48,7 @@ impl<N: Name> NewCache<N> {
         }
     }
 
+    /// Ends it with nothing in it.
     fn end(self) {
         let NewCache { slab, depot } = self;
         match slab.close() {
@@ -60,7 +62,7 @@ impl<N: Name> NewCache<N> {
     }
 }
 
-// The new cache for `number` quanta of an arena.
+/// The new cache for `number` quanta of an arena.
 fn new_cache<N: Name>(alloc: Global, tree: &Tree, arena: u32, number: u8) -> NewCache<N>
     requires within { arena < length tree.now }
     requires number { (1 ≤ number) × (number ≤ count_of_caches tree.now arena) }

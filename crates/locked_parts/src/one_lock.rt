@@ -25,12 +25,13 @@ use std::sync::Wait;
 use std::test::Fail;
 use tag_arena::{Policy, SpanFault};
 
-// Ends the test, with what it held.
+/// Ends the test, with what it held.
 fn stuck<X, R: Abort>(rt: &R, held: X) -> ! {
     let _held = held;
     panic!(rt; "another answer")
 }
 
+/// Each event of a shared part takes that part's lock, and no other.
 #[test]
 fn one_lock_an_event(rt: HostRuntime) -> Result<(), Fail> {
     let mut setup = Setup::new(rt.alloc());
@@ -47,7 +48,7 @@ fn one_lock_an_event(rt: HostRuntime) -> Result<(), Fail> {
     Ok(())
 }
 
-// The arena's events, those of its first cache's slabs, and those of that one's depot.
+/// The arena's events, those of its first cache's slabs, and those of that one's depot.
 fn events_of<N: Name, R: Abort + Wait + AllocGlobal>(rt: &R, ground: Ground, setup: Setup)
     requires { ground ≡ N.table }
 {
@@ -80,6 +81,7 @@ fn events_of<N: Name, R: Abort + Wait + AllocGlobal>(rt: &R, ground: Ground, set
     parts.end();
 }
 
+/// A segment that the arena carved.
 fn carved<N: Name, R: Abort + Wait>(rt: &R, parts: &LockedParts<N>) -> Segment<SeatDeed<N>>
     requires { 0 < length parts.now.arenas }
     ensures { IsGrant (nodes_of parts.now.arenas) 0 (plain_of 16) result }
@@ -90,6 +92,7 @@ fn carved<N: Name, R: Abort + Wait>(rt: &R, parts: &LockedParts<N>) -> Segment<S
     }
 }
 
+/// Frees the segment, which makes no span whole.
 fn freed<N: Name, R: Abort + Wait>(rt: &R, parts: &LockedParts<N>, segment: Segment<SeatDeed<N>>) {
     match free_in(parts, rt, segment) {
         Ok(None) => {}
@@ -98,7 +101,7 @@ fn freed<N: Name, R: Abort + Wait>(rt: &R, parts: &LockedParts<N>, segment: Segm
     }
 }
 
-// The arena imports nothing, so that it refuses the span.
+/// The arena imports nothing, so that it refuses the span.
 fn of_arena<N: Name, R: Abort + Wait>(rt: &R, parts: &LockedParts<N>)
     requires { 0 < length parts.now.arenas }
 {
@@ -114,6 +117,7 @@ fn of_arena<N: Name, R: Abort + Wait>(rt: &R, parts: &LockedParts<N>)
     }
 }
 
+/// The events of the slabs of the first cache.
 fn of_slabs<N: Name, R: Abort + Wait>(rt: &R, parts: &LockedParts<N>)
     requires { 0 < length parts.now.arenas }
 {
@@ -122,7 +126,7 @@ fn of_slabs<N: Name, R: Abort + Wait>(rt: &R, parts: &LockedParts<N>)
     freed(rt, parts, back);
 }
 
-// The span is a slab's, one chunk of which goes out and back twice, and comes back then.
+/// The span is a slab's, one chunk of which goes out and back twice, and comes back then.
 fn through_slabs<N: Name, R: Abort + Wait>(
     rt: &R,
     parts: &LockedParts<N>,
@@ -151,6 +155,7 @@ fn through_slabs<N: Name, R: Abort + Wait>(
     }
 }
 
+/// Puts the chunk back.
 fn put<N: Name, R: Abort + Wait>(rt: &R, parts: &LockedParts<N>, chunk: Segment<SeatDeed<N>>) {
     match slab_put_in(parts, rt, chunk) {
         Ok(()) => {}
@@ -158,7 +163,7 @@ fn put<N: Name, R: Abort + Wait>(rt: &R, parts: &LockedParts<N>, chunk: Segment<
     }
 }
 
-// A depot with no magazine, and a CPU with two empty ones.
+/// A depot with no magazine, and a CPU with two empty ones.
 fn of_depot<N: Name, R: Abort + Wait + AllocGlobal>(rt: &R, parts: &LockedParts<N>)
     requires { 0 < length parts.now.arenas }
 {

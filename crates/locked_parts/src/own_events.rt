@@ -21,7 +21,7 @@ use deed_table::{Name, SeatDeed};
 use magazine_layer::{EmptyFault, FullFault, Magazine};
 use std::sync::Wait;
 
-// Where the CPU keeps its magazines for the cache.
+/// Where the CPU keeps its magazines for the cache.
 fn own_at<N: Name>(
     parts: &LockedParts<N>,
     caches: &[OwnCache<SeatDeed<N>>],
@@ -44,6 +44,7 @@ fn own_at<N: Name>(
     Some(index)
 }
 
+/// Takes a round out of the CPU's magazines for the cache.
 pub(crate) fn pop_in<N: Name>(
     parts: &LockedParts<N>,
     caches: &mut Vec<OwnCache<SeatDeed<N>>>,
@@ -65,6 +66,7 @@ pub(crate) fn pop_in<N: Name>(
     Ok(own.pop())
 }
 
+/// Puts a round into the CPU's magazines for the cache.
 pub(crate) fn push_in<N: Name>(
     parts: &LockedParts<N>,
     caches: &mut Vec<OwnCache<SeatDeed<N>>>,
@@ -90,6 +92,7 @@ pub(crate) fn push_in<N: Name>(
     }
 }
 
+/// Changes the CPU over to magazines of this size for the cache.
 pub(crate) fn change_in<N: Name>(
     parts: &LockedParts<N>,
     caches: &mut Vec<OwnCache<SeatDeed<N>>>,
@@ -111,6 +114,7 @@ pub(crate) fn change_in<N: Name>(
     PartFault::wrap(own.change(parts.alloc, size))
 }
 
+/// Exchanges an empty magazine for a full one of the depot.
 pub(crate) fn swap_full_in<N: Name, R: Wait>(
     parts: &LockedParts<N>,
     rt: &R,
@@ -137,6 +141,7 @@ pub(crate) fn swap_full_in<N: Name, R: Wait>(
     depot.swap_full(&mut caches[own])
 }
 
+/// Exchanges a full magazine for an empty one of the depot.
 pub(crate) fn swap_empty_in<N: Name, R: Wait>(
     parts: &LockedParts<N>,
     rt: &R,
@@ -163,6 +168,7 @@ pub(crate) fn swap_empty_in<N: Name, R: Wait>(
     depot.swap_empty(&mut caches[own])
 }
 
+/// Exchanges a full magazine for one that is made.
 pub(crate) fn swap_fresh_in<N: Name, R: Wait>(
     parts: &LockedParts<N>,
     rt: &R,

@@ -5,7 +5,7 @@ ghost use Rattle.arena_tree.specs.Trees.{nodes_of};
 ghost use Rattle.magazine_layer.specs.Magazines.{BothEmpty};
 ghost use Rattle.locked_parts.specs.Kinds.{kinds_of, kinds_up_to, count_of_caches};
 
-use crate::kinds::{CacheKind, cache_count, quantum_of};
+use crate::kinds::{CacheKind, cache_count};
 use crate::own_caches::OwnCache;
 use arena_tree::Tree;
 use deed_table::{Name, SeatDeed};
@@ -29,7 +29,7 @@ pub fn new_rounds<N: Name>(
     }
 }
 
-// Adds two magazines for each quantum cache of each arena.
+/// Adds two magazines for each quantum cache of each arena.
 fn fill<N: Name>(
     alloc: Global,
     tree: &Tree,
@@ -46,6 +46,7 @@ fn fill<N: Name>(
     Ok(())
 }
 
+/// Adds two for each quantum cache of the arena.
 fn fill_arena<N: Name>(
     alloc: Global,
     tree: &Tree,
@@ -60,7 +61,7 @@ fn fill_arena<N: Name>(
         ++ kinds_up_to arena (quantum_in (nodes_of tree.now) arena)
         (count_of_caches tree.now arena)) }
 {
-    let quantum = quantum_of(tree, arena);
+    let quantum = tree.quantum(arena);
     for before in 0..cache_count(tree, arena) {
         caches.reserve(1)?;
         let own = OwnCache::new(

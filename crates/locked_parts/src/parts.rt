@@ -8,7 +8,7 @@ ghost use Rattle.magazine_layer.specs.Magazines.{IsSize};
 use crate::arena_parts::ArenaPart;
 use crate::depot_walks::{resize_each, tick_each};
 use crate::kind_depots::KindDepot;
-use crate::kinds::{CacheKind, cache_count, quantum_of};
+use crate::kinds::{CacheKind, cache_count};
 use crate::locked_depots::LockedDepots;
 use arena_tree::{MOST_ARENAS, Tree};
 use deed_table::{Name, SeatDeed};
@@ -86,7 +86,7 @@ impl<N: Name> LockedParts<N> {
         if arena as usize >= self.tree.len() {
             return None;
         }
-        let quantum = quantum_of(&self.tree, arena);
+        let quantum = self.tree.quantum(arena);
         Some(CacheKind {
             arena,
             number,
@@ -141,7 +141,7 @@ impl<N: Name> LockedParts<N> {
     }
 }
 
-// How many quantum caches the arenas before each have.
+/// How many quantum caches the arenas before each have.
 fn all_caches_before(tree: &Tree) -> [usize; MOST_ARENAS]
     ensures { AreCachesBefore tree.now result }
 {

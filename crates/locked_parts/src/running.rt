@@ -1,7 +1,7 @@
 //! The parts of a system as one CPU reaches them: each event of a shared part takes that part's
 //! lock, and no other, and calls one method on what it finds there. Before each event the gate is
 //! asked.
-ghost use Rattle.std.specs.Prelude.{◌≡◌, true};
+ghost use Rattle.std.specs.Prelude.{◌≡◌, true, false};
 ghost use Rattle.arena_tree.specs.Stops.{is_stopped};
 ghost use Rattle.arena_tree.specs.Trees.{nodes_of};
 ghost use Rattle.locked_parts.specs.Gates.{NotesStops};
@@ -33,6 +33,33 @@ pub struct Running<'a, N: Name, R: Wait, G: Gate> {
     pub steps: StepCount,
     /// How many events of shared parts there were.
     pub count: u64,
+}
+
+impl<'a, N: Name, R: Wait, G: Gate> Running<'a, N, R, G> {
+    /// The parts as the CPU of this number reaches them, with these magazines. No step was asked
+    /// for yet.
+    pub fn new(
+        parts: &'a LockedParts<N>,
+        rt: &'a R,
+        gate: &'a G,
+        cpu: u32,
+        caches: &'a mut Vec<OwnCache<SeatDeed<N>>>,
+    ) -> Running<'a, N, R, G>
+        ensures parts { result.parts.now ≡ parts.now }
+        ensures gate { result.gate.now ≡ gate.now }
+        ensures caches { result.caches.now ≡ caches.old }
+        ensures loan { result.caches.ghost_name ≡ caches.entry.ghost_name }
+        ensures unstopped { result.steps.noted ≡ false }
+    {
+        Running {
+            parts,
+            rt,
+            gate,
+            caches,
+            steps: StepCount::new(cpu),
+            count: 0,
+        }
+    }
 }
 
 impl<N: Name, R: Wait, G: Gate> Parts<Segment<SeatDeed<N>>> for Running<'_, N, R, G> {

@@ -14,7 +14,7 @@ use arena_tree::GivenFault;
 use deed_core::{Deed, Segment};
 use slab_layer::{AddFault, SlabCache};
 
-// Whether the cache is that.
+/// Whether the cache is that.
 fn is_kind<D: Deed>(slab: &SlabCache<D>, kind: &CacheKind) -> bool
     ensures { IsTrue result ↔ AreSlabsOf kind.now slab.now }
 {

@@ -14,7 +14,7 @@ loop-before-preserved g c =
     let kind : CacheKind = record { arena = c.args.arena; number = suc n; quantum = quantum } in
     let first = map (λ r. r.kind) c.args.caches.now.items in
     let next : suc n ≡ n + 1 = omega arith in
-    let is = c.in_ok-own.ensures.kind ∙ ap (λ q. record { arena = c.args.arena; number = n + 1; quantum = q }) (sym c.quantum_of-quantum.ensures.value) ∙ ap (λ m. record { arena = c.args.arena; number = m; quantum = quantum }) (sym next) in (
+    let is = c.in_ok-own.ensures.kind ∙ ap (λ q. record { arena = c.args.arena; number = n + 1; quantum = q }) (sym c.quantum-quantum.ensures.value) ∙ ap (λ m. record { arena = c.args.arena; number = m; quantum = quantum }) (sym next) in (
       all_pushed (λ r. BothEmpty r.cpu) c.loop-before.caches.items c.reserve.new.self.items c.push_reserved.new.self.items c.in_ok-own.own c.reserve.ensures.items c.push_reserved.ensures.items c.loop-before.invariant.0 c.in_ok-own.ensures.empty,
       (keys_pushed (λ r. r.kind) c.loop-before.caches.items c.reserve.new.self.items c.push_reserved.new.self.items c.in_ok-own.own first (kinds_up_to c.args.arena quantum n) kind c.reserve.ensures.items c.push_reserved.ensures.items c.loop-before.invariant.1 is
           ∙ ap (λ m. first ++ kinds_up_to c.args.arena quantum m) next),
