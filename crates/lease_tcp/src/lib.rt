@@ -1,4 +1,5 @@
-//! Serves the lines of clients over TCP: one connection after another, by a worker.
+//! Serves the lines of clients over TCP: by a worker one connection after another, or each by a
+//! thread of its own.
 //!
 //! A `Worker` (workers) answers a client's line by a reply, and tidies after each connection.
 //! `ClientLines` (replying) makes a responder of one, which reads lines and writes replies, so that
@@ -9,33 +10,53 @@
 //! `Roll` (rolls), by which all can be ended.
 //! `SystemWorker` (system_workers) is a worker of a running system, and `accept_loop` its loop.
 //!
+//! `serve_talks` (talks) gives each connection of a `House` (houses) a thread, up to as many as its
+//! roll takes; one more is told so. Each has a `SharedWorker` (shared_workers), which for each line
+//! takes a `Seat` (seats): one of the system's CPUs, under a lock. `keep` (keepers) tidies such a
+//! system by time. An `Overseer` (shortages) is told what there was none of for a connection. A
+//! thread holds one seat at a time, and the lock of a part only under that.
+//!
 //! What a line may be answered is stated in specs/Replying.antt, and what a connection leaves in
 //! specs/Connections.antt. Of a socket no contract can say what it gives or takes, and of a clock
 //! none what it tells.
 //!
 //! Each byte is looked at a few times, and a line costs what its worker does. A `SystemWorker` does
-//! a request of its system for each; after a connection it reaps each arena, by at most
-//! `REAP_LIMIT` looks, and ticks each depot. A connection has its worker to itself until it ends,
-//! or its peer is too slow for its pace, and takes memory for the replies to the lines of one read.
-//! Pacing asks the clock once for each answer, and once for each read that ends within a line.
+//! a request of its system for each; after a connection it drains its CPU, reaps each arena, by at
+//! most `REAP_LIMIT` looks, and ticks each depot. A connection has its worker to itself until it
+//! ends, or its peer is too slow for its pace, and takes memory for the replies to the lines of one
+//! read. A connection with a thread has a stack of 256 KiB, of which it uses some 20, and its line
+//! waits for a seat only where all are taken. Pacing asks the clock once for each answer, and once
+//! for each read that ends within a line.
 #![tactic(auto)]
 
 mod connections;
 mod doors;
+mod houses;
+mod keepers;
 mod links;
 mod loops;
 mod pacing;
 mod replying;
 mod rolls;
+mod seats;
+mod shared_workers;
+mod shortages;
 mod system_workers;
+mod talks;
 mod workers;
 
 pub use connections::serve_connection;
 pub use doors::Door;
+pub use houses::House;
+pub use keepers::{go_round, keep};
 pub use links::Link;
 pub use loops::{ACCEPT_PAUSE, worker_loop};
 pub use pacing::{Limited, Pace, PacedReader, PacedWriter};
 pub use replying::ClientLines;
 pub use rolls::{NotEntered, Roll, SharedStream};
+pub use seats::{Seat, new_seats};
+pub use shared_workers::SharedWorker;
+pub use shortages::{Overseer, Shortage};
 pub use system_workers::{REAP_LIMIT, SystemWorker, accept_loop};
+pub use talks::{serve_talks, turn_away};
 pub use workers::Worker;

@@ -58,7 +58,7 @@ fn serve_entered<R: Wait + Clock, K: Worker>(
 }
 
 /// Serves a socket to its end, or to its fault.
-fn serve_stream<R: Clock, K: Worker>(
+pub(crate) fn serve_stream<R: Clock, K: Worker>(
     rt: &R,
     alloc: Global,
     stream: &TcpStream,
@@ -75,6 +75,7 @@ fn serve_stream<R: Clock, K: Worker>(
     let _ = serve_connection(alloc, &mut reader, &mut writer, &mut link, lines);
 }
 
-fn pause<R: Clock>(rt: &R) {
+/// Waits after a connection that couldn't be accepted.
+pub(crate) fn pause<R: Clock>(rt: &R) {
     thread::sleep(rt, Duration::from_millis(ACCEPT_PAUSE));
 }

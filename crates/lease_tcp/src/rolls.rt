@@ -1,5 +1,5 @@
 //! The connections that are served now, so that an end can reach each of them.
-ghost use Rattle.std.specs.Prelude.{◌≡◌, ◌+◌, ◌≤◌, ◌↔◌, true, OnOk, OnErr, IsErrOf};
+ghost use Rattle.std.specs.Prelude.{◌≡◌, ◌+◌, ◌≤◌, ◌↔◌, true, false, OnOk, OnErr, IsErrOf};
 ghost use Rattle.slab.specs.Slab.{slab_len};
 
 use slab::Slab;
@@ -90,7 +90,7 @@ impl Roll {
     }
 
     /// Whether none is served.
-    fn is_empty<R: Wait>(&self, rt: &R) -> bool {
+    pub(crate) fn is_empty<R: Wait>(&self, rt: &R) -> bool {
         self.rows.lock(rt).streams.is_empty()
     }
 }
@@ -102,7 +102,7 @@ impl Rows {
         ensures more { OnOk result (slab_len self.new.streams ≡ slab_len self.old.streams + 1) }
         ensures same { OnErr result (slab_len self.new.streams ≡ slab_len self.old.streams) }
         ensures full { IsErrOf result NotEntered.Full
-            → slab_len self.old.streams ≡ self.old.most }
+            ↔ ((self.old.ended ≡ false) × (slab_len self.old.streams ≡ self.old.most)) }
         ensures ended { IsErrOf result NotEntered.Ended ↔ (self.old.ended ≡ true) }
         ensures kept { (self.new.most ≡ self.old.most) × (self.new.ended ≡ self.old.ended) }
     {

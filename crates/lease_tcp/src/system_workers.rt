@@ -12,7 +12,7 @@ use std::marker::Model;
 use std::sync::Wait;
 use std::time::Clock;
 
-/// In how many steps a worker reaps an arena after a connection, at most.
+/// In how many steps an arena is reaped at a time, at most.
 pub const REAP_LIMIT: u64 = 1024;
 
 /// A worker that answers by a system which others share, over a CPU of its own. `into_cpu` ends it.
@@ -69,6 +69,7 @@ impl<N: Name, R: Wait> Worker for SystemWorker<'_, N, R> {
     }
 
     fn tidy(&mut self) {
+        self.system.drain(self.rt, &mut self.cpu);
         reap_each(self.rt, self.system, &mut self.cpu);
         self.system.tick(self.rt);
     }

@@ -1,0 +1,142 @@
+//! Connections, each served by a thread of its own.
+ghost use Rattle.std.specs.Prelude.{◌≡◌, OnOk, OnErr};
+ghost use Rattle.std.specs.Io.KnownBytes.{Appends};
+ghost use Rattle.lease_proto.specs.Faults.{error_text};
+ghost use Rattle.lease_server.specs.Serving.{WritesFront};
+ghost use Rattle.lease_server.specs.Watching.{inner_of};
+
+use crate::houses::House;
+use crate::links::Link;
+use crate::loops::{pause, serve_stream};
+use crate::replying::ClientLines;
+use crate::rolls::{NotEntered, SharedStream};
+use crate::shared_workers::SharedWorker;
+use crate::shortages::{Overseer, Shortage};
+use deed_table::Name;
+use lease_proto::ErrorWord;
+use lease_server::{ServeFault, Watched, deliver};
+use std::alloc::AllocGlobal;
+use std::io::{Error, Read, Write};
+use std::net::TcpStream;
+use std::sync::{Arc, Wait};
+use std::thread;
+use std::thread::{Builder, Scope, Threads};
+use std::time::Clock;
+
+/// How large a stack a connection's thread has, in bytes.
+const STACK: usize = 256 * 1024;
+
+/// The system's errors for no descriptor: none is left at all, or for this program.
+const NO_DESCRIPTOR: [i32; 2] = [23, 24];
+
+/// Serves each connection of the house's door by a thread of its own, and comes back once the door
+/// is closed and all connections have ended. One that comes where there are as many as there may be
+/// is told so, and ended. Where one can't be accepted, the others are served, and it tries again
+/// after a pause.
+pub fn serve_talks<
+    N: Name + Send + Sync,
+    R: Threads + Wait + Clock + Sync + AllocGlobal,
+    O: Overseer,
+>(rt: &R, house: &House<'_, N>, overseer: &O) {
+    thread::scope(thread::scope_env(), rt, move |scope| {
+        accept_talks(rt, scope, house, overseer);
+    });
+}
+
+/// Starts a thread for each connection, until the door is closed.
+fn accept_talks<
+    's,
+    E,
+    N: Name + Send + Sync,
+    R: Threads + Wait + Clock + Sync + AllocGlobal,
+    O: Overseer,
+>(rt: &'s R, scope: &Scope<'s, E>, house: &'s House<'s, N>, overseer: &O) {
+    for _ in rt.forever() {
+        let accepted = house.door.listener.accept();
+        if house.door.is_closed() {
+            break;
+        }
+        match accepted {
+            Ok((stream, _)) => admit(rt, scope, house, overseer, stream),
+            Err(error) => {
+                if is_short(&error) {
+                    overseer.lacks(Shortage::Descriptor);
+                }
+                pause(rt);
+            }
+        }
+    }
+}
+
+/// Whether there was no descriptor.
+fn is_short(error: &Error) -> bool {
+    match error.raw_os_error() {
+        Some(code) => NO_DESCRIPTOR.contains(&code),
+        None => false,
+    }
+}
+
+/// Starts the connection's thread, or tells it that it is one too many.
+fn admit<'s, E, N: Name + Send + Sync, R: Threads + Wait + Clock + Sync + AllocGlobal, O: Overseer>(
+    rt: &'s R,
+    scope: &Scope<'s, E>,
+    house: &'s House<'s, N>,
+    overseer: &O,
+    stream: TcpStream,
+) {
+    let Ok(stream) = Arc::new(rt.alloc(), stream) else {
+        return;
+    };
+    match house.door.roll.enter(rt, &stream) {
+        Ok(key) => {
+            let started = Builder::new()
+                .stack_size(STACK)
+                .spawn_scoped(scope, move || talk(rt, house, stream, key));
+            if started.is_err() {
+                house.door.roll.leave(rt, key);
+                overseer.lacks(Shortage::Thread);
+            }
+        }
+        Err(NotEntered::Full) => turn_stream_away(&stream),
+        Err(NotEntered::Ended | NotEntered::Memory) => {}
+    }
+}
+
+/// Turns a connection away. What it sent by now is read, since a socket that is closed with bytes
+/// unread may take what it wrote from its peer.
+fn turn_stream_away(stream: &TcpStream) {
+    let mut link = stream;
+    let mut reader = stream;
+    let _ = turn_away(&mut Watched::new(stream), &mut link);
+    if stream.set_nonblocking(true).is_ok() {
+        let _ = reader.read(&mut [0u8; 1024]);
+    }
+}
+
+/// Tells a peer that its connection is one too many, and that no answer follows.
+pub fn turn_away<W: Write, L: Link>(writer: &mut Watched<W>, link: &mut L) -> Result<(), ServeFault>
+    ensures ok { OnOk result (Appends (W.contents (inner_of writer.old))
+        (W.contents (inner_of writer.new)) (error_text ErrorWord.Busy)) }
+    ensures err { OnErr result (WritesFront (error_text ErrorWord.Busy)
+        (W.contents (inner_of writer.old)) (W.contents (inner_of writer.new))) }
+    ensures ended { L.is_ended link.new }
+{
+    let told = deliver(writer, ErrorWord::Busy.line());
+    link.end();
+    told
+}
+
+/// Serves a connection that stands on the roll by this key.
+fn talk<N: Name, R: Wait + Clock + AllocGlobal>(
+    rt: &R,
+    house: &House<'_, N>,
+    stream: SharedStream,
+    key: usize,
+) {
+    if let Some(worker) = SharedWorker::new(rt, house.system, house.seats, key) {
+        let mut lines = ClientLines::new(worker);
+        serve_stream(rt, rt.alloc(), &stream, &mut lines, house.door.pace);
+        drop(lines.into_worker());
+    }
+    house.door.roll.leave(rt, key);
+}
