@@ -74,11 +74,12 @@ class FakeServer:
     """Serves each connection in a thread of its own.
 
     Each cut is (direction, bytes): once so many bytes went in that direction ("in" or "out") since
-    the cut before, the connection ends there. `lines` are those that were answered."""
+    the cut before, the connection ends there. `lines` are those that were answered. The next `busy`
+    connections are told so, and not served."""
 
     def __init__(self, arenas, cuts=()):
         self.book, self.cuts, self.lines, self.gone = Book(arenas), list(cuts), [], 0
-        self.connections, self.replies, self.lock = 0, None, threading.Lock()
+        self.connections, self.busy, self.replies, self.lock = 0, 0, None, threading.Lock()
         self.listener = socket.create_server(("127.0.0.1", 0))
         self.port = self.listener.getsockname()[1]
         threading.Thread(target=self.run, daemon=True).start()
@@ -98,7 +99,20 @@ class FakeServer:
                 return
             self.connections += 1
             link.setsockopt(socket.IPPROTO_TCP, socket.TCP_NODELAY, 1)
-            threading.Thread(target=self.serve, args=(link,), daemon=True).start()
+            is_busy, self.busy = self.busy > 0, max(self.busy - 1, 0)
+            target = self.turn_away if is_busy else self.serve
+            threading.Thread(target=target, args=(link,), daemon=True).start()
+
+    def turn_away(self, link):
+        """Tells a connection that it is one too many; it is over once its client ends it."""
+        with link:
+            try:
+                link.sendall(b"error busy\n")
+                link.shutdown(socket.SHUT_WR)
+                while link.recv(4096):
+                    pass
+            except OSError:
+                pass
 
     def serve(self, link):
         rest = b""

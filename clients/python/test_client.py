@@ -141,6 +141,29 @@ class Cuts(unittest.TestCase):
                 client.lease("m", 1)
             server.book.again = 0
 
+    def test_a_busy_server_is_asked_again(self):
+        with FakeServer({"m": 64}) as server:
+            server.busy = 3
+            self.talk(server)
+            self.assertEqual((server.connections, server.book.settled), (4, 6))
+
+    def test_a_server_that_stays_busy(self):
+        with FakeServer({"m": 64}) as server, client_of(server, patience=0.05) as client:
+            server.busy = 1000
+            with self.assertRaises(vmemd.Busy):
+                client.lease("m", 1)
+            self.assertEqual(server.lines, [])
+            server.busy = 0
+            self.assertEqual(client.lease("m", 64), ("m", 0, 64))
+
+    def test_a_server_that_is_busy_after_a_cut(self):
+        """What was sent before the cut is settled once, and what became of it is told."""
+        with FakeServer({"m": 64}) as server, client_of(server) as client:
+            client.lease("m", 8)
+            server.cuts, server.busy = [("out", 5)], 2
+            self.assertEqual(client.lease("m", 4), ("m", 8, 4))
+            self.assertEqual((server.connections, server.book.settled), (4, 2))
+
     def test_a_lease_that_nobody_was_told_of_is_given_back(self):
         with FakeServer({"m": 64}) as server, client_of(server, patience=0.05) as client:
             kept = client.lease("m", 8)

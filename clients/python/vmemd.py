@@ -11,13 +11,13 @@ A client is one number, 1 to 65,536, which no other process uses at the same tim
 is an incarnation, with a greater number than the one before; the server ends the leases of older
 incarnations when it takes its hello. With `incarnations` the last one stands in that file; without,
 or where there is no such file yet, the first is the clock in nanoseconds. The requests of an
-incarnation count 1, 2, 3, ..; one is outstanding at a time. Where a connection is cut, or no answer
-comes in time, the client connects again and sends the same line again, until `patience` is over:
-the server answers a line that it settled before by the same reply, so nothing is leased or released
-twice.
+incarnation count 1, 2, 3, ..; one is outstanding at a time. Where a connection is cut, no answer
+comes in time, or the server is busy, the client connects again after a pause and sends the same
+line again, until `patience` is over: the server answers a line that it settled before by the same
+reply, so nothing is leased or released twice.
 
 Several threads may use a Client; their requests go one after another. A connection that stays open
-holds a worker of the server: `keep=False` closes it after each request.
+is one of those that the server has room for: `keep=False` closes it after each request.
 """
 import os
 import socket
@@ -36,6 +36,10 @@ class VmemdError(Exception):
 
 class Unreachable(VmemdError):
     """No answer came in time. What became of the request isn't known; the next one settles it."""
+
+
+class Busy(Unreachable):
+    """The server answered that it has as many connections as it serves, until patience was over."""
 
 
 class OutOfMemory(VmemdError):
@@ -288,26 +292,34 @@ class Client:
         return int(words[2])
 
     def _settled(self, line, deadline):
-        """Sends a line until it is answered by another word than `again`; returns the words."""
-        wait, was_answered = 0.01, False
+        """Sends a line until its answer is no reason to send it again; returns the words."""
+        wait = 0.01
         while True:
-            try:
-                words = self._link.ask(line).split(" ")
-                was_answered = words[0] == "again"
-                if not was_answered:
-                    return words
-            except OSError:
-                was_answered = False
-                self._link.close()
-            finally:
-                if not self.keep:
-                    self._link.close()
+            words, fault = self._asked(line)
+            if fault is None:
+                return words
             if time.monotonic() + wait > deadline:
-                if was_answered:
-                    raise OutOfMemory(f"out of memory for {line!r}")
-                raise Unreachable(f"no answer to {line!r}")
+                raise fault
             time.sleep(wait)
             wait = min(2 * wait, 1.0)
+
+    def _asked(self, line):
+        """Sends a line once: the words of its answer, and the fault that it tells, to be tried
+        again, or None."""
+        words, fault = [], None
+        try:
+            words = self._link.ask(line).split(" ")
+            if words[0] == "again":
+                fault = OutOfMemory(f"out of memory for {line!r}")
+            elif words == ["error", "busy"]:
+                fault = Busy(f"the server is busy, for {line!r}")
+        except OSError:
+            fault = Unreachable(f"no answer to {line!r}")
+        finally:
+            # (what comes over a connection after any of these is no answer to a further line)
+            if not self.keep or isinstance(fault, Unreachable):
+                self._link.close()
+        return words, fault
 
     # incarnations
 
