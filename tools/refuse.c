@@ -1,7 +1,8 @@
 /* Refuses a call of a program to the system, from outside: loaded before the program by LD_PRELOAD.
  *
  * REFUSE is "CALL N" or "CALL N on": the Nth call, or each from the Nth on, fails as the system would
- * fail it. CALL is one of memory (malloc, realloc), read, write, recv, send, thread, listen, open.
+ * fail it. CALL is one of memory (malloc, realloc), read, write, recv, send, thread, listen, accept,
+ * open.
  * Only calls that the program's own code makes are counted. The file REFUSED is made when a call is
  * refused; once there is the file REFUSE_UNTIL, none is refused any more.
  */
@@ -106,6 +107,11 @@ int pthread_create(pthread_t *thread, const pthread_attr_t *how, void *(*start)(
 int listen(int file, int waiting) {
   REFUSE("listen", EADDRINUSE, -1)
   return REAL(listen)(file, waiting);
+}
+
+int accept4(int file, struct sockaddr *peer, socklen_t *size, int flags) {
+  REFUSE("accept", EMFILE, -1)
+  return REAL(accept4)(file, peer, size, flags);
 }
 
 int open(const char *path, int flags, ...) {
