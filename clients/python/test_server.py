@@ -137,6 +137,34 @@ class OneWorker(Served):
             self.assertEqual(client.lease("d", 48), ("d", 0, 48))
 
 
+class ManyChunks(Served):
+    """Three thousand chunks lie in a depot, where thirty clients left them: more than are given
+    back at a time."""
+
+    units = 16384
+    config_lines = f"root d 0 {units} 1 instant 5\n"
+
+    def test_all_units_come_back(self):
+        clients, requests = range(1, 31), range(1, 101)
+        held = {}
+        for number in clients:
+            leases = "".join(f"lease {number} 1 {it} d 5\n" for it in requests)
+            told = self.ask(f"hello {number} 1\n{leases}".encode()).decode().splitlines()
+            held[number] = [it.split()[5] for it in told if it.startswith("granted ")]
+        for number, bases in held.items():
+            self.assertEqual(len(bases), 100)
+            releases = "".join(f"release {number} 1 {it} d {base}\n"
+                               for it, base in enumerate(bases, 101))
+            self.assertEqual(self.ask(releases.encode()).count(b"released"), 100)
+        whole = self.leases_in_time(31, "d", self.units, 20)
+        self.assertEqual(whole, ("d", 0, self.units))
+
+
+@needs_connections
+class ManyChunksOfMany(ManyChunks):
+    connections = 16
+
+
 class Nonblocking(Served):
     """A server whose standard input doesn't let it wait, as one that another program set so."""
 
