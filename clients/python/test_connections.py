@@ -36,6 +36,13 @@ class Full(Served):
         # (a hello that was taken would have made it known)
         self.assertEqual(self.last_of(4), 0)
 
+    def test_of_many_at_once_just_three_are_served(self):
+        links = [self.connected() for _ in range(40)]
+        for number, it in enumerate(links, 1):
+            it.sendall(b"hello %d 1\n" % number)
+        told = [it.recv(100).split()[0] for it in links]
+        self.assertEqual((told.count(b"welcome"), told.count(b"error")), (3, 37))
+
     def last_of(self, number):
         """The incarnation of a client, asked by one of those that are served."""
         link = self.links[0]
