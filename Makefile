@@ -10,7 +10,7 @@
 # make starve refuses each growth of memory in turn, and the server's threads, files, listening and
 #             connections, in what make test left; make test tries each run's first 40 and every fifth then
 # make bench  measures bin/vmemd beside another server (bench/README.md); BENCH="--most 1000000"
-# make bench-serve  measures its server beside Redis, where that is there (bench/README.md)
+# make bench-serve  measures its server beside Redis, where that is there, and beside a bound (bench/README.md)
 # make install PREFIX=/usr/local DESTDIR=  puts bin/vmemd, its pages and a systemd unit in place
 # make clean  removes what was built
 
