@@ -15,6 +15,7 @@ use Rattle.lease_proto.specs.declared.lines.Op.{Op}
 use Rattle.lease_proto.specs.declared.lines.Op.TheVariants as ops
 use Rattle.lease_proto.specs.declared.replies.Reply.{Reply}
 use Rattle.lease_proto.specs.declared.replies.Reply.TheVariants as replies
+use Rattle.lease_proto.specs.Requests.{demand_of}
 use Rattle.lease_book.specs.declared.receipts.KeptReply.{KeptReply}
 use Rattle.lease_book.specs.declared.receipts.Terms.{Terms}
 use Rattle.lease_book.specs.Receipts.{Kept, ReceiptState}
@@ -26,11 +27,11 @@ use Rattle.lease_book.specs.Calls.{IsGranted, IsRefused, IsReleased}
 use Rattle.lease_book.specs.Account.{Account, last_number, number_of, is_lease}
 use Rattle.lease_book.proofs.LawProofs.{account_is, last_outcome, outcomes_stay}
 use Rattle.lease_book.specs.declared.books.TheConstants.{MOST_LEASES}
-use Rattle.lease_history.specs.Told.{reply_to}
+use Rattle.lease_history.specs.Told.{reply_to, reply_of_settled, IsTellable, IsKnownReply}
 use Rattle.world_core.specs.declared.tasks.Task.{Task}
 use Rattle.world_core.specs.WorldState.{WorldState, arena_name}
 use Rattle.world_core.specs.IsWorld.{IsWorld}
-use Rattle.world_core.specs.Moves.{demand_of, reply_of_settled, IsAnswered, IsTellable, HasTask, HasAllLeases, HasNoSuchLease, TaskGranted, TaskRefused, TaskReleased}
+use Rattle.world_core.specs.Moves.{HasTask, HasAllLeases, HasNoSuchLease, TaskGranted, TaskRefused, TaskReleased}
 use Rattle.world_core.specs.Events.{CanGrant, CanRelease, IsEnabled}
 use Rattle.world_core.specs.declared.events.WorldEvent.TheVariants as events
 
@@ -44,7 +45,7 @@ settled_tellable w id (Refuse why) j is at = tt
 not_both : (book : BookState) (a : Account) (id : RequestId) (r : ReceiptState) → IsRepeated book a id r → IsNew a id → ⊥
 not_both book a id r again fresh = (let e : last_number a ≡ id.number = ap number_of again.kept in omega (arith, e, fresh.next))
 
-pub answered_is_old : (w : WorldState) (id : RequestId) (reply : Reply) → IsAnswered w id reply → ¬ IsNew (account_in id.client w.book) id
+pub answered_is_old : (w : WorldState) (id : RequestId) (reply : Reply) → IsKnownReply (arena_name w.names) w.book id reply → ¬ IsNew (account_in id.client w.book) id
 answered_is_old w id (replies.Old o) told fresh = told.1.other fresh.current
 answered_is_old w id (replies.Stale o) told fresh = omega (arith, told.1.last, told.1.below, fresh.next)
 answered_is_old w id (replies.Gap o) told fresh = omega (arith, told.1.last, told.1.above, fresh.next)
@@ -69,7 +70,7 @@ grants w cpu id lease t u quantum request book receipt told reply hands tasks en
     let here : CanGrant w cpu id lease u quantum = subst (λ (x : Tag). CanGrant w cpu id lease x quantum) (sym same) can in
     let terms : Terms = record { quantum = quantum; request = request } in
     let logged : entries ≡ Settled id (Grant u terms) ∷ w.entries = more ∙ ap (λ (x : Tag). Settled id (Grant x terms) ∷ w.entries) (sym same) in
-    let answers : replies ≡ w.replies ++ reply_of_settled w id (Grant u terms) ∷ [] =
+    let answers : replies ≡ w.replies ++ reply_of_settled (arena_name w.names) id (Grant u terms) ∷ [] =
     sent ∙ ap (λ (x : Reply). w.replies ++ x ∷ []) (is_told ∙ ap (reply_to (arena_name w.names) id) (is_kept ∙ ap (λ (r : ReceiptState). r.reply) granted.receipt)) in
     record {
       id = id;
@@ -108,7 +109,7 @@ all_leases w cpu id op serves full = λ other what also.
 -- a request is refused
 pub refuses : (w : WorldState) (cpu : ℕ) (id : RequestId) (op : Op) (why : Refusal) (book : BookState) (receipt : ReceiptState)
     (hands : List (Option Tag)) (tasks : List (Option Task)) (entries : List Entry) (replies : List Reply) → HasTask w cpu id op → IsRefused w.book book id why receipt
-    → hands ≡ w.hands → tasks ≡ set w.tasks cpu None → entries ≡ Settled id (Refuse why) ∷ w.entries → replies ≡ w.replies ++ reply_of_settled w id (Refuse why) ∷ []
+    → hands ≡ w.hands → tasks ≡ set w.tasks cpu None → entries ≡ Settled id (Refuse why) ∷ w.entries → replies ≡ w.replies ++ reply_of_settled (arena_name w.names) id (Refuse why) ∷ []
     → TaskRefused cpu why w (record w { hands = hands; tasks = tasks; book = book; entries = entries; replies = replies })
 refuses w cpu id op why book receipt hands tasks entries replies serves refused back ended more told = record {
   id = id;
@@ -142,7 +143,7 @@ not_grantable w cpu id lease t quantum is serves holds within grid misfits (othe
 pub releases : (w : WorldState) (cpu : ℕ) (id : RequestId) (line : ReleaseLine) (arena : ℕ) (t : Tag) (book : BookState) (receipt : ReceiptState)
     (hands : List (Option Tag)) (tasks : List (Option Task)) (entries : List Entry) (replies : List Reply) → CanRelease w cpu id line arena
     → IsReleased w.book book id arena line.base receipt t → hands ≡ set w.hands cpu (Some t) → tasks ≡ set w.tasks cpu None → entries ≡ Settled id (Return arena line.base) ∷ w.entries
-    → replies ≡ w.replies ++ reply_of_settled w id (Return arena line.base) ∷ []
+    → replies ≡ w.replies ++ reply_of_settled (arena_name w.names) id (Return arena line.base) ∷ []
     → TaskReleased cpu w (record w { hands = hands; tasks = tasks; book = book; entries = entries; replies = replies })
 releases w cpu id line arena t book receipt hands tasks entries replies can released held ended more told = record {
   id = id;

@@ -22,11 +22,11 @@ use Rattle.lease_book.specs.BookState.{BookState, IsHistory, Enters, account_in,
 use Rattle.lease_book.specs.Answers.{IsRepeated}
 use Rattle.lease_book.proofs.LawProofs.{account_is, last_outcome, outcomes_stay}
 use Rattle.lease_history.specs.Known.{IsFor}
-use Rattle.lease_history.specs.Told.{reply_to, MayTell}
+use Rattle.lease_history.specs.Told.{reply_to, MayTell, reply_of_settled, IsKnownReply}
 use Rattle.lease_history.proofs.LawProofs.{told_stays_told, hellos_keep_known, sweeps_keep_known, settlements_keep_known}
 use Rattle.world_core.specs.WorldState.{WorldState, arena_name, in_hands}
-use Rattle.world_core.specs.Moves.{IsAnswered, reply_of_settled, HelloTaken, HelloRefused, AnsweredAtOnce, TaskTaken, HasTask, TaskGranted, TaskRefused, TaskReleased, TaskEnded, TaskAnswered, TaskGivenUp, LeaseSwept}
-use Rattle.world_core.specs.IsWorld.{IsWorld, IsDue, IsOfLines, AreCpus}
+use Rattle.world_core.specs.Moves.{HelloTaken, HelloRefused, AnsweredAtOnce, TaskTaken, HasTask, TaskGranted, TaskRefused, TaskReleased, TaskEnded, TaskAnswered, TaskGivenUp, LeaseSwept}
+use Rattle.world_core.specs.IsWorld.{IsWorld, IsDue, IsOfLines, AreSoManyCpus}
 use Rattle.world_core.proofs.CpuLemmas.{hand_changed, task_changed}
 use Rattle.world_core.proofs.Members.{each_written, each_pushed, each_cons}
 use Rattle.world_core.proofs.HandLemmas.{hand_leased}
@@ -54,7 +54,7 @@ repeat_told w id reply is answer =
 present : (w : WorldState) (c : ℕ) → IsWorld w → (account_in c w.book).incarnation ≡ incarnation c w.entries
 present w c is = ap (λ (a : Account). a.incarnation) (account_is w.entries w.book c is.book)
 
-answer_told : (w : WorldState) (id : RequestId) (reply : Reply) → IsWorld w → IsAnswered w id reply → MayTell (arena_name w.names) w.entries reply
+answer_told : (w : WorldState) (id : RequestId) (reply : Reply) → IsWorld w → IsKnownReply (arena_name w.names) w.book id reply → MayTell (arena_name w.names) w.entries reply
 answer_told w id (replies.Old o) is a =
     let now = a.1.named in
     let there = present w id.client is in
@@ -205,7 +205,7 @@ settled_told names es id s = outcome_told names (Settled id s ∷ es) id (kept_r
 settles : (w : WorldState) (cpu : ℕ) (hands : List (Option Tag)) (book : BookState) (id : RequestId) (op : Op) (s : Settlement) → IsWorld w
     → HasTask w cpu id op → Enters (Settled id s) w.book book → IsFor (arena_name w.names) op s → IsDue w.stock w.names w.requests (Settled id s)
     → length hands ≡ length w.hands → IsAccountedFor w.stock (outside (in_hands hands) (leased_segments book) w.caches)
-    → IsWorld (record w { hands = hands; tasks = set w.tasks cpu None; book = book; entries = Settled id s ∷ w.entries; replies = w.replies ++ reply_of_settled w id s ∷ [] })
+    → IsWorld (record w { hands = hands; tasks = set w.tasks cpu None; book = book; entries = Settled id s ∷ w.entries; replies = w.replies ++ reply_of_settled (arena_name w.names) id s ∷ [] })
 settles w cpu hands book id op s is task enters for due even accounts =
     let names = arena_name w.names in
     let now : IsHistory (Settled id s ∷ w.entries) book = enters.history w.entries is.book in
@@ -220,7 +220,7 @@ settles w cpu hands book id op s is task enters for due even accounts =
       ids = is.ids;
       known = λ k c at. settlements_keep_known names w.entries c id op s (is.known k c at) now.orderly for (is.said k c at line.0 (lines.Request id op) line.1);
       said = is.said;
-      cpus = subst (λ (count : ℕ). AreCpus count (set w.tasks cpu None) w.failed w.owners) (sym even) (task_changed w.hands w.tasks w.failed w.owners is.cpus cpu None);
+      cpus = subst (λ (count : ℕ). AreSoManyCpus count (set w.tasks cpu None) w.failed w.owners) (sym even) (task_changed w.hands w.tasks w.failed w.owners is.cpus cpu None);
       tasks = each_written (IsOfLines w.requests) w.tasks cpu None is.tasks tt;
       own = is.own;
       shaped = is.shaped;

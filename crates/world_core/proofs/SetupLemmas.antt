@@ -22,7 +22,7 @@ use Rattle.lease_history.proofs.LawProofs.{clients_begin_known}
 use Rattle.world_core.specs.declared.tasks.Task.{Task}
 use Rattle.world_core.specs.declared.logs.Logged.{Logged}
 use Rattle.world_core.specs.WorldState.{WorldState, arena_name, in_hands, entries_of, Each}
-use Rattle.world_core.specs.IsWorld.{IsWorld, AreNames, AreCpus, AreInOrder, MayBeSaid}
+use Rattle.world_core.specs.IsWorld.{IsWorld, AreNames, AreSoManyCpus, AreInOrder, MayBeSaid}
 use Rattle.world_core.proofs.Members.{each_pushed, distinct_more}
 
 nothing : {X : Type 0} (P : X → Type 0) → Each P []
@@ -35,7 +35,7 @@ none_twice = tt
 no_caches : AreInOrder [] []
 no_caches = record { owned = refl; order = λ i j cpu o p less mine here yours there. absurd (let e : None ≡ Some o = here in cc) }
 
-no_cpus : AreCpus 0 [] [] []
+no_cpus : AreSoManyCpus 0 [] [] []
 no_cpus = record { served = refl; marked = refl; owned = nothing _ }
 
 made : (stock : List SpaceState) (names : List (List ℕ)) (book : BookState) → IsStock stock → Accounts stock [] → length names ≡ length stock → length names ≤ 2 ^ 32 → AreNames names

@@ -26,6 +26,7 @@ use Rattle.lease_proto.specs.declared.lines.Line.{Line}
 use Rattle.lease_proto.specs.declared.lines.Line.TheVariants as lines
 use Rattle.lease_proto.specs.declared.lines.Op.{Op}
 use Rattle.lease_proto.specs.declared.lines.Op.TheVariants as ops
+use Rattle.lease_proto.specs.Requests.{demand_of}
 use Rattle.lease_book.specs.Account.{Lease}
 use Rattle.lease_book.specs.Answers.{IsNew}
 use Rattle.lease_book.specs.BookState.{account_in}
@@ -40,7 +41,7 @@ use Rattle.world_core.specs.declared.events.EventFault.TheVariants as faults
 use Rattle.world_core.specs.declared.events.Outcome.TheVariants.{Done, NotEnabled, NoMemory}
 use Rattle.world_core.specs.declared.events.Outcome.TheVariants.{Refused}
 use Rattle.world_core.specs.WorldState.{WorldState, IsAmong}
-use Rattle.world_core.specs.Moves.{demand_of, HasTask, IsNamed, ClientSays, ClientHears}
+use Rattle.world_core.specs.Moves.{HasTask, IsNamed, ClientSays, ClientHears}
 use Rattle.world_core.specs.Moves.{HelloTaken, HelloRefused, AnsweredAtOnce, TaskTaken, TaskGranted}
 use Rattle.world_core.specs.Moves.{TaskRefused, TaskReleased, TaskAnswered, TaskGivenUp, HandMoves}
 use Rattle.world_core.specs.Moves.{PartMoves, LeaseSwept, IsOwnFor, TakesHand, RoundPopped}

@@ -14,6 +14,7 @@ use Rattle.lease_proto.specs.declared.lines.LeaseLine.{LeaseLine}
 use Rattle.lease_proto.specs.declared.lines.Line.{Line}
 use Rattle.lease_proto.specs.declared.lines.Line.TheVariants as lines
 use Rattle.lease_proto.specs.declared.lines.Op.TheVariants as ops
+use Rattle.lease_proto.specs.Requests.{demand_of}
 use Rattle.lease_book.specs.Entry.{Entry, Settled, Hello, Swept, Grant, Return, Refuse}
 use Rattle.lease_book.specs.BookState.{IsHistory}
 use Rattle.lease_book.specs.declared.receipts.Terms.{Terms}
@@ -23,7 +24,6 @@ use Rattle.lease_history.specs.Known.{IsKnown}
 use Rattle.lease_history.specs.Told.{MayTell}
 use Rattle.world_core.specs.declared.tasks.Task.{Task}
 use Rattle.world_core.specs.WorldState.{WorldState, arena_name, outside_of, Each, IsAmong}
-use Rattle.world_core.specs.Moves.{demand_of}
 
 -- no other index has the name of an arena
 abbrev pub AreNames : List (List ℕ) → Type 0
@@ -72,7 +72,7 @@ pub record AreInOrder (owners : List ℕ) (caches : List OwnCacheState) : Type 0
 
 -- so many CPUs: each serves a request or none, each is marked as failed or not, and each cache is
 -- owned by one
-pub record AreCpus (count : ℕ) (tasks : List (Option Task)) (failed : List Bool)
+pub record AreSoManyCpus (count : ℕ) (tasks : List (Option Task)) (failed : List Bool)
     (owners : List ℕ) : Type 0 where
   pub served : length tasks ≡ count
   pub marked : length failed ≡ count
@@ -93,7 +93,7 @@ pub record IsWorld (w : WorldState) : Type 0 where
   pub ids : IsDistinct nat_eq (map (λ c. c.id) w.clients)
   pub known : Each (IsKnown (arena_name w.names) w.entries) w.clients
   pub said : Each (λ c. Each (MayBeSaid c) w.requests) w.clients
-  pub cpus : AreCpus (length w.hands) w.tasks w.failed w.owners
+  pub cpus : AreSoManyCpus (length w.hands) w.tasks w.failed w.owners
   pub tasks : Each (IsOfLines w.requests) w.tasks
   pub own : AreInOrder w.owners w.caches
   pub shaped : Each (λ o. IsShaped o.cpu) w.caches

@@ -5,7 +5,6 @@ use Rattle.std.specs.Prelude.{slice_get, sum_by, Option, Some, None, Ok}
 use Rattle.std.specs.List.{find}
 use Rattle.std.specs.Option.{option_to_list}
 use Rattle.deed_core.specs.Tag.{Tag}
-use Rattle.deed_core.specs.declared.requests.Request.{Request}
 use Rattle.stock.specs.Spaces.{SpaceState}
 use Rattle.magazine_layer.specs.Magazines.{CpuCacheState, IsShaped, BothEmpty}
 use Rattle.magazine_layer.specs.Calls.{PopOf, PushOf}
@@ -24,56 +23,20 @@ use Rattle.lease_proto.specs.declared.lines.Op.{Op}
 use Rattle.lease_proto.specs.declared.lines.Op.TheVariants as ops
 use Rattle.lease_proto.specs.declared.replies.Reply.{Reply}
 use Rattle.lease_proto.specs.declared.replies.Reply.TheVariants as replies
-use Rattle.lease_book.specs.declared.receipts.KeptReply.{KeptReply}
+use Rattle.lease_proto.specs.Requests.{demand_of, again_of}
 use Rattle.lease_book.specs.declared.receipts.KeptReply.TheVariants as kept
 use Rattle.lease_book.specs.Receipts.{ReceiptState}
-use Rattle.lease_book.specs.Entry.{Settlement, Grant, Return, Refuse, Settled, Hello, Swept}
-use Rattle.lease_book.specs.Entry.{kept_reply_of}
+use Rattle.lease_book.specs.Entry.{Grant, Return, Refuse, Settled, Hello, Swept}
 use Rattle.lease_book.specs.BookState.{BookState, Enters, account_in, leased_segments}
-use Rattle.lease_book.specs.Answers.{IsNew, IsRepeated, IsOld, IsStale, IsGap}
+use Rattle.lease_book.specs.Answers.{IsNew}
 use Rattle.lease_book.specs.Account.{is_lease}
 use Rattle.lease_book.specs.declared.books.TheConstants.{MOST_LEASES}
 use Rattle.lease_book.specs.Calls.{IsGranted, IsRefused, IsReleased, IsSwept}
 use Rattle.lease_book.specs.declared.receipts.Terms.{Terms}
 use Rattle.lease_client.specs.ClientState.{ClientState}
 use Rattle.lease_client.specs.Replies.{after_reply}
-use Rattle.lease_history.specs.Told.{reply_to}
+use Rattle.lease_history.specs.Told.{IsKnownReply, reply_of_settled}
 use Rattle.world_core.specs.WorldState.{WorldState, arena_name}
-
--- what a lease asks of its arena
-abbrev pub demand_of : LeaseLine → Request
-demand_of l = record {
-  size = l.size;
-  align = l.options.align;
-  phase = l.options.phase;
-  nocross = l.options.nocross;
-  min = l.options.min;
-  max = l.options.max;
-}
-
--- the reply names no arena, or one of so many
-abbrev pub IsTellable : ℕ → KeptReply → Type 0
-IsTellable count (kept.Granted arena base len) = arena < count
-IsTellable count kept.Released = Unit {0}
-IsTellable count (kept.Refused why) = Unit {0}
-
--- the answer to a request whose number isn't new
-abbrev pub IsAnswered : WorldState → RequestId → Reply → Type 0
-IsAnswered w id (replies.Old o) =
-    (o.client ≡ id.client) × IsOld (account_in id.client w.book) id o.current
-IsAnswered w id (replies.Stale o) = (o.id ≡ id) × IsStale (account_in id.client w.book) id o.last
-IsAnswered w id (replies.Gap o) = (o.id ≡ id) × IsGap (account_in id.client w.book) id o.last
-IsAnswered w id reply = (r : ReceiptState) × IsRepeated w.book (account_in id.client w.book) id r
-    × (reply ≡ reply_to (arena_name w.names) id r.reply)
-
--- the reply to a request that is settled now
-abbrev pub reply_of_settled : WorldState → RequestId → Settlement → Reply
-reply_of_settled w id s = reply_to (arena_name w.names) id (kept_reply_of s)
-
--- out of memory: nothing is settled
-abbrev pub again_of : RequestId → Reply
-again_of id = replies.Again
-    (record { client = id.client; incarnation = id.incarnation; number = id.number })
 
 -- the client at the index says the line, and goes on so
 pub record ClientSays (index : ℕ) (May : ClientState → ClientState → Line → Type 0)
@@ -129,7 +92,7 @@ pub record AnsweredAtOnce (which : ℕ) (old new : WorldState) : Type 0 where
   pub op : Op
   pub reply : Reply
   pub sent : slice_get old.requests which ≡ Some (lines.Request id op)
-  pub answered : IsAnswered old id reply
+  pub answered : IsKnownReply (arena_name old.names) old.book id reply
   pub after : new ≡ record old { replies = old.replies ++ reply ∷ [] }
 
 -- a request with a new number comes to an idle CPU, which serves it from now on
@@ -170,7 +133,7 @@ pub record TaskGranted (cpu : ℕ) (old new : WorldState) : Type 0 where
     tasks = set old.tasks cpu None;
     book = book;
     entries = Settled id (Grant segment terms) ∷ old.entries;
-    replies = old.replies ++ reply_of_settled old id (Grant segment terms) ∷ [];
+    replies = old.replies ++ reply_of_settled (arena_name old.names) id (Grant segment terms) ∷ [];
   }
 
 -- the request is settled by a refusal, and hands stay as they are
@@ -185,7 +148,7 @@ pub record TaskRefused (cpu : ℕ) (why : Refusal) (old new : WorldState) : Type
     tasks = set old.tasks cpu None;
     book = book;
     entries = Settled id (Refuse why) ∷ old.entries;
-    replies = old.replies ++ reply_of_settled old id (Refuse why) ∷ [];
+    replies = old.replies ++ reply_of_settled (arena_name old.names) id (Refuse why) ∷ [];
   }
 
 -- the client of the request that the CPU serves has as many leases as one may have
@@ -216,7 +179,8 @@ pub record TaskReleased (cpu : ℕ) (old new : WorldState) : Type 0 where
     tasks = set old.tasks cpu None;
     book = book;
     entries = Settled id (Return arena release.base) ∷ old.entries;
-    replies = old.replies ++ reply_of_settled old id (Return arena release.base) ∷ [];
+    replies = old.replies
+        ++ reply_of_settled (arena_name old.names) id (Return arena release.base) ∷ [];
   }
 
 -- the request ends unsettled, with a reply that may come
@@ -234,7 +198,8 @@ pub record TaskEnded (cpu : ℕ) (May : RequestId → Reply → Type 0) (old new
 
 -- its number isn't new any more
 abbrev pub TaskAnswered : ℕ → (old new : WorldState) → Type 0
-TaskAnswered cpu old new = TaskEnded cpu (IsAnswered old) old new
+TaskAnswered cpu old new =
+    TaskEnded cpu (IsKnownReply (arena_name old.names) old.book) old new
 
 -- out of memory
 abbrev pub TaskGivenUp : ℕ → (old new : WorldState) → Type 0

@@ -8,7 +8,7 @@ use lease_terms::{ClientId, Refusal};
 
 /// An event. Clients and CPUs are named by their indexes, and so are the lines and the replies that
 /// were sent, in the order in which they were.
-#[derive(Clone, Copy, Debug, PartialEq, Eq)]
+#[derive(Clone, Copy, Debug)]
 pub enum WorldEvent {
     /// A client begins a greater incarnation: its hello is sent.
     Restarts {

@@ -23,29 +23,28 @@
 //! time of its part's call, and a release looks the name of its arena up among all names.
 #![tactic(auto)]
 
-mod adopting;
+mod adoptions;
 mod audits;
-mod booking;
-mod carving;
+mod carves;
+mod clients;
+mod closings;
+mod cpu_caches;
 mod depots;
-mod ending;
 mod events;
 mod hands;
 mod laws;
 mod logs;
-mod looking;
-mod making;
+mod looks;
+mod messages;
 mod names;
-mod own_setups;
+mod openings;
 mod parts;
-mod releasing;
+mod releases;
 mod reports;
-mod returning;
 mod rounds;
-mod setups;
+mod settlements;
 mod slabs;
 mod swaps;
-mod talking;
 mod tasks;
 mod worlds;
 

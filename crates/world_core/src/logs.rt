@@ -7,7 +7,7 @@ use lease_terms::{ClientId, Ordinal, Quantity, Refusal, RequestId};
 use std::marker::Model;
 
 /// What is seen of a segment, which itself is elsewhere.
-#[derive(Clone, Copy, Debug, PartialEq, Eq)]
+#[derive(Clone, Copy)]
 pub struct Label {
     arena: u32,
     route: Route,
@@ -74,7 +74,7 @@ impl Label {
 }
 
 /// An entry.
-#[derive(Clone, Copy, Debug, PartialEq, Eq)]
+#[derive(Clone, Copy)]
 pub enum Logged {
     Hello {
         client: ClientId,

@@ -1,12 +1,10 @@
 //! The names of arenas, and replies that tell them.
 ghost use Rattle.std.specs.Prelude.{◌≡◌, ◌≢◌, ◌<◌, ℕ, length, IfSome, IfNone};
-ghost use Rattle.lease_history.specs.Told.{reply_to};
+ghost use Rattle.lease_history.specs.Told.{reply_to, IsTellable};
 ghost use Rattle.world_core.specs.WorldState.{arena_name};
-ghost use Rattle.world_core.specs.Moves.{IsTellable, demand_of as spec_demand_of};
 
-use deed_core::Request;
 use lease_book::KeptReply;
-use lease_proto::{Granted, LeaseLine, RefusedRequest, Reply};
+use lease_proto::{Granted, RefusedRequest, Reply};
 use lease_terms::{ArenaName, RequestId};
 
 /// The index of the arena with this name.
@@ -38,19 +36,5 @@ pub(crate) fn reply_to(names: &[ArenaName], id: RequestId, kept: KeptReply) -> R
         }),
         KeptReply::Released => Reply::Released(id),
         KeptReply::Refused(refusal) => Reply::Refused(RefusedRequest { id, refusal }),
-    }
-}
-
-/// What a lease asks of its arena.
-pub(crate) fn demand_of(lease: &LeaseLine) -> Request
-    ensures { result ≡ spec_demand_of lease.now }
-{
-    Request {
-        size: lease.size.get(),
-        align: lease.options.align.get(),
-        phase: lease.options.phase.get(),
-        nocross: lease.options.nocross.get(),
-        min: lease.options.min.get(),
-        max: lease.options.max.get(),
     }
 }

@@ -1,5 +1,5 @@
 //! The parts of a world, and what is read off them.
-ghost use Rattle.std.specs.Prelude.{◌≡◌, ◌↔◌, ◌<◌, ℕ, length, IfSome, IfNone, IsTrue, Some, None};
+ghost use Rattle.std.specs.Prelude.{◌≡◌, ◌↔◌, ◌<◌, length, IfSome, IfNone, IsTrue, Some, None};
 ghost use Rattle.std.specs.Prelude.{slice_get};
 ghost use Rattle.deed_core.specs.Tag.{Tag};
 ghost use Rattle.stock.specs.Steps.{HasQuantum};

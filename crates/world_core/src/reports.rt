@@ -1,5 +1,5 @@
 //! What is seen of a world.
-ghost use Rattle.std.specs.Prelude.{◌≡◌, ◌≤◌, ℕ, length, slice_get, Some, IfSome, IfNone};
+ghost use Rattle.std.specs.Prelude.{◌≡◌, ◌≤◌, length, slice_get, Some, IfSome, IfNone};
 ghost use Rattle.lease_client.specs.ClientState.{ClientState};
 
 use crate::worlds::World;

@@ -1,5 +1,5 @@
 //! What CPUs do with their own caches, and which of them an event means.
-ghost use Rattle.std.specs.Prelude.{◌≡◌, ◌↔◌, ℕ, IfSome, IfNone, IsTrue};
+ghost use Rattle.std.specs.Prelude.{◌↔◌, ℕ, IfSome, IfNone, IsTrue};
 ghost use Rattle.deed_core.specs.Tag.{Tag};
 ghost use Rattle.stock.specs.OwnCaches.{OwnCacheState};
 ghost use Rattle.world_core.specs.IsWorld.{IsWorld};

@@ -1,7 +1,7 @@
 //! What CPUs do with the slabs of quantum caches.
-ghost use Rattle.std.specs.Prelude.{◌≡◌, IfSome, IfNone, Some};
+ghost use Rattle.std.specs.Prelude.{Some};
 ghost use Rattle.world_core.specs.IsWorld.{IsWorld};
-ghost use Rattle.world_core.specs.Events.{EndsAs, HasInHand, IsReady};
+ghost use Rattle.world_core.specs.Events.{EndsAs};
 
 use crate::events::{EventFault, Outcome, WorldEvent};
 use crate::hands::{put, take};

@@ -1,8 +1,8 @@
 use Rattle.std.proofs.Common.{◌≡◌, ℕ, ap, sym, subst, ◌∙◌, List, length}
 use Rattle.world_core.specs.WorldState.{WorldState}
-use Rattle.world_core.specs.Moves.{IsTellable}
 use Rattle.world_core.proofs.BookLemmas.{repeat_tellable}
 use Rattle.world_core.proofs.parts.WorldParts.answered.Goals as goal
+use Rattle.lease_history.specs.Told.{IsTellable}
 
 pub reply_to-requires : goal.reply_to-requires
 reply_to-requires g c =

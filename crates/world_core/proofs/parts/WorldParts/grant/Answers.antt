@@ -34,8 +34,8 @@ returns-in-Ok-settle g c =
     let held : Some (Some c.take-segment.result) ≡ Some (Some c.args.grant.now.segment) = sym c.take-segment.ensures.held ∙ can.holds in
     let same : c.take-segment.result ≡ c.args.grant.now.segment = cc in
     let v : WorldState = record w { hands = c.take-segment.new.hands.items; tasks = set w.tasks c.args.cpu None; book = c.settle.new.self; entries = entries_of c.push_reserved.new.self.items; replies = c.push_reserved-in-Ok-settle.new.self.items } in
-    let move = grants w c.args.cpu c.args.grant.now.id c.args.grant.now.lease c.args.grant.now.segment c.take-segment.result c.args.grant.now.quantum c.demand_of-request.result c.settle.new.self c.in-Ok-settle.receipt c.reply.result c.reply_to.result
-    c.take-segment.new.hands.items (set w.tasks c.args.cpu None) (entries_of c.push_reserved.new.self.items) c.push_reserved-in-Ok-settle.new.self.items can same c.demand_of-request.ensures c.in-Ok-settle.ensures.granted c.reply.ensures.value
+    let move = grants w c.args.cpu c.args.grant.now.id c.args.grant.now.lease c.args.grant.now.segment c.take-segment.result c.args.grant.now.quantum c.demand-request.result c.settle.new.self c.in-Ok-settle.receipt c.reply.result c.reply_to.result
+    c.take-segment.new.hands.items (set w.tasks c.args.cpu None) (entries_of c.push_reserved.new.self.items) c.push_reserved-in-Ok-settle.new.self.items can same c.demand-request.ensures c.in-Ok-settle.ensures.granted c.reply.ensures.value
     (c.reply_to.ensures ∙ ap (λ (names : List (List ℕ)). reply_to (arena_name names) c.args.grant.now.id c.reply.result) c.deref.ensures.value)
     c.take-segment.ensures.emptied refl (logged_on _ _ _ (onto _ _ _ _ c.push_reserved.ensures.items c.reserve.ensures.items)) (onto _ _ _ _ c.push_reserved-in-Ok-settle.ensures.items c.reserve-2.ensures.items) in
     inl (subst (λ (x : WorldState). TaskGranted c.args.cpu x v) view move)

@@ -19,6 +19,6 @@ returns-then-not-fits-clause-none g c =
     let within : t.arena < length c.args.self.now.names = search rules in
     let grid : HasQuantum c.args.self.now.stock t.arena q = search rules in
     not_grantable c.args.self.now c.args.cpu c.in_ok-id.id c.in_ok-id.lease t q c.requires.world serves holds within grid
-    (λ fits. (let there : Fits q c.demand_of.result t.holding.range.base t.holding.range.len = subst (λ (r : Request). Fits q r t.holding.range.base t.holding.range.len) (sym c.demand_of.ensures) fits in
-    let here : Fits q c.demand_of.result c.range.result.base c.range.result.len = subst (λ (e : Extent). Fits q c.demand_of.result e.base e.len) (sym c.range.ensures.value) there in
+    (λ fits. (let there : Fits q c.demand.result t.holding.range.base t.holding.range.len = subst (λ (r : Request). Fits q r t.holding.range.base t.holding.range.len) (sym c.demand.ensures) fits in
+    let here : Fits q c.demand.result c.range.result.base c.range.result.len = subst (λ (e : Extent). Fits q c.demand.result e.base e.len) (sym c.range.ensures.value) there in
     absurd (false≢true (c.if-not-fits.ensures.1 here))))
