@@ -11,6 +11,7 @@ use Rattle.clap.specs.declared.error.Error.{Error}
 use Rattle.clap.specs.declared.error.kind.ErrorKind.{ErrorKind}
 use Rattle.clap.specs.declared.error.kind.ErrorKind.TheVariants as kind
 use Rattle.vmemd.specs.declared.commands.TheConstants.{MOST_WORKERS, MOST_SECONDS}
+use Rattle.vmemd.specs.declared.commands.TheConstants.{MOST_CONNECTIONS}
 use Rattle.vmemd.specs.declared.commands.TheConstants.{LINE_LIMIT, IDLE_LIMIT}
 use Rattle.vmemd.specs.declared.commands.ServeWords.{ServeWords}
 use Rattle.vmemd.specs.declared.commands.GivenWords.{GivenWords}
@@ -50,6 +51,15 @@ seconds_word id = record (new_rule id) {
   parser = Some (Signed (pos 1) (pos MOST_SECONDS));
 }
 
+-- the option of so many connections, from 1 on
+abbrev pub connections_word : Rule
+connections_word = record (new_rule (codes "connections")) {
+  long = Some (codes "connections");
+  value_names = 1;
+  action = Some Set;
+  parser = Some (Signed (pos 1) (pos MOST_CONNECTIONS));
+}
+
 -- the words of `serve ADDRESS CONFIG WORKERS`
 abbrev pub bare_serve : App
 bare_serve = with_rule (with_rule (with_rule (new_app (codes "serve"))
@@ -58,8 +68,8 @@ bare_serve = with_rule (with_rule (with_rule (new_app (codes "serve"))
 -- the subcommand `serve`, with its options
 abbrev pub serve_command : App
 serve_command =
-    with_rule (with_rule (with_rule bare_serve (seconds_word (codes "line-limit")))
-    (seconds_word (codes "idle-limit"))) (seconds_word (codes "grace"))
+    with_rule (with_rule (with_rule (with_rule bare_serve (seconds_word (codes "line-limit")))
+    (seconds_word (codes "idle-limit"))) (seconds_word (codes "grace"))) connections_word
 
 -- the program's command, which has to have one of the subcommands `script` and `serve`
 abbrev pub program : App
@@ -91,6 +101,7 @@ AsksToServe rows asked = (asked.address.now ≡ unwrap_or (first_of (codes "ADDR
     × GivesNumber rows (codes "line-limit") MOST_SECONDS LINE_LIMIT asked.line_limit
     × GivesNumber rows (codes "idle-limit") MOST_SECONDS IDLE_LIMIT asked.idle_limit
     × GivesOption rows (codes "grace") MOST_SECONDS asked.grace
+    × GivesOption rows (codes "connections") MOST_CONNECTIONS asked.connections
 
 -- what is given, by the name of the command that clap finds and the values of its words: all but
 -- `serve` is a script

@@ -5,6 +5,7 @@ ghost use Rattle.clap.specs.Words.{app_of, fault_of, found_of, kind_of, rows_of,
 ghost use Rattle.clap.specs.Words.{subcommand_of, subcommand_rows_of};
 ghost use Rattle.vmemd.specs.Commands.{program, script_words, FailsWords, IsGivenBy, ShowsError};
 ghost use Rattle.vmemd.specs.Commands.{required_word, seconds_word, workers_word, serve_command};
+ghost use Rattle.vmemd.specs.Commands.{connections_word};
 ghost use Rattle.vmemd.specs.Commands.{AsksToServe, GivesNumber, GivesOption};
 ghost use Rattle.vmemd.specs.declared.commands.TheConstants.{MOST_WORKERS};
 ghost use Rattle.lease_proto.specs.declared.limits.TheConstants.{MOST_CPUS};
@@ -16,6 +17,9 @@ use std::alloc::{AllocError, AllocFailed, Global};
 
 /// How many workers a server has at most: each goes by a CPU of its own.
 pub const MOST_WORKERS: u32 = MOST_CPUS;
+
+/// How many connections a server serves at a time at most, each with a thread of its own.
+pub const MOST_CONNECTIONS: u32 = 4096;
 
 /// How many seconds an option takes at most: a day.
 pub const MOST_SECONDS: u32 = 86_400;
@@ -51,6 +55,8 @@ pub struct ServeWords<'a> {
     pub line_limit: u32,
     pub idle_limit: u32,
     pub grace: Option<u32>,
+    /// 1 to `MOST_CONNECTIONS`.
+    pub connections: Option<u32>,
 }
 
 /// Why the words are for no part of the program.
@@ -240,7 +246,9 @@ Answers clients over TCP, until standard input ends.
 ADDRESS is an address and a port, as 127.0.0.1:7070; with port 0 the system chooses one. CONFIG is a
 file of setup lines, root and child alone, as vmemd script --help tells them. WORKERS, 1 to 64, is
 how many connections are served at a time: a client that stays connected holds a worker, and more
-connections than workers wait until one ends.
+connections than workers wait until one ends. With --connections up to N are served at a time, 1 to
+4096, each by a thread of its own: their lines go by WORKERS CPUs, the first that is free, and one
+connection more is answered error busy and ended.
 
 Once it listens it prints listening ADDRESS, with the real port. The lines of clients and their
 answers are those of a script; lines of operators are answered by error word. A connection that
@@ -260,6 +268,8 @@ const LINE_LIMIT_HELP: &str = "How long a line and taking an answer may take (10
 const IDLE_LIMIT_HELP: &str = "How long a client may be silent between lines (600 without it)";
 
 const GRACE_HELP: &str = "Ends connections at the end of the input, the last after so long";
+
+const CONNECTIONS_HELP: &str = "Serves so many connections at a time, with a thread each";
 
 const STATUS_HELP: &str = "\
 Exit status: 0 at the end of the input, and after help or the version; 1 where reading, writing or
@@ -303,7 +313,8 @@ fn serve<'a>(alloc: Global) -> Result<Command<'a>, AllocError>
         .arg(workers(alloc))?
         .arg(line)?
         .arg(idle)?
-        .arg(grace)
+        .arg(grace)?
+        .arg(connections(alloc))
 }
 
 /// How many workers serve.
@@ -341,6 +352,19 @@ fn seconds<'a>(alloc: Global, id: &'a str, help: &'a str) -> Arg<'a>
         .action(ArgAction::Set)
         .help(help)
         .value_parser(clap::value_parser!(u32).range(1..=i64::from(MOST_SECONDS)))
+}
+
+/// The option of so many connections.
+fn connections<'a>(alloc: Global) -> Arg<'a>
+    ensures rule { rule_of result ≡ connections_word }
+    ensures local { result.global ≡ false }
+{
+    Arg::new(alloc, "connections")
+        .long("connections")
+        .value_name("N")
+        .action(ArgAction::Set)
+        .help(CONNECTIONS_HELP)
+        .value_parser(clap::value_parser!(u32).range(1..=i64::from(MOST_CONNECTIONS)))
 }
 
 /// Reads the words, of which the first is the program's name.
@@ -383,6 +407,7 @@ fn serve_given<'a>(of: &ArgMatches<'a>) -> ServeWords<'a>
         line_limit: number_given(of, "line-limit", MOST_SECONDS, LINE_LIMIT),
         idle_limit: number_given(of, "idle-limit", MOST_SECONDS, IDLE_LIMIT),
         grace: option_given(of, "grace", MOST_SECONDS),
+        connections: option_given(of, "connections", MOST_CONNECTIONS),
     }
 }
 

@@ -7,7 +7,8 @@
 //! `vmemd serve` answers clients over TCP (running): the setup comes from a file (configs), a
 //! running system is made of it, and each worker serves one connection after another over a CPU of
 //! its own, until standard input ends and the system is shut (listeners has its socket, signals
-//! tell the workers, inputs waits for an input that doesn't block).
+//! tell the workers, inputs waits for an input that doesn't block). With `--connections` each
+//! connection has a thread, and they share the CPUs (sharing).
 //!
 //! The words of the command line and the help are in commands, why a run ends early in faults, the
 //! exit statuses in endings.
@@ -20,8 +21,8 @@
 //! specs/Running.antt; what it answers, in `lease_tcp`.
 //!
 //! A script costs what its setup and its desk do for each line, and a read for each 16,384 bytes or
-//! less. A server has a thread for each worker, at most `MOST_WORKERS`, and costs what its system
-//! does for each line.
+//! less. A server has a thread for each worker, at most `MOST_WORKERS`, or for each connection, at
+//! most `MOST_CONNECTIONS`, and costs what its system does for each line.
 #![tactic(auto)]
 
 ghost use Rattle.std.specs.Prelude.{◌≤◌, IfOk};
@@ -39,6 +40,7 @@ pub mod running;
 pub mod scripts;
 pub mod setting_up;
 pub mod settings;
+pub mod sharing;
 pub mod signals;
 #[cfg(test)]
 mod tests;
@@ -152,6 +154,7 @@ fn serve<
     };
     let plan = Plan {
         workers: asked.workers,
+        connections: asked.connections,
         pace: Pace {
             line: Duration::from_secs(u64::from(asked.line_limit)),
             idle: Duration::from_secs(u64::from(asked.idle_limit)),

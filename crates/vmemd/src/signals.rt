@@ -1,5 +1,6 @@
 //! What the workers of a server share beside its system.
 
+use lease_tcp::Shortage;
 use std::sync::atomic::{AtomicBool, AtomicU64, Ordering};
 
 /// What tells workers to stop, and what they tell.
@@ -9,6 +10,8 @@ pub struct Signals {
     ready: AtomicU64,
     starved: AtomicBool,
     stuck: AtomicBool,
+    descriptors: AtomicBool,
+    threads: AtomicBool,
 }
 
 impl Signals {
@@ -19,6 +22,8 @@ impl Signals {
             ready: AtomicU64::new(0),
             starved: AtomicBool::new(false),
             stuck: AtomicBool::new(false),
+            descriptors: AtomicBool::new(false),
+            threads: AtomicBool::new(false),
         }
     }
 
@@ -60,5 +65,14 @@ impl Signals {
     /// Whether something could not be put back at once.
     pub fn is_stuck(&self) -> bool {
         self.stuck.load(Ordering::SeqCst)
+    }
+
+    /// Tells that there was none of this for a connection, and says whether it is the first time.
+    pub fn note_shortage(&self, what: Shortage) -> bool {
+        let noted = match what {
+            Shortage::Descriptor => &self.descriptors,
+            Shortage::Thread => &self.threads,
+        };
+        !noted.swap(true, Ordering::SeqCst)
     }
 }

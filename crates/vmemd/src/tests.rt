@@ -7,7 +7,8 @@ mod telling;
 
 use self::tables::{ASKED, MISTAKEN, REFUSED, ROWS};
 use crate::commands::{
-    GivenWords, IDLE_LIMIT, LINE_LIMIT, MOST_SECONDS, MOST_WORKERS, WordsFault, read_words,
+    GivenWords, IDLE_LIMIT, LINE_LIMIT, MOST_CONNECTIONS, MOST_SECONDS, MOST_WORKERS, WordsFault,
+    read_words,
 };
 use crate::faults::{ConfigFault, ScriptFault};
 use crate::inputs::PatientReader;
@@ -428,6 +429,7 @@ fn the_help_of_a_server_tells_its_limits(rt: HostRuntime) -> Result<(), Fail> {
     for limit in [
         format!(in alloc; "WORKERS, 1 to {MOST_WORKERS},")?,
         format!(in alloc; "connections are served at a time, 1 to {MOST_WORKERS}\n")?,
+        format!(in alloc; "at a time, 1 to\n{MOST_CONNECTIONS}, each by a thread")?,
         format!(in alloc; "SECONDS are 1\nto {MOST_SECONDS}.")?,
         format!(in alloc; "taking an answer may take ({LINE_LIMIT} without it)\n")?,
         format!(in alloc; "silent between lines ({IDLE_LIMIT} without it)\n")?,

@@ -63,8 +63,8 @@ const TALKS: [Talk; 4] = [
 #[test]
 fn tcp_rows(rt: HostRuntime) {
     for talk in &TALKS {
-        for workers in [1, 3] {
-            serve_talk(&rt, talk, workers);
+        for (workers, connections) in [(1, None), (3, None), (2, Some(1)), (1, Some(4096))] {
+            serve_talk(&rt, talk, workers, connections);
         }
     }
 }
@@ -80,7 +80,7 @@ fn serve_talk<
         + Abort
         + Sync
         + AllocGlobal,
->(rt: &R, talk: &Talk, workers: u32) {
+>(rt: &R, talk: &Talk, workers: u32, connections: Option<u32>) {
     let control = TcpListener::bind(rt, "127.0.0.1:0").expect(rt, "a port");
     let address = control.local_addr().expect(rt, "an address");
     let user = TcpStream::connect(rt, address).expect(rt, "a connection");
@@ -88,7 +88,7 @@ fn serve_talk<
     let ends = [&user, &console];
     let (_, ()) = thread::join(
         rt,
-        move || run_server(rt, talk.config, workers, ends[1]),
+        move || run_server(rt, talk.config, workers, connections, ends[1]),
         move || use_server(rt, talk, ends[0]),
     );
 }
@@ -102,7 +102,7 @@ fn run_server<
         + Abort
         + Sync
         + AllocGlobal,
->(rt: &R, config: &'static [u8], workers: u32, console: &TcpStream) {
+>(rt: &R, config: &'static [u8], workers: u32, connections: Option<u32>, console: &TcpStream) {
     assert!(rt; 1 <= workers && workers <= MOST_WORKERS);
     let mut reader = Watched::new(Pieces {
         rest: config,
@@ -117,6 +117,7 @@ fn run_server<
     };
     let plan = Plan {
         workers,
+        connections,
         pace: Pace {
             line: Duration::from_secs(10),
             idle: Duration::from_secs(10),

@@ -162,29 +162,38 @@ fn words_that_could_not_be_read(rt: HostRuntime) {
     }
 }
 
-/// Words after `serve x y 64`, and what they ask for: the limits of a line and of silence, and the
-/// grace.
-const OPTIONS: [(&[&str], u32, u32, Option<u32>); 4] = [
-    (&[], 10, 600, None),
-    (&["--line-limit", "1"], 1, 600, None),
+/// Words after `serve x y 64`, and what they ask for: the limits of a line and of silence, the
+/// grace, and the connections.
+const OPTIONS: [(&[&str], u32, u32, Option<u32>, Option<u32>); 5] = [
+    (&[], 10, 600, None, None),
+    (&["--line-limit", "1"], 1, 600, None, None),
     (
         &["--idle-limit=86400", "--grace", "86400"],
         10,
         86_400,
         Some(86_400),
+        None,
     ),
     (
         &["--grace=1", "--idle-limit", "5", "--line-limit", "86400"],
         86_400,
         5,
         Some(1),
+        None,
+    ),
+    (
+        &["--connections", "4096", "--grace=2"],
+        10,
+        600,
+        Some(2),
+        Some(4096),
     ),
 ];
 
 #[test]
 fn words_of_a_server(rt: HostRuntime) -> Result<(), Fail> {
     let alloc = rt.alloc();
-    for (options, line_limit, idle_limit, grace) in &OPTIONS {
+    for (options, line_limit, idle_limit, grace, connections) in &OPTIONS {
         let mut words = Vec::from_slice(alloc, &["vmemd", "serve", "x", "y", "64"])?;
         words.extend_from_slice(options)?;
         let Ok(words) = read_words(alloc, words.as_slice()) else {
@@ -197,6 +206,7 @@ fn words_of_a_server(rt: HostRuntime) -> Result<(), Fail> {
             line_limit: *line_limit,
             idle_limit: *idle_limit,
             grace: *grace,
+            connections: *connections,
         };
         assert_eq!(rt; words, GivenWords::Serve(wanted));
     }
@@ -209,6 +219,18 @@ fn words_of_a_server(rt: HostRuntime) -> Result<(), Fail> {
             let words = ["vmemd", "serve", "x", "y", "1", option, seconds];
             is_mistaken(&rt, &words)?;
         }
+    }
+    for connections in ["0", "4097", "-1", "x", ""] {
+        let words = [
+            "vmemd",
+            "serve",
+            "x",
+            "y",
+            "1",
+            "--connections",
+            connections,
+        ];
+        is_mistaken(&rt, &words)?;
     }
     Ok(())
 }

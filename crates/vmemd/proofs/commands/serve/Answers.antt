@@ -11,7 +11,8 @@ returns c =
     ∙ ap₂ with_rule (c.in_ok-arg-2.ensures.shape c.required-config.ensures.local
     ∙ ap₂ with_rule (c.in_ok-arg.ensures.shape c.required-address.ensures.local ∙ ap₂ with_rule new_is c.required-address.ensures.rule) c.required-config.ensures.rule)
     c.workers.ensures.rule in
-    IfOk-weaker c.arg-6.result _ _ (λ r h. h.shape c.seconds-grace.ensures.local
-    ∙ ap₂ with_rule (c.in_ok-arg-5.ensures.shape c.seconds-idle.ensures.local
-    ∙ ap₂ with_rule (c.in_ok-arg-4.ensures.shape c.seconds-line.ensures.local ∙ ap₂ with_rule bare_is c.seconds-line.ensures.rule) c.seconds-idle.ensures.rule)
-    c.seconds-grace.ensures.rule) c.arg-6.ensures
+    let paced_is = c.in_ok-arg-5.ensures.shape c.seconds-idle.ensures.local
+    ∙ ap₂ with_rule (c.in_ok-arg-4.ensures.shape c.seconds-line.ensures.local ∙ ap₂ with_rule bare_is c.seconds-line.ensures.rule) c.seconds-idle.ensures.rule in
+    IfOk-weaker c.arg-7.result _ _ (λ r h. h.shape c.connections.ensures.local
+    ∙ ap₂ with_rule (c.in_ok-arg-6.ensures.shape c.seconds-grace.ensures.local ∙ ap₂ with_rule paced_is c.seconds-grace.ensures.rule)
+    c.connections.ensures.rule) c.arg-7.ensures

@@ -14,4 +14,5 @@ returns c =
       c.number_given-2.ensures,
       c.number_given-3.ensures,
       c.option_given.ensures,
+      c.option_given-2.ensures,
     )

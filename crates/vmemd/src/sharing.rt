@@ -1,0 +1,127 @@
+//! A server with a thread for each connection, which share its CPUs.
+ghost use Rattle.vmemd.specs.Running.{Attends, console_streams};
+
+use crate::endings::tell_fault;
+use crate::listeners::Listener;
+use crate::running::{Attended, Console, Plan, RunFault, attend, retire, stop};
+use crate::signals::Signals;
+use deed_table::Name;
+use lease_tcp::{Door, House, Overseer, Seat, Shortage, keep, new_seats, serve_talks};
+use lease_threads::System;
+use std::io::{Read, Write};
+use std::sync::{Mutex, Wait};
+use std::thread;
+use std::thread::Threads;
+use std::time::Clock;
+
+/// Tells on standard error what a server lacks, each the first time.
+#[derive(Drop)]
+struct Teller<'a, R> {
+    rt: &'a R,
+    signals: &'a Signals,
+}
+
+impl<R: Eprint> Overseer for Teller<'_, R> {
+    fn lacks(&self, what: Shortage) {
+        if self.signals.note_shortage(what) {
+            match what {
+                Shortage::Descriptor => tell_fault(self.rt, "descriptors"),
+                Shortage::Thread => tell_fault(self.rt, "threads"),
+            }
+        }
+    }
+}
+
+/// Makes the CPUs, serves connections by them until the input ends, and stops.
+pub(crate) fn serve_shared<
+    N: Name + Send + Sync,
+    R: Threads + Wait + Clock + Eprint + Sync + AllocGlobal,
+    I: Read + Drop,
+    W: Write + Drop,
+>(
+    rt: &R,
+    listener: &Listener,
+    door: &Door<'_>,
+    system: &System<N>,
+    signals: &Signals,
+    plan: Plan,
+    console: Console<I, W>,
+) -> Attended<I, W>
+    ensures { Attends (console_streams I.remaining W.contents console)
+        (console_streams I.remaining W.contents result.console) result.ended }
+{
+    let mut seats: Vec<Mutex<Seat<N>>> = Vec::new(rt.alloc());
+    let ran = match new_seats(rt.alloc(), system, plan.workers, &mut seats) {
+        Ok(()) => {
+            let house = House {
+                door: *door,
+                system,
+                seats: seats.as_slice(),
+            };
+            serve_house(rt, listener, &house, signals, plan.grace, console)
+        }
+        Err(_) => Attended {
+            ended: Err(RunFault::Memory),
+            console,
+        },
+    };
+    retire_seats(rt, system, signals, seats);
+    ran
+}
+
+/// Starts what takes connections and the keeper, waits for the end of the input, and stops them.
+fn serve_house<
+    N: Name + Send + Sync,
+    R: Threads + Wait + Clock + Eprint + Sync + AllocGlobal,
+    I: Read + Drop,
+    W: Write + Drop,
+>(
+    rt: &R,
+    listener: &Listener,
+    house: &House<'_, N>,
+    signals: &Signals,
+    grace: Option<u32>,
+    console: Console<I, W>,
+) -> Attended<I, W>
+    ensures { Attends (console_streams I.remaining W.contents console)
+        (console_streams I.remaining W.contents result.console) result.ended }
+{
+    let teller = Teller { rt, signals };
+    let overseer = &teller;
+    thread::scope(
+        thread::scope_env(),
+        rt,
+        move |scope| -> Attended<I, W>
+            ensures { Attends (console_streams I.remaining W.contents console)
+                (console_streams I.remaining W.contents result.console) result.ended }
+        {
+            let all = scope
+                .spawn(move || serve_talks(rt, house, overseer))
+                .is_ok()
+                && scope.spawn(move || keep(rt, house)).is_ok();
+            let ran = if all {
+                attend(rt, listener.line(), console)
+            } else {
+                Attended {
+                    ended: Err(RunFault::Memory),
+                    console,
+                }
+            };
+            stop(rt, listener, &house.door, signals, grace);
+            ran
+        },
+    )
+}
+
+/// Retires the CPU of each seat.
+fn retire_seats<N: Name, R: Wait + Clock + Eprint>(
+    rt: &R,
+    system: &System<N>,
+    signals: &Signals,
+    mut seats: Vec<Mutex<Seat<N>>>,
+) {
+    while let Some(seat) = seats.pop() {
+        retire(rt, system, signals, seat.into_inner().into_cpu());
+    }
+    seats.destroy_empty();
+}
