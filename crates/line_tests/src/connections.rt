@@ -5,7 +5,7 @@ ghost use Rattle.std.specs.Prelude.{◌≡◌, ⊤, true};
 
 use lease_proto::{ErrorWord, Line, Reply, Welcome};
 use lease_server::{ServeFault, Watched};
-use lease_tcp::{ClientLines, Link, Worker, serve_connection};
+use lease_tcp::{ClientLines, Link, Worker, serve_connection, turn_away};
 use std::alloc::Global;
 use std::cell::Cell;
 use std::io;
@@ -184,4 +184,17 @@ fn a_peer_is_told_the_end_before_its_worker_tidies(rt: HostRuntime) {
     let served = serve_connection(alloc, &mut reader, &mut writer, &mut Seen(&end), &mut lines);
     assert_eq!(rt; served, Ok(()));
     assert!(rt; lines.into_worker().was_told);
+}
+
+#[test]
+fn a_peer_too_many_is_told_so(rt: HostRuntime) {
+    let mut writer = Watched::new(Vec::new(rt.alloc()));
+    let mut link = Told::new();
+    assert_eq!(rt; turn_away(&mut writer, &mut link), Ok(()));
+    assert!(rt; link.is_told);
+    assert_eq!(rt; writer.into_inner().as_slice(), b"error busy\n".as_slice());
+    let mut link = Told::new();
+    let told = turn_away(&mut Watched::new(Gone), &mut link);
+    assert_eq!(rt; told, Err(ServeFault::Write));
+    assert!(rt; link.is_told);
 }

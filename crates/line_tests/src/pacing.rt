@@ -1,10 +1,10 @@
-//! Slow peers, by a clock of their own: how long a paced writer waits for them.
+//! Slow peers, by a clock of their own: how long a paced reader and a paced writer wait for them.
 
 use lease_server::{ServeFault, Watched, deliver};
-use lease_tcp::{Limited, Pace, PacedWriter};
+use lease_tcp::{Limited, Pace, PacedReader, PacedWriter};
 use std::cell::Cell;
 use std::io;
-use std::io::{ErrorKind, Write};
+use std::io::{ErrorKind, Read, Write};
 use std::time::{Clock, Duration};
 
 /// 10 seconds for a line and an answer, 600 between lines.
@@ -55,7 +55,7 @@ struct Wire<'a> {
     limit: Cell<u64>,
     /// How often a limit was set.
     sets: Cell<u64>,
-    /// How many bytes were taken.
+    /// How many bytes came through.
     taken: Cell<usize>,
 }
 
@@ -82,6 +82,10 @@ impl<'a> Wire<'a> {
             return Err(io::Error::from(ErrorKind::WouldBlock));
         }
         Ok(())
+    }
+
+    fn count(&self, bytes: usize) {
+        self.taken.set(self.taken.get().saturating_add(bytes));
     }
 }
 
@@ -111,9 +115,7 @@ impl Write for Taker<'_> {
         self.wire.wait(*pause)?;
         self.parts = rest;
         let count = buf.len().min(*room);
-        self.wire
-            .taken
-            .set(self.wire.taken.get().saturating_add(count));
+        self.wire.count(count);
         Ok(count)
     }
 
@@ -212,4 +214,156 @@ fn deliver_three<W: Write>(writer: &mut Watched<W>) -> Result<(), ServeFault> {
         deliver(writer, b"123456789\n")?;
     }
     Ok(())
+}
+
+/// Says these parts, each so many milliseconds after the one before; then its end.
+#[derive(Drop)]
+struct Speaker<'a> {
+    wire: &'a Wire<'a>,
+    parts: &'static [(u64, &'static str)],
+    said: usize,
+}
+
+impl Limited for Speaker<'_> {
+    fn limit_reads(&self, limit: Duration) -> io::Result<()> {
+        self.wire.set(limit);
+        Ok(())
+    }
+
+    fn limit_writes(&self, _limit: Duration) -> io::Result<()> {
+        Ok(())
+    }
+}
+
+impl Read for Speaker<'_> {
+    fn read(&mut self, buf: &mut [u8]) -> io::Result<usize> {
+        let Some((pause, part)) = self.parts.get(self.said) else {
+            return Ok(0);
+        };
+        self.wire.wait(*pause)?;
+        self.said = self.said.saturating_add(1);
+        let bytes = part.as_bytes();
+        let count = bytes.len().min(buf.len());
+        buf[..count].copy_from_slice(&bytes[..count]);
+        self.wire.count(count);
+        Ok(count)
+    }
+}
+
+/// How a peer says its lines.
+struct Spoken {
+    shows: &'static str,
+    parts: &'static [(u64, &'static str)],
+    fails_from: u64,
+    taken: usize,
+    ended: u64,
+    is_whole: bool,
+    sets: u64,
+}
+
+const SPOKEN: [Spoken; 8] = [
+    Spoken {
+        shows: "each line at once, and silence between them",
+        parts: &[(10_000, "a\n"), (600_000, "b\n")],
+        fails_from: u64::MAX,
+        taken: 4,
+        ended: 610_000,
+        is_whole: true,
+        sets: 2,
+    },
+    Spoken {
+        shows: "nothing",
+        parts: &[(10_001, "a")],
+        fails_from: u64::MAX,
+        taken: 0,
+        ended: 10_000,
+        is_whole: false,
+        sets: 1,
+    },
+    Spoken {
+        shows: "a byte now and then",
+        parts: &[(3_000, "a"), (3_000, "b"), (3_000, "c"), (3_000, "d")],
+        fails_from: u64::MAX,
+        taken: 3,
+        ended: 10_000,
+        is_whole: false,
+        sets: 4,
+    },
+    Spoken {
+        shows: "a line that begins behind another, and has its own time",
+        parts: &[(5_000, "a\nb"), (9_999, "c"), (1, "\n")],
+        fails_from: u64::MAX,
+        taken: 5,
+        ended: 15_000,
+        is_whole: true,
+        sets: 3,
+    },
+    Spoken {
+        shows: "too long a silence",
+        parts: &[(1, "a\n"), (600_001, "b\n")],
+        fails_from: u64::MAX,
+        taken: 2,
+        ended: 600_001,
+        is_whole: false,
+        sets: 2,
+    },
+    Spoken {
+        shows: "a half line after a silence",
+        parts: &[(1, "a\n"), (500_000, "b"), (10_001, "\n")],
+        fails_from: u64::MAX,
+        taken: 3,
+        ended: 510_001,
+        is_whole: false,
+        sets: 3,
+    },
+    Spoken {
+        shows: "no clock within a line",
+        parts: &[(1, "a"), (3, "b"), (1, "\n")],
+        fails_from: 2,
+        taken: 2,
+        ended: 4,
+        is_whole: false,
+        sets: 2,
+    },
+    Spoken {
+        shows: "no clock where a line begins",
+        parts: &[(3, "a\nb"), (1, "\n")],
+        fails_from: 2,
+        taken: 3,
+        ended: 3,
+        is_whole: false,
+        sets: 1,
+    },
+];
+
+#[test]
+fn slow_speakers(rt: HostRuntime) {
+    for row in &SPOKEN {
+        let hands = Hands::new(row.fails_from);
+        let wire = Wire::new(&hands);
+        let parts = row.parts;
+        let speaker = Speaker {
+            wire: &wire,
+            parts,
+            said: 0,
+        };
+        let mut reader = PacedReader::new(&hands, speaker, pace());
+        assert_eq!(rt; is_read_whole(&mut reader), row.is_whole, "{}", row.shows);
+        assert_eq!(rt; wire.taken.get(), row.taken, "{}", row.shows);
+        assert_eq!(rt; hands.now.get(), row.ended, "{}", row.shows);
+        assert_eq!(rt; wire.sets.get(), row.sets, "{}", row.shows);
+    }
+}
+
+/// Whether the end comes within eight reads, and no fault before.
+fn is_read_whole<S: Read>(reader: &mut S) -> bool {
+    for _ in 0..8 {
+        let mut piece = [0u8; 16];
+        match reader.read(&mut piece) {
+            Ok(0) => return true,
+            Ok(_) => {}
+            Err(_) => return false,
+        }
+    }
+    false
 }
