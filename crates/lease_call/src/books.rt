@@ -15,8 +15,8 @@ use lease_terms::{ClientId, Ordinal, Quantity, Refusal, RequestId};
 
 /// The book of leases as one CPU reaches it, beside its parts. Each call is one event of the book;
 /// where the CPU is to stop it answers Stopped, and nothing is done. What lets a CPU go on, it has
-/// with its parts: each call is passed these, and nothing else of them changes. `D` is the type of
-/// the book's deeds.
+/// with its parts: each call is passed these, and changes no arena, no count and no round of them.
+/// `D` is the type of the book's deeds.
 pub trait Books<S: Held, D, P: Parts<S>> {
     // what is known of a call: the book and the parts before it, the call, its answer, and both
     // after it

@@ -1,5 +1,5 @@
 -- What a line's list of steps comes to, whatever the parts and the book answer under their locks.
-use Rattle.std.proofs.Common.{◌≡◌, ◌≢◌, ◌≤◌, ◌<◌, ◌∙◌, ℕ, zero, suc, List, [], ◌∷◌, Option, Some, None, Result, Ok, Err, IfOk, IfSome, inl, inr, refl, sym, subst, ap, length}
+use Rattle.std.proofs.Common.{◌≡◌, ◌≢◌, ◌≤◌, ◌<◌, ◌∙◌, ℕ, zero, suc, List, [], ◌∷◌, Option, Some, None, Result, Ok, Err, IfOk, IfSome, refl, sym, subst, ap, length}
 use Rattle.std.specs.List.{find}
 use Rattle.std.proofs.lemmas.List.Quantifiers.{position-Some}
 use Rattle.std.specs.Str.{bytes_eq}
@@ -10,11 +10,9 @@ use Rattle.lease_terms.specs.declared.refusals.Refusal.TheVariants.{NoArena, Not
 use Rattle.arena_tree.specs.Chains.{quantum_in}
 use Rattle.arena_tree.specs.Climbs.{ClimbEnd, ReturnEnd}
 use Rattle.arena_tree.specs.Events.{Event, AnswerTo}
-use Rattle.arena_tree.specs.Sound.{Sound}
 use Rattle.arena_tree.specs.Trees.{IsTree, index_in, nodes_of}
 use Rattle.tag_arena.specs.declared.faults.ArenaFault.TheVariants as arena_fault
 use Rattle.arena_tree.specs.declared.part_faults.ClimbFault.TheVariants as climbing
-use Rattle.arena_tree.specs.declared.part_faults.ReturnFault.TheVariants as returning
 use Rattle.arena_tree.specs.declared.part_faults.Stopped.{Stopped}
 use Rattle.arena_tree.specs.declared.trees.TreeArena.{TreeArena}
 use Rattle.lease_book.specs.Account.{is_lease}
@@ -32,14 +30,14 @@ use Rattle.lease_proto.specs.declared.lines.Op.{Op}
 use Rattle.lease_proto.specs.declared.lines.Op.TheVariants as op
 use Rattle.lease_proto.specs.declared.lines.ReleaseLine.{ReleaseLine}
 use Rattle.lease_call.specs.Answered.{EndsWell}
-use Rattle.lease_call.specs.CallPlans.{CallPlan}
+use Rattle.lease_call.specs.CallPlans.{CallPlan, Done}
 use Rattle.lease_call.specs.Calls.{BookCall, AnswerOf, Look, Settle, Refuse, Release, Hello, Sweep}
 use Rattle.lease_call.specs.Greeting.{HelloEnd, on_sweep, sweep_plan, on_hello, greet_plan, hello_plan}
 use Rattle.lease_call.specs.Hands.{on_place, place_first, hand_first}
 use Rattle.lease_proto.specs.Requests.{demand_of}
 use Rattle.lease_call.specs.Leasing.{take_plan, on_settle, on_take, lease_at, on_look}
 use Rattle.lease_call.specs.Placing.{place_plan}
-use Rattle.lease_call.specs.Releasing.{CallEnd, placed, on_refuse, on_release, place_and_tell, release_at}
+use Rattle.lease_call.specs.Releasing.{CallEnd, on_refuse, on_release, release_at}
 use Rattle.lease_call.specs.Requesting.{op_plan, request_plan}
 use Rattle.lease_call.specs.Taking.{IsTakenFor, TakeTold}
 use Rattle.lease_call.specs.declared.call_faults.CallFault.{CallFault}
@@ -52,7 +50,8 @@ use Rattle.lease_call.specs.declared.call_faults.NotSettled.TheVariants as settl
 use Rattle.lease_call.specs.declared.outcomes.Outcome.{Outcome}
 use Rattle.lease_call.specs.declared.outcomes.Outcome.TheVariants.{Settled, Answered}
 use Rattle.lease_call.proofs.LawProofs.{gone_ends, ends_over, ends_gives, take_gives}
-use Rattle.lease_threads.specs.Calling.{IsLockedAnswer, IsOutcomeTo, IsGreetedSo, WentThrough, end_receipt}
+use Rattle.locked_parts.specs.Answers.{AnswersSoundly}
+use Rattle.lease_threads.specs.Calling.{IsLockedCall, IsOutcomeTo, IsGreetedSo, WentThrough, end_receipt}
 use Rattle.lease_threads.specs.Settling.{Settles, SettlesLease, SettlesRelease, MayRefuseLease, MayRefuseRelease, IsGrantReceipt, IsRefusalReceipt}
 use Rattle.lease_threads.proofs.Receipts.{answered, answered_new, refused, refused_so, granted, granted_so, released, late}
 
@@ -69,10 +68,10 @@ settled_so arenas id o (Err f) (Some v) is some same = absurd (let e : None ≡ 
 
 module _ (D : Type 0) (arenas : List TreeArena) where
   abbrev Locked : (k : BookCall) → AnswerOf D k → Type 0
-  Locked = IsLockedAnswer D
+  Locked = IsLockedCall D
 
   abbrev SoundIn : (e : Event) → AnswerTo e → Type 0
-  SoundIn = Sound (nodes_of arenas)
+  SoundIn = AnswersSoundly (nodes_of arenas)
 
   -- a segment that isn't placed ends the line
   place_first_ends : {A : Type 0} (P : A → Type 0) (t : Tag) (rest : CallPlan D (Result A (CallFault Tag))) → EndsWell SoundIn Locked (λ r. IfOk r P) rest → EndsWell SoundIn Locked (λ r. IfOk r P) (place_first arenas t rest)
@@ -80,8 +79,7 @@ module _ (D : Type 0) (arenas : List TreeArena) where
     where
       by : (r : ReturnEnd) → EndsWell SoundIn Locked (λ r. IfOk r P) (on_place rest r)
       by (Ok u) = w
-      by (Err (returning.Stuck x)) = tt
-      by (Err (returning.Stopped x)) = tt
+      by (Err e) = tt
 
   hand_first_ends : {A : Type 0} (P : A → Type 0) (hand : Option Tag) (rest : CallPlan D (Result A (CallFault Tag))) → EndsWell SoundIn Locked (λ r. IfOk r P) rest → EndsWell SoundIn Locked (λ r. IfOk r P) (hand_first arenas hand rest)
   hand_first_ends P None rest w = w
@@ -99,8 +97,7 @@ module _ (D : Type 0) (arenas : List TreeArena) where
 
     greet_ends : (turns : ℕ) (x : Result (Unit {0}) NotGreeted) → Locked (Hello h.client h.incarnation) x → EndsWell SoundIn Locked (λ r. IfOk r (IsGreetedSo h)) (on_hello arenas h.client turns x)
     greet_ends turns (Ok u) k = sweep_ends h.client turns
-    greet_ends turns (Err (greeting.Late f)) (inl s) = absurd s
-    greet_ends turns (Err (greeting.Late f)) (inr k) = late (account_in h.client k.old).incarnation h.incarnation f k.event.0
+    greet_ends turns (Err (greeting.Late f)) k = late (account_in h.client k.old).incarnation h.incarnation f k.event.0
     greet_ends turns (Err greeting.Stopped) k = tt
 
     hello_ends : (hand : Option Tag) (turns : ℕ) → EndsWell SoundIn Locked (λ r. IfOk r (IsGreetedSo h)) (hello_plan arenas hand h turns)
@@ -114,17 +111,11 @@ module _ (D : Type 0) (arenas : List TreeArena) where
     abbrev Well : Op → CallEnd D → Type 0
     Well o r = IfOk r (IsOutcomeTo arenas id o)
 
-    placed_well : (o : Op) (x : Outcome D) → IsOutcomeTo arenas id o x → (r : ReturnEnd) → Well o (placed x r)
-    placed_well o x is (Ok u) = is
-    placed_well o x is (Err (returning.Stuck t)) = tt
-    placed_well o x is (Err (returning.Stopped t)) = tt
-
-    place_ends : (o : Op) (t : Tag) (x : Outcome D) → IsOutcomeTo arenas id o x → EndsWell SoundIn Locked (Well o) (place_and_tell arenas t x)
-    place_ends o t x is = ends_over SoundIn Locked (Well o) (place_plan arenas t) _ (placed_well o x is)
+    place_ends : (o : Op) (t : Tag) (x : Outcome D) → IsOutcomeTo arenas id o x → EndsWell SoundIn Locked (Well o) (place_first arenas t (Done (Ok x)))
+    place_ends o t x is = place_first_ends (IsOutcomeTo arenas id o) t (Done (Ok x)) is
 
     refuse_ends : (o : Op) (why : Refusal) → ((v : ReceiptState) → IsRefusalReceipt why v → Settles arenas o v) → (x : Result (Answer D) Stopped) → Locked (Refuse id why) x → Well o (on_refuse x)
-    refuse_ends o why so (Ok a) (inl s) = absurd s
-    refuse_ends o why so (Ok a) (inr k) = record {
+    refuse_ends o why so (Ok a) k = record {
       of_book = answered k.old id k.mark k.new (IsRefused k.old k.new id why) ⊥ (λ v is. refused k.old id k.mark k.new why v is) a k.event;
       settles = answered_new k.old k.new id (IsRefused k.old k.new id why) ⊥ (Settles arenas o) (λ v is. so v (refused_so k.old k.new id why v is)) a k.event;
     }
@@ -135,13 +126,11 @@ module _ (D : Type 0) (arenas : List TreeArena) where
       release_refused why may v is = subst (SettlesRelease arenas l) (sym is) may
 
       released_ends : (arena : ℕ) → index_in l.arena arenas ≢ None → (x : Result (ReceiptState × Tag) (NotReleased D)) → Locked (Release id arena l.base) x → EndsWell SoundIn Locked (Well (op.Release l)) (on_release arenas x)
-      released_ends arena named (Ok r) (inl s) = absurd s
-      released_ends arena named (Ok r) (inr k) = place_ends (op.Release l) r.1 (Settled r.0) (record {
+      released_ends arena named (Ok r) k = place_ends (op.Release l) r.1 (Settled r.0) (record {
         of_book = released k.old id k.mark k.new arena l.base r.0 r.1 k.event;
         settles = subst (SettlesRelease arenas l) (sym (ap (λ (v : ReceiptState). v.reply) k.event.receipt)) named;
       })
-      released_ends arena named (Err (releasing.Answered a)) (inl s) = absurd s
-      released_ends arena named (Err (releasing.Answered a)) (inr k) = record {
+      released_ends arena named (Err (releasing.Answered a)) k = record {
         of_book = answered k.old id k.mark k.new (λ v. IsRefused k.old k.new id NotYours v × (find (is_lease id.incarnation arena l.base) (account_in id.client k.old).leases ≡ None)) ⊥ (λ v is. refused k.old id k.mark k.new NotYours v is.0) a k.event;
         settles = answered_new k.old k.new id (λ v. IsRefused k.old k.new id NotYours v × (find (is_lease id.incarnation arena l.base) (account_in id.client k.old).leases ≡ None)) ⊥ (Settles arenas (op.Release l)) (λ v is. release_refused NotYours named v (refused_so k.old k.new id NotYours v is.0)) a k.event;
       }
@@ -157,8 +146,7 @@ module _ (D : Type 0) (arenas : List TreeArena) where
 
       looked_ends : (new : CallPlan D (CallEnd D)) → EndsWell SoundIn Locked (Well (op.Lease l)) new → (x : Result (Option (Answer D)) Stopped) → Locked (Look id) x → EndsWell SoundIn Locked (Well (op.Lease l)) (on_look new x)
       looked_ends new w (Ok None) k = w
-      looked_ends new w (Ok (Some a)) (inl s) = absurd s
-      looked_ends new w (Ok (Some a)) (inr k) = record {
+      looked_ends new w (Ok (Some a)) k = record {
         of_book = answered k.old id k.mark k.new (λ _. ⊥) ⊥ (λ v no. absurd no) a k.event;
         settles = answered_new k.old k.new id (λ _. ⊥) ⊥ (Settles arenas (op.Lease l)) (λ v no. absurd no) a k.event;
       }
@@ -174,13 +162,11 @@ module _ (D : Type 0) (arenas : List TreeArena) where
             (subst (λ (n : ℕ). (index_in l.arena arenas ≡ Some n) × (v.terms ≡ Some (record { quantum = quantum_in (nodes_of arenas) n; request = demand_of l }))) (sym of) (at, is.on_terms))
 
         settled_ends : (t : Tag) → IsTakenFor (nodes_of arenas) arena (demand_of l) t → (x : Result ReceiptState (NotSettled Tag D)) → Locked (Settle id t terms) x → EndsWell SoundIn Locked (Well (op.Lease l)) (on_settle arenas x)
-        settled_ends t taken (Ok v) (inl s) = absurd s
-        settled_ends t taken (Ok v) (inr k) = record {
+        settled_ends t taken (Ok v) k = record {
           of_book = granted k.old id k.mark k.new t terms v taken.fits k.event;
           settles = lease_granted t v taken.of_arena (granted_so k.old k.new id t terms v k.event);
         }
-        settled_ends t taken (Err (settling.NotLeased n)) (inl s) = absurd s
-        settled_ends t taken (Err (settling.NotLeased n)) (inr k) = place_ends (op.Lease l) n.segment (Answered n.answer) (record {
+        settled_ends t taken (Err (settling.NotLeased n)) k = place_ends (op.Lease l) n.segment (Answered n.answer) (record {
           of_book = answered k.old id k.mark k.new (λ v. IsRefused k.old k.new id Leases v × (MOST_LEASES ≤ length (account_in id.client k.old).leases)) (IsNew (account_in id.client k.old) id × (length (account_in id.client k.old).leases < MOST_LEASES)) (λ v is. refused k.old id k.mark k.new Leases v is.0) n.answer k.event.1;
           settles = answered_new k.old k.new id (λ v. IsRefused k.old k.new id Leases v × (MOST_LEASES ≤ length (account_in id.client k.old).leases)) (IsNew (account_in id.client k.old) id × (length (account_in id.client k.old).leases < MOST_LEASES)) (Settles arenas (op.Lease l)) (λ v is. lease_refused Leases (arena, at, taken.good) v (refused_so k.old k.new id Leases v is.0)) n.answer k.event.1;
         })
@@ -197,7 +183,7 @@ module _ (D : Type 0) (arenas : List TreeArena) where
       lease_ends : IsTree arenas → (o : Option ℕ) → index_in l.arena arenas ≡ o → EndsWell SoundIn Locked (Well (op.Lease l)) (lease_at arenas id (demand_of l) o)
       lease_ends tree None at = refuse_ends (op.Lease l) NoArena (lease_refused NoArena at)
       lease_ends tree (Some arena) at =
-          ends_gives (nodes_of arenas) (TakeTold (nodes_of arenas) arena (demand_of l)) Locked (Well (op.Lease l)) (take_plan arenas arena (demand_of l)) (on_take arenas id arena (demand_of l)) (take_gives arenas arena (demand_of l) tree (named_within arenas l.arena arena at)) (taken_ends arena at)
+          ends_gives (nodes_of arenas) SoundIn (λ e x s. s.0) (TakeTold (nodes_of arenas) arena (demand_of l)) Locked (Well (op.Lease l)) (take_plan arenas arena (demand_of l)) (on_take arenas id arena (demand_of l)) (take_gives arenas arena (demand_of l) tree (named_within arenas l.arena arena at)) (taken_ends arena at)
 
     op_ends : IsTree arenas → (o : Op) → EndsWell SoundIn Locked (Well o) (op_plan arenas id o)
     op_ends tree (op.Lease l) = looked_ends l (lease_at arenas id (demand_of l) (index_in l.arena arenas)) (lease_ends l tree (index_in l.arena arenas) refl)

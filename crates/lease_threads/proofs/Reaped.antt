@@ -1,5 +1,5 @@
 -- What a reaping that was gone through comes to.
-use Rattle.std.proofs.Common.{◌≡◌, ◌∙◌, ℕ, Bool, true, false, List, Option, Some, inl, inr, refl, sym, subst}
+use Rattle.std.proofs.Common.{◌≡◌, ◌∙◌, ℕ, Bool, true, false, List, Option, Some, inl, inr, sym, subst}
 use Rattle.deed_core.specs.Tag.{Tag}
 use Rattle.arena_tree.specs.Chains.{Node}
 use Rattle.arena_tree.specs.declared.levels.Level.{Level}
@@ -13,10 +13,7 @@ use Rattle.locked_parts.specs.Gates.{NotesStops}
 use Rattle.locked_parts.specs.declared.gates.NextStep.{NextStep}
 use Rattle.quantum_cache.specs.Reaps.{ReapEnd, reap_arena_plan}
 use Rattle.lease_threads.specs.Reaping.{EndsSoundly, HasReaped, ReapsSoundly}
-
-not_true : (b : Bool) → (b ≡ true → ⊥) → b ≡ false
-not_true true never = absurd (never refl)
-not_true false never = refl
+use Rattle.lease_threads.proofs.Runs.{not_true}
 
 -- where no Stop was noted and the gate never says one, none comes, and none is noted
 pub never_stops : {X : Type 0} (may : X → NextStep → Type 0) (old new : X) (noted now stopped : Bool) → ((x : X) (n : NextStep) → may x n → ⊥)

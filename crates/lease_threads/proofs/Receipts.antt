@@ -14,10 +14,11 @@ use Rattle.lease_book.specs.declared.answers.Answer.TheVariants as answer
 use Rattle.lease_book.specs.declared.answers.HelloFault.{HelloFault}
 use Rattle.lease_book.specs.declared.answers.HelloFault.TheVariants as fault
 use Rattle.lease_book.specs.declared.receipts.Terms.{Terms}
-use Rattle.lease_threads.specs.Replying.{mark_root, IsReceiptOf, IsBookAnswerTo, IsLateHello}
+use Rattle.arena_tree.specs.declared.limits.TheConstants.{MOST_ROOTS}
+use Rattle.lease_threads.specs.Replying.{IsReceiptOf, IsBookAnswerTo, IsLateHello}
 use Rattle.lease_threads.specs.Settling.{new_receipt, IsRefusalReceipt, IsGrantReceipt}
 
-module _ (book : BookState) (id : RequestId) (mark : book.mark.root ≡ mark_root) where
+module _ (book : BookState) (id : RequestId) (mark : book.mark.root ≡ MOST_ROOTS) where
   pub repeated : (v : ReceiptState) → IsRepeated book (account_in id.client book) id v → IsReceiptOf id v
   repeated v is = record { book = is.of_book ∙ mark; request = is.request; earned = is.earned }
 

@@ -1,14 +1,14 @@
 -- What a line's list of steps comes to in a running system.
-use Rattle.std.specs.Prelude.{◌≡◌, ◌⊎◌, ◌+◌, List, Option, Some, None, Ok, Err, IfSome}
+use Rattle.std.specs.Prelude.{◌≡◌, ◌⊎◌, ◌+◌, Bool, true, List, Option, Some, None, Ok, Err, IfSome}
 use Rattle.deed_core.specs.Tag.{Tag}
 use Rattle.lease_terms.specs.Requests.{RequestId}
-use Rattle.arena_tree.specs.Sound.{Sound}
 use Rattle.arena_tree.specs.Trees.{nodes_of}
+use Rattle.arena_tree.specs.declared.limits.TheConstants.{MOST_ROOTS}
 use Rattle.arena_tree.specs.declared.trees.TreeArena.{TreeArena}
 use Rattle.lease_book.specs.BookState.{BookState}
 use Rattle.lease_book.specs.Receipts.{ReceiptState}
-use Rattle.lease_book.specs.declared.answers.HelloFault.TheVariants as fault
 use Rattle.lease_book.specs.declared.books.TheConstants.{MOST_LEASES}
+use Rattle.lease_proto.specs.Requests.{again_of, hello_again_of}
 use Rattle.lease_proto.specs.declared.lines.HelloLine.{HelloLine}
 use Rattle.lease_proto.specs.declared.lines.Line.{Line}
 use Rattle.lease_proto.specs.declared.lines.Line.TheVariants as lines
@@ -26,20 +26,22 @@ use Rattle.lease_call.specs.declared.outcomes.Greeting.{Greeting}
 use Rattle.lease_call.specs.declared.outcomes.Greeting.TheVariants.{Welcome, Late, Unswept}
 use Rattle.lease_call.specs.declared.outcomes.Outcome.{Outcome}
 use Rattle.lease_call.specs.declared.outcomes.Outcome.TheVariants.{Settled, Answered, Again}
-use Rattle.lease_threads.specs.Replying.{mark_root, again_of, IsReceiptOf, IsBookAnswerTo}
-use Rattle.lease_threads.specs.Replying.{IsToldAs, TellsAnswer, IsLateHello, late_reply}
+use Rattle.lease_history.specs.Told.{hello_refusal}
+use Rattle.locked_parts.specs.Answers.{AnswersSoundly}
+use Rattle.lease_threads.specs.Replying.{IsReceiptOf, IsBookAnswerTo, IsToldAs, TellsAnswer}
+use Rattle.lease_threads.specs.Replying.{IsLateHello}
 use Rattle.lease_threads.specs.Settling.{Settles, new_receipt}
 
 -- the call was an event of a book whose mark is of the system's root
 pub record IsLockedCall (D : Type 0) (k : BookCall) (a : AnswerOf D k) : Type 0 where
   pub old : BookState
   pub new : BookState
-  pub mark : old.mark.root ≡ mark_root
+  pub mark : old.mark.root ≡ MOST_ROOTS
   pub event : BookEvent D old k a new
 
--- or nothing was done
-abbrev pub IsLockedAnswer : (D : Type 0) → (k : BookCall) → AnswerOf D k → Type 0
-IsLockedAnswer D k a = StoppedCall D k a ⊎ IsLockedCall D k a
+-- or nothing was done, and that a Stop was said is noted
+abbrev pub IsLockedAnswer : (D : Type 0) → (k : BookCall) → AnswerOf D k → Bool → Type 0
+IsLockedAnswer D k a noted = (StoppedCall D k a × (noted ≡ true)) ⊎ IsLockedCall D k a
 
 -- what the request comes to is the book's
 abbrev pub IsOutcomeOf : {D : Type 0} → RequestId → Outcome D → Type 0
@@ -77,10 +79,10 @@ TellsEnd arenas id (Ok o) r w = TellsOutcome arenas id o r w
 TellsEnd arenas id (Err e) r w = (r ≡ again_of id) × (w ≡ None)
 
 -- the list of steps was gone through, each event of a part answered soundly, each call of the book
--- as that was found under its lock
+-- as that was found under its lock, and none of them by a Stop
 abbrev pub WentThrough : {D A : Type 0} → List TreeArena → CallPlan D A → A → Type 0
 WentThrough {D = D} arenas plan a =
-    GoneThrough (Sound (nodes_of arenas)) (IsLockedAnswer D) plan a
+    GoneThrough (AnswersSoundly (nodes_of arenas)) (IsLockedCall D) plan a
 
 -- the list of steps was gone through, and the line is answered by what it ended with
 pub record AnswersBy {D : Type 0} (arenas : List TreeArena) (id : RequestId)
@@ -99,12 +101,12 @@ IsGreetedSo h Unswept = Unit {0}
 abbrev pub greeting_of : HelloLine → Greeting → Reply
 greeting_of h Welcome =
     reply.Welcome (record { client = h.client; incarnation = h.incarnation })
-greeting_of h (Late f) = late_reply h f
-greeting_of h Unswept = late_reply h fault.NoMemory
+greeting_of h (Late f) = hello_refusal h f
+greeting_of h Unswept = hello_again_of h
 
 abbrev pub greeting_end : HelloLine → HelloEnd → Reply
 greeting_end h (Ok g) = greeting_of h g
-greeting_end h (Err e) = late_reply h fault.NoMemory
+greeting_end h (Err e) = hello_again_of h
 
 -- the hello's list of steps was gone through, with a sweep for each lease that a client may have
 -- and one more, and it is answered by what that ended with

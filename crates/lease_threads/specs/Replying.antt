@@ -1,8 +1,8 @@
 -- What a line may be answered, as far as can be told where nothing is known of the book.
-use Rattle.std.specs.Prelude.{◌≡◌, ◌≢◌, ℕ, ◌+◌, ◌*◌, ◌<◌, List, Option, Some, None}
+use Rattle.std.specs.Prelude.{◌≡◌, ◌≢◌, ℕ, ◌+◌, ◌<◌, List, Option, Some, None}
 use Rattle.std.specs.Prelude.{length, slice_get}
 use Rattle.lease_terms.specs.Requests.{RequestId}
-use Rattle.arena_tree.specs.declared.limits.TheConstants.{MOST_ARENAS, MOST_SPANS}
+use Rattle.arena_tree.specs.declared.limits.TheConstants.{MOST_ROOTS}
 use Rattle.arena_tree.specs.declared.trees.TreeArena.{TreeArena}
 use Rattle.arena_tree.specs.Chains.{quantum_in}
 use Rattle.arena_tree.specs.Trees.{nodes_of}
@@ -14,24 +14,16 @@ use Rattle.lease_book.specs.declared.answers.HelloFault.TheVariants as fault
 use Rattle.lease_book.specs.declared.receipts.KeptReply.{KeptReply}
 use Rattle.lease_book.specs.declared.receipts.KeptReply.TheVariants as kept
 use Rattle.lease_book.specs.declared.receipts.Terms.{Terms}
+use Rattle.lease_proto.specs.Requests.{again_of}
 use Rattle.lease_proto.specs.declared.lines.Line.{Line}
 use Rattle.lease_proto.specs.declared.lines.Line.TheVariants as lines
 use Rattle.lease_proto.specs.declared.lines.HelloLine.{HelloLine}
 use Rattle.lease_proto.specs.declared.replies.Reply.{Reply}
 use Rattle.lease_proto.specs.declared.replies.Reply.TheVariants as reply
 
--- nothing came of the request
-abbrev pub again_of : RequestId → Reply
-again_of id = reply.Again
-    (record { client = id.client; incarnation = id.incarnation; number = id.number })
-
--- the root of the mark of a system's book: the one after those of all arenas
-abbrev pub mark_root : ℕ
-mark_root = MOST_ARENAS * MOST_SPANS
-
 -- a receipt of the system's book for this request: a grant meets the request that it was made for
 pub record IsReceiptOf (id : RequestId) (v : ReceiptState) : Type 0 where
-  pub book : v.book ≡ mark_root
+  pub book : v.book ≡ MOST_ROOTS
   pub request : v.id ≡ id
   pub earned : IsEarned v.reply v.terms
 
@@ -120,12 +112,6 @@ IsGreeting h (reply.Old o) = (o.client ≡ h.client) × (h.incarnation < o.curre
 IsGreeting h (reply.Again a) =
     (a.client ≡ h.client) × (a.incarnation ≡ h.incarnation) × (a.number ≡ 0)
 IsGreeting h _ = ⊥
-
--- the reply to a hello that isn't taken
-abbrev pub late_reply : HelloLine → HelloFault → Reply
-late_reply h (fault.Old current) = reply.Old (record { client = h.client; current = current })
-late_reply h fault.NoMemory =
-    reply.Again (record { client = h.client; incarnation = h.incarnation; number = 0 })
 
 -- what a line is answered, with a receipt just where something was settled
 abbrev pub IsAnswerTo : List TreeArena → Line → Reply → Option ReceiptState → Type 0

@@ -35,7 +35,7 @@ pub(crate) fn close_roots<N: Name, R: Wait>(
     true
 }
 
-// The same of the first root that isn't closed.
+/// The same of the first root that isn't closed.
 fn close_first<N: Name, R: Wait>(
     rt: &R,
     closed: &mut Vec<Range>,
@@ -66,7 +66,7 @@ fn close_first<N: Name, R: Wait>(
     }
 }
 
-// Takes the span of the root out of its arena, and closes the root by its deed.
+/// Takes the span of the root out of its arena, and closes the root by its deed.
 fn close_root<N: Name, R: Wait>(
     rt: &R,
     parts: &LockedParts<N>,

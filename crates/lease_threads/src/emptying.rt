@@ -6,7 +6,6 @@ use crate::cpus::Cpu;
 use crate::systems::System;
 use deed_core::Segment;
 use deed_table::{Name, SeatDeed};
-use locked_parts::{OpenGate, StepCount};
 use std::sync::Wait;
 
 impl<N: Name> System<N> {
@@ -18,11 +17,11 @@ impl<N: Name> System<N> {
         self.end_leases(rt, cpu) && self.reap_all(rt, cpu)
     }
 
-    // Ends all leases, one after another, and says whether each was placed.
+    /// Ends all leases, one after another, and says whether each was placed.
     fn end_leases<R: Wait>(&self, rt: &R, cpu: &mut Cpu<N>) -> bool
         ensures { result ≡ true → cpu.new.hand ≡ None }
     {
-        if !self.settle_hand(rt, cpu) {
+        if !self.place_hand(rt, cpu) {
             return false;
         }
         for _ in rt.forever() {
@@ -30,29 +29,20 @@ impl<N: Name> System<N> {
                 break;
             };
             cpu.hold(segment);
-            if !self.settle_hand(rt, cpu) {
+            if !self.place_hand(rt, cpu) {
                 return false;
             }
         }
         true
     }
 
+    /// Ends a lease, whichever, in the book.
     fn take_lease<R: Wait>(&self, rt: &R) -> Option<Segment<SeatDeed<N>>> {
         self.book.lock(rt).take_lease()
     }
 
-    // Places the hand, and says whether it is empty then.
-    fn settle_hand<R: Wait>(&self, rt: &R, cpu: &mut Cpu<N>) -> bool
-        ensures { result ≡ true → cpu.new.hand ≡ None }
-    {
-        let mut steps = StepCount::new(cpu.number());
-        match self.place_hand(rt, cpu, &OpenGate, &mut steps) {
-            Ok(placed) => placed,
-            Err(_) => false,
-        }
-    }
-
-    // Empties all depots and slabs, the last arena first, and says whether each segment was placed.
+    /// Empties all depots and slabs, the last arena first, and says whether each segment was
+    /// placed.
     fn reap_all<R: Wait>(&self, rt: &R, cpu: &mut Cpu<N>) -> bool
         requires { cpu.old.hand ≡ None }
         ensures { result ≡ true → cpu.new.hand ≡ None }

@@ -8,9 +8,8 @@ ghost use Rattle.lease_call.specs.BookEvents.{BookEvent};
 ghost use Rattle.lease_call.specs.Calls.{Look, Settle, Refuse, Release, Hello, Sweep};
 ghost use Rattle.lease_book.specs.Calls.{IsSystemRefusal};
 ghost use Rattle.lease_terms.specs.Requests.{RequestId};
-ghost use Rattle.lease_threads.specs.Replying.{mark_root};
+ghost use Rattle.arena_tree.specs.declared.limits.TheConstants.{MOST_ROOTS};
 
-use arena_tree::{MOST_ARENAS, MOST_SPANS};
 use deed_core::{Request, Segment};
 use deed_table::{Name, Root, SeatDeed, close};
 use lease_book::{Answer, Book, Receipt};
@@ -18,11 +17,8 @@ use lease_call::{NotGreeted, NotReleased, NotSettled};
 use lease_terms::{ClientId, Ordinal, Quantity, Refusal, RequestId};
 use std::marker::Model;
 
-/// The number of the root of the book's mark: the one after those of all arenas.
-pub(crate) const MARK: u32 = (MOST_ARENAS * MOST_SPANS) as u32;
-
-/// The book, with the root of its mark, which has that number. Its calls alone reach the book: what
-/// it finds itself, as that a lease isn't the client's, no other code can settle.
+/// The book, with the root of its mark: the one after those of all arenas. Its calls alone reach
+/// the book: what it finds itself, as that a lease isn't the client's, no other code can settle.
 pub(crate) struct MarkedBook<N: Name> {
     book: Book<SeatDeed<N>>,
     mark: Root<N>,
@@ -31,19 +27,19 @@ pub(crate) struct MarkedBook<N: Name> {
 impl<N: Name> Model for MarkedBook<N> {
     ghost use Rattle.std.specs.Prelude.{◌≡◌};
     ghost use Rattle.lease_book.specs.BookState.{BookState};
-    ghost use Rattle.lease_threads.specs.Replying.{mark_root};
+    ghost use Rattle.arena_tree.specs.declared.limits.TheConstants.{MOST_ROOTS};
 
     ghost Value = { BookState };
 
     ghost view = { λ b. b.book };
 
-    ghost invariant = { λ b. (b.book.mark ≡ b.mark) × (b.mark.root ≡ mark_root) };
+    ghost invariant = { λ b. (b.book.mark ≡ b.mark) × (b.mark.root ≡ MOST_ROOTS) };
 }
 
 impl<N: Name> MarkedBook<N> {
     /// The book with this mark, and the root of that.
     pub(crate) fn new(book: Book<SeatDeed<N>>, mark: Root<N>) -> MarkedBook<N>
-        requires { (book.mark ≡ mark) × (mark.root ≡ mark_root) }
+        requires { (book.mark ≡ mark) × (mark.root ≡ MOST_ROOTS) }
         ensures { result ≡ book }
     {
         MarkedBook { book, mark }
@@ -63,7 +59,7 @@ impl<N: Name> MarkedBook<N> {
 
     /// Its mark is of the root of a book's mark.
     pub(crate) fn check(&self)
-        ensures { self.now.mark.root ≡ mark_root }
+        ensures { self.now.mark.root ≡ MOST_ROOTS }
     {
         // For its clause: the mark is the book's.
         let _ = self.mark.number();

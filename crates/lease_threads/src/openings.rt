@@ -4,14 +4,14 @@ ghost use Rattle.std.specs.Prelude.{IsTrue, IfOk, IfErr, OnOk};
 ghost use Rattle.std.specs.Option.{option_map, option_to_list};
 ghost use Rattle.std.specs.Prelude.{vec_len, vec_capacity};
 ghost use Rattle.arena_tree.specs.declared.limits.TheConstants.{MOST_ARENAS, MOST_SPANS};
+ghost use Rattle.arena_tree.specs.declared.limits.TheConstants.{MOST_ROOTS};
 ghost use Rattle.lease_threads.specs.Openings.{OneSpanEach, IsSystemOf, RefusesSystem, root_of};
 ghost use Rattle.lease_threads.specs.Openings.{roots_of, new_root, AreFrom};
 ghost use Rattle.locked_parts.specs.News.{AreMadeAsSet};
-ghost use Rattle.lease_threads.specs.Replying.{mark_root};
 
-use crate::marked_books::{MARK, MarkedBook};
+use crate::marked_books::MarkedBook;
 use crate::systems::System;
-use arena_tree::{OwnedSpan, Setup, Tree};
+use arena_tree::{MOST_ROOTS, OwnedSpan, Setup, Tree};
 use deed_core::Range;
 use deed_table::{Ground, Name, Opener, Root};
 use lease_book::Book;
@@ -52,15 +52,15 @@ impl<N: Name> System<N> {
     }
 }
 
-// Whether the spans stand in order of their arenas, one each.
+/// Whether the spans stand in order of their arenas, one each.
 fn are_one_each(spans: &[OwnedSpan]) -> bool
     ensures { IsTrue result ↔ OneSpanEach spans.now }
 {
     spans.is_sorted_by(|a, b| a.arena < b.arena)
 }
 
-// The next span, where the arena owns it; the index is then on the one after it. No span before the
-// index is of this arena or of a later one.
+/// The next span, where the arena owns it; the index is then on the one after it. No span before
+/// the index is of this arena or of a later one.
 fn next_span(spans: &[OwnedSpan], index: &mut usize, arena: u32) -> Option<Range>
     requires one { OneSpanEach spans.now }
     requires within { index.old ≤ length spans.now }
@@ -79,19 +79,19 @@ fn next_span(spans: &[OwnedSpan], index: &mut usize, arena: u32) -> Option<Range
     Some(span.range)
 }
 
-// Opens the arenas, each with the span that it owns, and the book.
+/// Opens the arenas, each with the span that it owns, and the book.
 fn open_all<N: Name>(
     alloc: Global,
     setup: &Setup,
     mut rest: Opener<N>,
 ) -> Result<(Vec<NewArena<N>>, MarkedBook<N>), AllocError>
     requires one { OneSpanEach setup.now.spans }
-    requires all { (rest.first ≡ 0) × (mark_root < rest.left) }
+    requires all { (rest.first ≡ 0) × (MOST_ROOTS < rest.left) }
     ensures count { IfOk result (λ r. vec_len r.0 ≡ length setup.now.arenas) }
     ensures set_up { IfOk result (λ r. AreMadeAsSet setup.now.arenas r.0.items) }
     ensures roots { IfOk result (λ r. roots_of r.0.items ≡ map root_of setup.now.spans) }
 {
-    let mut numbers = rest.share(u64::from(MARK))?;
+    let mut numbers = rest.share(u64::from(MOST_ROOTS))?;
     let mut made = Vec::with_capacity(alloc, setup.tree().len())?;
     if open_each(alloc, setup, &mut numbers, &mut made).is_err() {
         end_all(made);
@@ -106,7 +106,7 @@ fn open_all<N: Name>(
     }
 }
 
-// Opens each arena. The spans stand in order of their arenas.
+/// Opens each arena. The spans stand in order of their arenas.
 fn open_each<N: Name>(
     alloc: Global,
     setup: &Setup,
@@ -130,7 +130,7 @@ fn open_each<N: Name>(
     Ok(())
 }
 
-// Ends what was opened.
+/// Ends what was opened.
 fn end_all<N: Name>(mut made: Vec<NewArena<N>>) {
     while let Some(arena) = made.pop() {
         arena.end();
@@ -138,15 +138,15 @@ fn end_all<N: Name>(mut made: Vec<NewArena<N>>) {
     made.destroy_empty();
 }
 
-// The book, with a mark of its own.
+/// The book, with a mark of its own.
 fn open_book<N: Name>(alloc: Global, rest: &mut Opener<N>) -> Result<MarkedBook<N>, AllocError>
-    requires { (rest.old.first ≡ mark_root) × (0 < rest.old.left) }
+    requires { (rest.old.first ≡ MOST_ROOTS) × (0 < rest.old.left) }
 {
     let (mark, deed) = rest.open_root(Range::new(0, 1).unwrap())?;
     Ok(MarkedBook::new(Book::new(alloc, deed), mark))
 }
 
-// Room for so many arenas of a system and for a root of each.
+/// Room for so many arenas of a system and for a root of each.
 struct Room<N: Name> {
     count: usize,
     arenas: Vec<LockedArena<N>>,
@@ -165,6 +165,7 @@ impl<N: Name> Model for Room<N> {
 }
 
 impl<N: Name> Room<N> {
+    /// Room for so many arenas.
     fn new(alloc: Global, count: usize) -> Result<Room<N>, AllocError>
         ensures { IfOk result (λ room. room ≡ count) }
     {
@@ -180,7 +181,7 @@ impl<N: Name> Room<N> {
         })
     }
 
-    // The system of these arenas, each of which is as the tree has it, with this book.
+    /// The system of these arenas, each of which is as the tree has it, with this book.
     fn fill(
         self,
         alloc: Global,
@@ -206,6 +207,7 @@ impl<N: Name> Room<N> {
         }
     }
 
+    /// Lets the room go.
     fn end(self) {
         let Room {
             count: _,
@@ -217,7 +219,7 @@ impl<N: Name> Room<N> {
     }
 }
 
-// Puts each arena under its lock, and its root beside it.
+/// Puts each arena under its lock, and its root beside it.
 fn lock_all<N: Name>(
     mut made: Vec<NewArena<N>>,
     arenas: &mut Vec<LockedArena<N>>,
@@ -235,7 +237,7 @@ fn lock_all<N: Name>(
     made.destroy_empty();
 }
 
-// Adds the root, if there is one.
+/// Adds the root, if there is one.
 fn push_root<N: Name>(roots: &mut Vec<Root<N>>, root: Option<Root<N>>)
     requires { vec_len roots.old < vec_capacity roots.old }
     ensures roots { roots.new.items ≡ roots.old.items ++ option_to_list root }

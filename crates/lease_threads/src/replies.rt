@@ -2,7 +2,9 @@
 ghost use Rattle.std.specs.Prelude.{◌≡◌, ◌≢◌, None, Some, IfNone, IfSome, true, false};
 ghost use Rattle.lease_book.specs.Receipts.{IsEarned};
 ghost use Rattle.lease_threads.specs.Replying.{TellsSettled, IsUnsettledTo, IsReplyTo, IsToldAs};
-ghost use Rattle.lease_threads.specs.Replying.{TellsAnswer, IsForeign, again_of, late_reply};
+ghost use Rattle.lease_threads.specs.Replying.{TellsAnswer, IsForeign};
+ghost use Rattle.lease_proto.specs.Requests.{again_of};
+ghost use Rattle.lease_history.specs.Told.{hello_refusal};
 ghost use Rattle.lease_threads.specs.Replying.{IsByQuantum, IsLateHello};
 ghost use Rattle.lease_threads.specs.Replying.{IsReceiptOf, IsBookAnswerTo, IsGreeting, IsAgain};
 ghost use Rattle.lease_threads.specs.Settling.{new_receipt};
@@ -13,9 +15,8 @@ use arena_tree::Tree;
 use deed_table::{Name, SeatDeed};
 use lease_book::{Answer, HelloFault, KeptReply, Receipt, Terms};
 use lease_call::{Greeting, Outcome};
-use lease_proto::{Again, Granted, HelloLine, Old, OutOfTurn, RefusedRequest, Reply, Welcome};
-use lease_terms::{Quantity, RequestId};
-use locked_parts::quantum_of;
+use lease_proto::{Granted, HelloLine, Old, OutOfTurn, RefusedRequest, Reply, Welcome};
+use lease_terms::RequestId;
 
 /// What a line is answered, with the book's receipt where it is settled.
 #[derive(Clone, Copy, PartialEq, Eq, Debug)]
@@ -30,32 +31,6 @@ pub struct LineAnswer<V> {
 /// What a line is answered, with a receipt of a running system's book.
 pub type Told<N> = LineAnswer<Receipt<SeatDeed<N>>>;
 
-/// Nothing came of the request.
-pub(crate) fn again_to(id: RequestId) -> Reply
-    ensures unsettled { IsUnsettledTo id result }
-    ensures again { IsAgain result }
-    ensures exactly { result ≡ again_of id }
-{
-    Reply::Again(Again {
-        client: id.client,
-        incarnation: id.incarnation,
-        number: id.number.quantity(),
-    })
-}
-
-/// The hello may be sent once more.
-pub(crate) fn hello_again(hello: &HelloLine) -> Reply
-    ensures greeting { IsGreeting hello.now result }
-    ensures again { IsAgain result }
-    ensures exactly { result ≡ late_reply hello.now HelloFault.NoMemory }
-{
-    Reply::Again(Again {
-        client: hello.client,
-        incarnation: hello.incarnation,
-        number: Quantity::ZERO,
-    })
-}
-
 /// The reply to what a hello comes to.
 pub(crate) fn greeted(hello: &HelloLine, greeting: Greeting) -> Reply
     requires { IsGreetedSo hello.now greeting }
@@ -68,7 +43,7 @@ pub(crate) fn greeted(hello: &HelloLine, greeting: Greeting) -> Reply
             incarnation: hello.incarnation,
         }),
         Greeting::Late(fault) => not_welcome(hello, fault),
-        Greeting::Unswept => hello_again(hello),
+        Greeting::Unswept => Reply::hello_again(hello),
     }
 }
 
@@ -76,14 +51,14 @@ pub(crate) fn greeted(hello: &HelloLine, greeting: Greeting) -> Reply
 fn not_welcome(hello: &HelloLine, fault: HelloFault) -> Reply
     requires { IsLateHello hello.now.incarnation fault }
     ensures greeting { IsGreeting hello.now result }
-    ensures exactly { result ≡ late_reply hello.now fault }
+    ensures exactly { result ≡ hello_refusal hello.now fault }
 {
     match fault {
         HelloFault::Old(current) => Reply::Old(Old {
             client: hello.client,
             current,
         }),
-        HelloFault::NoMemory => hello_again(hello),
+        HelloFault::NoMemory => Reply::hello_again(hello),
     }
 }
 
@@ -96,7 +71,7 @@ fn settled(tree: &Tree, id: RequestId, kept: KeptReply, terms: Option<Terms>) ->
 {
     match kept {
         KeptReply::Granted { arena, base, len } => {
-            if arena as usize >= tree.len() || terms_quantum(terms) != quantum_of(tree, arena) {
+            if arena as usize >= tree.len() || terms_quantum(terms) != tree.quantum(arena) {
                 return None;
             }
             let arena = tree.arena(arena).name;
@@ -143,7 +118,7 @@ pub(crate) fn again<N: Name>(id: RequestId) -> Told<N>
     ensures exactly { result.reply ≡ again_of id }
     ensures old { result.is_new ≡ false }
 {
-    unsettled(again_to(id))
+    unsettled(Reply::again(id))
 }
 
 /// The reply of a receipt, by which the request was settled now, or before.

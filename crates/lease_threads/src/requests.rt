@@ -1,5 +1,6 @@
 //! Answering one line: its list of steps is gone through, and what that comes to is told.
-ghost use Rattle.std.specs.Prelude.{◌≡◌, ◌≢◌, ◌+◌, None, Some, true, IfOk, IfSome, OnErr};
+ghost use Rattle.std.specs.Prelude.{◌≡◌, ◌≢◌, ◌+◌, None, Some, true, IfOk, IfSome};
+ghost use Rattle.std.specs.Prelude.{OnOk, OnErr};
 ghost use Rattle.deed_table.specs.declared.deeds.SeatDeed.{SeatDeed};
 ghost use Rattle.lease_call.specs.Greeting.{hello_plan};
 ghost use Rattle.lease_call.specs.Requesting.{request_plan};
@@ -14,7 +15,7 @@ ghost use Rattle.lease_threads.specs.Settling.{IsSettledAsAsked, Settles};
 ghost use Rattle.lease_book.specs.Receipts.{ReceiptState};
 
 use crate::cpus::Cpu;
-use crate::replies::{Told, again, greeted, hello_again, told_outcome, unsettled};
+use crate::replies::{Told, again, greeted, told_outcome, unsettled};
 use crate::shared_books::SharedBook;
 use crate::systems::System;
 use arena_tree::Tree;
@@ -24,7 +25,7 @@ use lease_book::{MOST_LEASES, Receipt};
 use lease_call::{CallFault, Greeting, Outcome};
 use lease_proto::{HelloLine, Line, Op, Reply};
 use lease_terms::RequestId;
-use locked_parts::{Gate, RequestStopped, Running, StepCount};
+use locked_parts::{Gate, RequestStopped, Running};
 use std::sync::Wait;
 
 /// What the list of steps of a line ended with.
@@ -96,9 +97,8 @@ impl<N: Name> System<N> {
         ensures held { IfOk result (λ r. IfSome cpu.new.hand (λ _. IsAgain r)) }
         ensures stopped { OnErr result (MayStop G.may_stop gate.now) }
     {
-        let mut steps = StepCount::new(cpu.number());
-        let ended = self.run_hello(rt, cpu, gate, &mut steps, hello);
-        tell_hello(cpu, &steps, hello, ended)
+        let ended = self.run_hello(rt, cpu, gate, hello)?;
+        Ok(tell_hello(cpu, hello, ended))
     }
 
     /// Answers a request.
@@ -120,11 +120,10 @@ impl<N: Name> System<N> {
         ensures held { IfOk result (λ r. IfSome cpu.new.hand (λ _. IsAgain r.reply)) }
         ensures stopped { OnErr result (MayStop G.may_stop gate.now) }
     {
-        let mut steps = StepCount::new(cpu.number());
-        let ended = self.run_request(rt, cpu, gate, &mut steps, id, op);
+        let ended = self.run_request(rt, cpu, gate, id, op)?;
         // For its clause: it is a tree.
         let _ = self.tree().len();
-        tell(self.tree(), cpu, &steps, id, ended)
+        Ok(tell(self.tree(), cpu, id, ended))
     }
 
     /// Goes through the list of steps of a request.
@@ -133,30 +132,31 @@ impl<N: Name> System<N> {
         rt: &R,
         cpu: &mut Cpu<N>,
         gate: &G,
-        steps: &mut StepCount,
         id: RequestId,
         op: &Op,
-    ) -> Ended<N, Outcome<SeatDeed<N>>>
-        ensures went { WentThrough self.now.arenas
-            (request_plan self.now.arenas cpu.old.hand id op.now) result }
+    ) -> Result<Ended<N, Outcome<SeatDeed<N>>>, RequestStopped>
+        ensures went { IfOk result (WentThrough self.now.arenas
+            (request_plan self.now.arenas cpu.old.hand id op.now)) }
         ensures number { cpu.new.number ≡ cpu.old.number }
         ensures magazines { AreForSame cpu.old.caches cpu.new.caches }
-        ensures hand { cpu.new.hand ≡ None }
-        ensures stopped { steps.new.noted ≡ true → MayStop G.may_stop gate.now }
+        ensures hand { OnOk result (cpu.new.hand ≡ None) }
+        ensures stopped { OnErr result (MayStop G.may_stop gate.now) }
     {
         let hand = cpu.hand.take();
-        let mut running = Running {
-            parts: &self.parts,
-            rt,
-            gate,
-            caches: &mut cpu.caches,
-            steps: steps.anew(),
-            count: 0,
-        };
+        let number = cpu.number();
+        let mut running = Running::new(&self.parts, rt, gate, number, &mut cpu.caches);
         let mut book = SharedBook { book: &self.book };
         let ended = lease_call::request(&mut running, &mut book, self.parts.tree(), hand, id, op);
-        *steps = running.steps;
-        ended
+        if !running.steps.noted {
+            return Ok(ended);
+        }
+        match ended {
+            Ok(_) => Err(RequestStopped),
+            Err(fault) => {
+                cpu.hold_left(fault.left());
+                Err(RequestStopped)
+            }
+        }
     }
 
     /// Goes through the list of steps of a hello.
@@ -165,62 +165,50 @@ impl<N: Name> System<N> {
         rt: &R,
         cpu: &mut Cpu<N>,
         gate: &G,
-        steps: &mut StepCount,
         hello: &HelloLine,
-    ) -> Ended<N, Greeting>
-        ensures went { WentThrough {D = SeatDeed N} self.now.arenas
-            (hello_plan self.now.arenas cpu.old.hand hello.now (MOST_LEASES + 1)) result }
+    ) -> Result<Ended<N, Greeting>, RequestStopped>
+        ensures went { IfOk result (WentThrough {D = SeatDeed N} self.now.arenas
+            (hello_plan self.now.arenas cpu.old.hand hello.now (MOST_LEASES + 1))) }
         ensures number { cpu.new.number ≡ cpu.old.number }
         ensures magazines { AreForSame cpu.old.caches cpu.new.caches }
-        ensures hand { cpu.new.hand ≡ None }
-        ensures stopped { steps.new.noted ≡ true → MayStop G.may_stop gate.now }
+        ensures hand { OnOk result (cpu.new.hand ≡ None) }
+        ensures stopped { OnErr result (MayStop G.may_stop gate.now) }
     {
         let hand = cpu.hand.take();
-        let mut running = Running {
-            parts: &self.parts,
-            rt,
-            gate,
-            caches: &mut cpu.caches,
-            steps: steps.anew(),
-            count: 0,
-        };
+        let number = cpu.number();
+        let mut running = Running::new(&self.parts, rt, gate, number, &mut cpu.caches);
         let mut book = SharedBook { book: &self.book };
         let turns = MOST_LEASES as u64 + 1;
         let tree = self.parts.tree();
         let ended = lease_call::hello(&mut running, &mut book, tree, hand, hello, turns);
-        *steps = running.steps;
-        ended
+        if !running.steps.noted {
+            return Ok(ended);
+        }
+        match ended {
+            Ok(_) => Err(RequestStopped),
+            Err(fault) => {
+                cpu.hold_left(fault.left());
+                Err(RequestStopped)
+            }
+        }
     }
 }
 
 /// Tells what a hello's list of steps ended with. A segment that it left goes into the empty hand.
-fn tell_hello<N: Name>(
-    cpu: &mut Cpu<N>,
-    steps: &StepCount,
-    hello: &HelloLine,
-    ended: Ended<N, Greeting>,
-) -> Result<Reply, RequestStopped>
+fn tell_hello<N: Name>(cpu: &mut Cpu<N>, hello: &HelloLine, ended: Ended<N, Greeting>) -> Reply
     requires hand { cpu.old.hand ≡ None }
     requires greeting { IfOk ended (IsGreetedSo hello.now) }
-    ensures exactly { IfOk result (λ r. r ≡ greeting_end hello.now ended) }
-    ensures greeting { IfOk result (IsGreeting hello.now) }
+    ensures exactly { result ≡ greeting_end hello.now ended }
+    ensures greeting { IsGreeting hello.now result }
     ensures number { cpu.new.number ≡ cpu.old.number }
     ensures magazines { AreForSame cpu.old.caches cpu.new.caches }
-    ensures held { IfOk result (λ r. IfSome cpu.new.hand (λ _. IsAgain r)) }
-    ensures stopped { OnErr result (steps.now.noted ≡ true) }
+    ensures held { IfSome cpu.new.hand (λ _. IsAgain result) }
 {
     match ended {
-        Ok(greeting) => Ok(greeted(hello, greeting)),
-        Err(CallFault::Stuck(segment)) => {
-            cpu.hold(segment);
-            Ok(hello_again(hello))
-        }
-        Err(CallFault::Stopped(left)) => {
-            cpu.hold_left(left);
-            if steps.noted {
-                return Err(RequestStopped);
-            }
-            Ok(hello_again(hello))
+        Ok(greeting) => greeted(hello, greeting),
+        Err(fault) => {
+            cpu.hold_left(fault.left());
+            Reply::hello_again(hello)
         }
     }
 }
@@ -230,33 +218,24 @@ fn tell_hello<N: Name>(
 fn tell<N: Name>(
     tree: &Tree,
     cpu: &mut Cpu<N>,
-    steps: &StepCount,
     id: RequestId,
     ended: Ended<N, Outcome<SeatDeed<N>>>,
-) -> Result<Told<N>, RequestStopped>
+) -> Told<N>
     requires hand { cpu.old.hand ≡ None }
     requires outcome { IfOk ended (IsOutcomeOf id) }
-    ensures exactly { IfOk result (λ r. TellsEnd tree.now id ended r.reply r.receipt) }
-    ensures told { IfOk result (λ r. IsReplyTo tree.now id r.reply r.receipt) }
-    ensures new { IfOk result (λ r. r.is_new ≡ true
-        → (r.receipt ≢ None) × (end_receipt ended ≡ r.receipt)) }
+    ensures exactly { TellsEnd tree.now id ended result.reply result.receipt }
+    ensures told { IsReplyTo tree.now id result.reply result.receipt }
+    ensures new { result.is_new ≡ true
+        → (result.receipt ≢ None) × (end_receipt ended ≡ result.receipt) }
     ensures number { cpu.new.number ≡ cpu.old.number }
     ensures magazines { AreForSame cpu.old.caches cpu.new.caches }
-    ensures held { IfOk result (λ r. IfSome cpu.new.hand (λ _. IsAgain r.reply)) }
-    ensures stopped { OnErr result (steps.now.noted ≡ true) }
+    ensures held { IfSome cpu.new.hand (λ _. IsAgain result.reply) }
 {
     match ended {
-        Ok(outcome) => Ok(told_outcome(tree, id, outcome)),
-        Err(CallFault::Stuck(segment)) => {
-            cpu.hold(segment);
-            Ok(again(id))
-        }
-        Err(CallFault::Stopped(left)) => {
-            cpu.hold_left(left);
-            if steps.noted {
-                return Err(RequestStopped);
-            }
-            Ok(again(id))
+        Ok(outcome) => told_outcome(tree, id, outcome),
+        Err(fault) => {
+            cpu.hold_left(fault.left());
+            again(id)
         }
     }
 }

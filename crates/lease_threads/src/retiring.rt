@@ -6,7 +6,7 @@ ghost use Rattle.locked_parts.specs.Kinds.{AreForSame};
 use crate::cpus::Cpu;
 use crate::systems::System;
 use deed_table::Name;
-use locked_parts::{OpenGate, Running, StepCount};
+use locked_parts::{OpenGate, Running};
 use quantum_cache::{EmptyingFault, drain};
 use std::sync::Wait;
 
@@ -37,31 +37,25 @@ impl<N: Name> System<N> {
         self.retire(rt, cpu)
     }
 
-    /// Places the hand, and then all rounds of the CPU, as far as that goes: one that a part refuses
-    /// is the hand then.
+    /// Places the hand, and then all rounds of the CPU, as far as that goes: one that a part
+    /// refuses is the hand then.
     pub fn drain<R: Wait>(&self, rt: &R, cpu: &mut Cpu<N>)
         ensures number { cpu.new.number ≡ cpu.old.number }
         ensures magazines { AreForSame cpu.old.caches cpu.new.caches }
     {
-        let mut steps = StepCount::new(cpu.number());
-        if let Ok(true) = self.place_hand(rt, cpu, &OpenGate, &mut steps) {
+        if self.place_hand(rt, cpu) {
             self.drain_rounds(rt, cpu);
         }
     }
 
+    /// Places all rounds, as far as that goes.
     fn drain_rounds<R: Wait>(&self, rt: &R, cpu: &mut Cpu<N>)
         requires { cpu.old.hand ≡ None }
         ensures number { cpu.new.number ≡ cpu.old.number }
         ensures magazines { AreForSame cpu.old.caches cpu.new.caches }
     {
-        let mut running = Running {
-            parts: &self.parts,
-            rt,
-            gate: &OpenGate,
-            caches: &mut cpu.caches,
-            steps: StepCount::new(0),
-            count: 0,
-        };
+        let number = cpu.number();
+        let mut running = Running::new(&self.parts, rt, &OpenGate, number, &mut cpu.caches);
         match drain(&mut running, self.parts.tree()) {
             Ok(()) => {}
             Err(EmptyingFault::Stuck(segment)) => cpu.hold(segment),

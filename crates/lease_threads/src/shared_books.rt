@@ -6,7 +6,6 @@ ghost use Rattle.deed_table.specs.declared.deeds.SeatDeed.{SeatDeed};
 ghost use Rattle.lease_call.specs.Calls.{Look, Settle, Refuse, Release, Hello, Sweep};
 ghost use Rattle.lease_book.specs.Calls.{IsSystemRefusal};
 ghost use Rattle.locked_parts.specs.Gates.{NotesStops};
-ghost use Rattle.locked_parts.specs.Kinds.{AreForSame};
 ghost use Rattle.lease_threads.specs.Calling.{IsLockedCall, IsLockedAnswer};
 
 use crate::marked_books::MarkedBook;
@@ -31,8 +30,8 @@ impl<N: Name, R: Wait, G: Gate> Books<Segment<SeatDeed<N>>, SeatDeed<N>, Running
     ghost step = { λ b s k a c t.
         NotesStops G.may_stop s.gate.now t.gate.now s.steps.noted t.steps.noted
         × (t.caches.ghost_name ≡ s.caches.ghost_name)
-        × AreForSame s.caches.now.items t.caches.now.items
-        × IsLockedAnswer _ k a };
+        × (t.caches.now ≡ s.caches.now)
+        × IsLockedAnswer _ k a t.steps.noted };
 
     fn look(
         &mut self,

@@ -84,7 +84,7 @@ impl<N: Name> Halted<N> {
         &self.system
     }
 
-    // Places all that lies in it, and closes its roots.
+    /// Places all that lies in it, and closes its roots.
     fn empty<R: Wait>(&mut self, rt: &R) -> bool
         ensures arenas { self.new.system.arenas ≡ self.old.system.arenas }
         ensures ranges { all_ranges self.new ≡ all_ranges self.old }
@@ -94,7 +94,7 @@ impl<N: Name> Halted<N> {
             && close_roots(rt, &mut self.closed, &mut self.system, &mut self.cpu)
     }
 
-    // Goes on to the end.
+    /// Goes on to the end.
     fn end<R: Wait>(mut self, rt: &R) -> Result<Vec<Range>, Halted<N>>
         ensures ranges { IfOk result (λ ranges. ranges.items ≡ all_ranges self) }
         ensures arenas { IfErr result (λ rest. rest.system.arenas ≡ self.system.arenas) }

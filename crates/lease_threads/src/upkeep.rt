@@ -7,7 +7,7 @@ ghost use Rattle.lease_threads.specs.Reaping.{ReapsSoundly, KeepsHand};
 use crate::cpus::Cpu;
 use crate::systems::System;
 use deed_table::Name;
-use locked_parts::{OpenGate, Running, StepCount};
+use locked_parts::{OpenGate, Running};
 use quantum_cache::{EmptyingFault, ReapFault, reap_arena};
 use std::sync::Wait;
 
@@ -43,14 +43,13 @@ impl<N: Name> System<N> {
         ensures no_arena { length self.now.arenas ≤ arena → (result ≡ 0)
             × ((cpu.new.hand ≡ None) ⊎ KeepsHand cpu.old.hand cpu.new.hand result) }
     {
-        let mut steps = StepCount::new(cpu.number());
-        match self.place_hand(rt, cpu, &OpenGate, &mut steps) {
-            Ok(true) => self.reap_empty(rt, cpu, arena, limit),
-            Ok(false) => 0,
-            Err(_) => 0,
+        if !self.place_hand(rt, cpu) {
+            return 0;
         }
+        self.reap_empty(rt, cpu, arena, limit)
     }
 
+    /// Reaps with an empty hand.
     fn reap_empty<R: Wait>(&self, rt: &R, cpu: &mut Cpu<N>, arena: u32, limit: u64) -> u128
         requires { cpu.old.hand ≡ None }
         ensures number { cpu.new.number ≡ cpu.old.number }
@@ -64,14 +63,8 @@ impl<N: Name> System<N> {
             return 0;
         }
         let chain = self.parts.tree().chain(arena);
-        let mut running = Running {
-            parts: &self.parts,
-            rt,
-            gate: &OpenGate,
-            caches: &mut cpu.caches,
-            steps: StepCount::new(0),
-            count: 0,
-        };
+        let number = cpu.number();
+        let mut running = Running::new(&self.parts, rt, &OpenGate, number, &mut cpu.caches);
         match reap_arena(&mut running, chain, limit) {
             Ok(reaping) => reaping.units,
             Err(ReapFault { reaping, cause }) => {

@@ -6,10 +6,10 @@ use Rattle.lease_threads.proofs.systems.System.serve.Goals as goal
 
 pub tell-requires-clause-outcome : goal.tell-requires-clause-outcome
 tell-requires-clause-outcome g c =
-    let well = request_well _ c.args.self.now.arenas c.args.id (subst IsTree c.tree.ensures c.len.ensures.tree) c.args.cpu.now.hand c.args.op.now c.run_request-ended.result c.run_request-ended.ensures.went in
-    IfOk-weaker c.run_request-ended.result _ _ (λ o is. is.of_book) well
+    let well = request_well _ c.args.self.now.arenas c.args.id (subst IsTree c.tree.ensures c.len.ensures.tree) c.args.cpu.now.hand c.args.op.now c.in_ok-ended.ended c.in_ok-ended.ensures.went in
+    IfOk-weaker c.in_ok-ended.ended _ _ (λ o is. is.of_book) well
 
 pub returns-clause-new : goal.returns-clause-new
 returns-clause-new g c =
-    let well = request_well _ c.args.self.now.arenas c.args.id (subst IsTree c.tree.ensures c.len.ensures.tree) c.args.cpu.now.hand c.args.op.now c.run_request-ended.result c.run_request-ended.ensures.went in
-    IfOk-weaker c.tell.result _ _ (λ r told new. let is = told new in settled_so c.args.self.now.arenas c.args.id c.args.op.now c.run_request-ended.result r.receipt well is.0 is.1) c.tell.ensures.new
+    let well = request_well _ c.args.self.now.arenas c.args.id (subst IsTree c.tree.ensures c.len.ensures.tree) c.args.cpu.now.hand c.args.op.now c.in_ok-ended.ended c.in_ok-ended.ensures.went in
+    λ new. (let is = c.tell.ensures.new new in settled_so c.args.self.now.arenas c.args.id c.args.op.now c.in_ok-ended.ended c.tell.result.receipt well is.0 is.1)
