@@ -29,8 +29,8 @@ abbrev pub IsAnswer : List TreeArena → Line → Reply → Type 0
 IsAnswer arenas line reply =
     (receipt : Option ReceiptState) × IsAnswerTo arenas line reply receipt
 
--- The system may answer the line so. The arenas stay; where the CPU's hand can't be placed the reply
--- is `again`.
+-- The system may answer the line so. The arenas stay; where the CPU's hand can't be placed the
+-- reply is `again`.
 abbrev pub MayReply : SystemWorkerState → Line → Reply → SystemWorkerState → Type 0
 MayReply old line reply new = IsAnswer old.arenas line reply
     × IfSome new.cpu.hand (λ _. IsAgain reply) × (new.arenas ≡ old.arenas)

@@ -5,6 +5,7 @@ use crate::seats::Seat;
 use deed_table::Name;
 use lease_threads::System;
 use std::sync::Mutex;
+use std::sync::atomic::{AtomicBool, Ordering};
 
 /// Where connections come from, and what serves them.
 #[derive(Drop)]
@@ -13,4 +14,13 @@ pub struct House<'a, N: Name> {
     pub system: &'a System<N>,
     /// The CPUs of the system, by which lines are answered.
     pub seats: &'a [Mutex<Seat<N>>],
+    /// Raised once all connections have ended, and none comes any more.
+    pub over: AtomicBool,
+}
+
+impl<N: Name> House<'_, N> {
+    /// Whether all connections have ended.
+    pub(crate) fn is_over(&self) -> bool {
+        self.over.load(Ordering::SeqCst)
+    }
 }

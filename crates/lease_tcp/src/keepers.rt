@@ -14,11 +14,14 @@ const KEEPER_TURN: u64 = 20;
 /// After how many milliseconds it goes round again.
 const ROUND: u64 = 1000;
 
-/// Goes round each second, until the door is closed and no connection is served any more.
+/// How often each arena is reaped in a round, by `REAP_LIMIT` looks at most each time.
+const REAPS: u32 = 64;
+
+/// Goes round each second, until all connections have ended.
 pub fn keep<N: Name, R: Wait + Clock>(rt: &R, house: &House<'_, N>) {
     let mut round = Instant::now(rt).ok();
     for _ in rt.forever() {
-        if house.door.is_closed() && house.door.roll.is_empty(rt) {
+        if house.is_over() {
             break;
         }
         thread::sleep(rt, Duration::from_millis(KEEPER_TURN));
@@ -41,7 +44,7 @@ fn is_due<C: Clock>(clock: &C, round: Option<Instant>) -> bool {
 }
 
 /// Drains each CPU that moved nothing since the last round, reaps each arena, and ticks each
-/// depot. It has one seat at a time, and none for longer than one of these takes.
+/// depot. It has one seat at a time, and none for longer than one drain or reap takes.
 pub fn go_round<N: Name, R: Wait>(rt: &R, house: &House<'_, N>) {
     for seat in house.seats {
         let mut guard = seat.lock(rt);
@@ -55,10 +58,17 @@ pub fn go_round<N: Name, R: Wait>(rt: &R, house: &House<'_, N>) {
 
 /// Reaps each arena. Children come before their sources: what they hand back can be reaped there.
 fn reap_by_turns<N: Name, R: Wait>(rt: &R, house: &House<'_, N>) {
+    for arena in (0..house.system.tree().len() as u32).rev() {
+        reap_often(rt, house, arena);
+    }
+}
+
+/// Reaps an arena so many times, each by a seat that is free then.
+fn reap_often<N: Name, R: Wait>(rt: &R, house: &House<'_, N>, arena: u32) {
     if house.seats.is_empty() {
         return;
     }
-    for arena in (0..house.system.tree().len() as u32).rev() {
+    for _ in 0..REAPS {
         take_seat(rt, house.seats, 0).reap(rt, house.system, arena);
     }
 }

@@ -14,7 +14,7 @@
 //! roll takes; one more is told so. Each has a `SharedWorker` (shared_workers), which for each line
 //! takes a `Seat` (seats): one of the system's CPUs, under a lock. `keep` (keepers) tidies such a
 //! system by time. An `Overseer` (shortages) is told what there was none of for a connection. A
-//! thread holds one seat at a time, and the lock of a part only under that.
+//! thread holds one seat at a time, and takes no seat while it holds a part's lock.
 //!
 //! What a line may be answered is stated in specs/Replying.antt, and what a connection leaves in
 //! specs/Connections.antt. Of a socket no contract can say what it gives or takes, and of a clock

@@ -1,6 +1,7 @@
 //! The connections that are served now, so that an end can reach each of them.
 ghost use Rattle.std.specs.Prelude.{◌≡◌, ◌+◌, ◌≤◌, ◌↔◌, true, false, OnOk, OnErr, IsErrOf};
-ghost use Rattle.slab.specs.Slab.{slab_len};
+ghost use Rattle.std.specs.Prelude.{None, IfOk};
+ghost use Rattle.slab.specs.Slab.{ContainsKey, Updates, get, slab_len};
 
 use slab::Slab;
 use std::alloc::Global;
@@ -90,7 +91,7 @@ impl Roll {
     }
 
     /// Whether none is served.
-    pub(crate) fn is_empty<R: Wait>(&self, rt: &R) -> bool {
+    fn is_empty<R: Wait>(&self, rt: &R) -> bool {
         self.rows.lock(rt).streams.is_empty()
     }
 }
@@ -99,6 +100,8 @@ impl Rows {
     /// Enters a connection. It is refused as one too many just where there are as many as there may
     /// be.
     fn enter(&mut self, stream: &SharedStream) -> Result<usize, NotEntered>
+        ensures entered { IfOk result (λ key. (get self.old.streams key ≡ None)
+            × ContainsKey self.new.streams key) }
         ensures more { OnOk result (slab_len self.new.streams ≡ slab_len self.old.streams + 1) }
         ensures same { OnErr result (slab_len self.new.streams ≡ slab_len self.old.streams) }
         ensures full { IsErrOf result NotEntered.Full
@@ -123,6 +126,7 @@ impl Rows {
 
     /// The connection of this key has ended.
     fn leave(&mut self, key: usize)
+        ensures left { Updates self.old.streams self.new.streams key None }
         ensures fewer { slab_len self.new.streams ≤ slab_len self.old.streams }
         ensures kept { (self.new.most ≡ self.old.most) × (self.new.ended ≡ self.old.ended) }
     {

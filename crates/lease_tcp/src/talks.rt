@@ -18,6 +18,7 @@ use lease_server::{ServeFault, Watched, deliver};
 use std::alloc::AllocGlobal;
 use std::io::{Error, Read, Write};
 use std::net::TcpStream;
+use std::sync::atomic::Ordering;
 use std::sync::{Arc, Wait};
 use std::thread;
 use std::thread::{Builder, Scope, Threads};
@@ -41,6 +42,7 @@ pub fn serve_talks<
     thread::scope(thread::scope_env(), rt, move |scope| {
         accept_talks(rt, scope, house, overseer);
     });
+    house.over.store(true, Ordering::SeqCst);
 }
 
 /// Starts a thread for each connection, until the door is closed.
@@ -102,8 +104,8 @@ fn admit<'s, E, N: Name + Send + Sync, R: Threads + Wait + Clock + Sync + AllocG
     }
 }
 
-/// Turns a connection away. What it sent by now is read, since a socket that is closed with bytes
-/// unread may take what it wrote from its peer.
+/// Turns a connection away. What it sent by now is read, up to a piece, since a socket that is
+/// closed with bytes unread may take what it wrote from its peer.
 fn turn_stream_away(stream: &TcpStream) {
     let mut link = stream;
     let mut reader = stream;

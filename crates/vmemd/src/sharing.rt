@@ -9,6 +9,7 @@ use deed_table::Name;
 use lease_tcp::{Door, House, Overseer, Seat, Shortage, keep, new_seats, serve_talks};
 use lease_threads::System;
 use std::io::{Read, Write};
+use std::sync::atomic::AtomicBool;
 use std::sync::{Mutex, Wait};
 use std::thread;
 use std::thread::Threads;
@@ -57,6 +58,7 @@ pub(crate) fn serve_shared<
                 door: *door,
                 system,
                 seats: seats.as_slice(),
+                over: AtomicBool::new(false),
             };
             serve_house(rt, listener, &house, signals, plan.grace, console)
         }
