@@ -123,6 +123,8 @@ impl<D: Deed> ArenaCaches<D> {
         }
     }
 
+    /// Makes the row's caches, of 1 up to `count` quanta, each with two empty magazines of this
+    /// size.
     fn fill(
         &mut self,
         alloc: Global,
@@ -165,6 +167,7 @@ impl<D: Deed> ArenaCaches<D> {
     }
 }
 
+/// Ends a CPU's caches, which keep nothing.
 fn end_rows<D: Deed>(mut rows: Vec<ArenaCaches<D>>)
     requires { HasNoRounds rows.items }
 {
@@ -175,6 +178,7 @@ fn end_rows<D: Deed>(mut rows: Vec<ArenaCaches<D>>)
     rows.destroy_empty();
 }
 
+/// Ends the caches of one arena, which keep nothing.
 fn end_caches<D: Deed>(mut caches: Vec<OwnCache<D>>)
     requires { All HasNoRound caches.items }
 {
@@ -184,6 +188,7 @@ fn end_caches<D: Deed>(mut caches: Vec<OwnCache<D>>)
     caches.destroy_empty();
 }
 
+/// Ends one cache, which keeps nothing.
 fn end_own<D: Deed>(own: OwnCache<D>)
     requires { HasNoRound own }
 {

@@ -13,6 +13,7 @@ use magazine_layer::{EmptyFault, FullFault, Magazine, PutFullFault, is_magazine_
 use std::alloc::Global;
 use stock::{OwnCache, Stock};
 
+/// Keeps a round of this cache's size; another, or one for which there is no place, comes back.
 pub(crate) fn push_own<D: Deed>(
     own: &mut OwnCache<D>,
     segment: Segment<D>,
@@ -25,6 +26,7 @@ pub(crate) fn push_own<D: Deed>(
     own.push(segment)
 }
 
+/// Changes over to two magazines of this size, with all rounds, where it is greater.
 pub(crate) fn change_own<D: Deed>(
     alloc: Global,
     own: &mut OwnCache<D>,
@@ -42,6 +44,7 @@ pub(crate) fn change_own<D: Deed>(
     Ok(())
 }
 
+/// Takes a full magazine of the depot for an empty one, where both of the CPU's are empty.
 pub(crate) fn swap_full_own<D: Deed>(
     stock: &mut Stock<D>,
     own: &mut OwnCache<D>,
@@ -59,6 +62,7 @@ pub(crate) fn swap_full_own<D: Deed>(
     PartFault::wrap(swapped)
 }
 
+/// Takes an empty magazine of the depot for a full one, where both of the CPU's are full.
 pub(crate) fn swap_empty_own<D: Deed>(
     stock: &mut Stock<D>,
     own: &mut OwnCache<D>,
@@ -75,6 +79,7 @@ pub(crate) fn swap_empty_own<D: Deed>(
     PartFault::wrap(swapped)
 }
 
+/// Takes a magazine that is made for it for a full one, where both of the CPU's are full.
 pub(crate) fn swap_fresh_own<D: Deed>(
     alloc: Global,
     stock: &mut Stock<D>,
@@ -115,6 +120,7 @@ fn fresh_in_words<D: Deed>(
     }
 }
 
+/// Ends a magazine without rounds.
 fn end_empty<D: Deed>(magazine: Magazine<D>)
     requires { magazine.rounds ≡ [] }
 {

@@ -31,7 +31,7 @@ pub(crate) fn round<S: Held, P: Parts<S>>(parts: &mut P, arena: u32, cache: u8) 
     }
 }
 
-// The CPU changes over to magazines of this size, and the next stage is tried.
+/// The CPU changes over to magazines of this size, and the next stage is tried.
 #[tactic(auto, using(crate::proofs::Runs::asks), unfolding(crate::specs::Allocs::change_over))]
 fn change_over<S: Held, P: Parts<S>>(parts: &mut P, arena: u32, cache: u8, size: usize) -> Stage<S>
     ensures ran { Ran P.step P.tree P.count P.rounds (change_over arena cache size)
@@ -74,7 +74,7 @@ pub(crate) fn chunk<S: Held, P: Parts<S>>(parts: &mut P, arena: u32, cache: u8) 
     }
 }
 
-// The span becomes a slab, or goes back where it is out of memory for that.
+/// The span becomes a slab, or goes back where it is out of memory for that.
 #[tactic(auto, using(crate::proofs::Runs::goes_on), unfolding(crate::specs::Allocs::make_slab))]
 fn make_slab<S: Held, P: Parts<S>>(
     parts: &mut P,
@@ -106,7 +106,7 @@ fn make_slab<S: Held, P: Parts<S>>(
     }
 }
 
-// After NoFit alone the next stage is tried.
+/// After NoFit alone the next stage is tried.
 fn unless_no_fit<S: Held>(fault: ClimbFault<S>) -> Stage<S>
     ensures { tag_stage S.tag result ≡ on_no_slab (tag_climb_fault S.tag fault) }
 {

@@ -15,7 +15,7 @@ use arena_tree::{ClimbFault, Level, PartFault, Parts, climb_alloc};
 use deed_core::{Held, Request};
 use tag_arena::ArenaFault;
 
-// The first stage that gives a segment; else one that is carved for it.
+/// The first stage that gives a segment; else one that is carved for it.
 fn cached<S: Held, P: Parts<S>>(
     parts: &mut P,
     chain: &[Level],
@@ -48,7 +48,7 @@ fn cached<S: Held, P: Parts<S>>(
     climb_alloc(parts, chain, size)
 }
 
-// As `alloc`, which says what follows.
+/// As `alloc`, which says what follows.
 fn serve<S: Held, P: Parts<S>>(
     parts: &mut P,
     chain: &[Level],

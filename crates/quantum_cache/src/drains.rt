@@ -10,7 +10,7 @@ use crate::frees::put_back;
 use arena_tree::{Level, Parts, ReturnFault, Tree, cache_count};
 use deed_core::Held;
 
-// A round goes to its slab. None where there may be more.
+/// A round goes to its slab. None where there may be more.
 #[tactic(auto, using(crate::proofs::Runs::goes_on), unfolding(crate::specs::Drains::drain_turn))]
 fn drain_one<S: Held, P: Parts<S>>(
     parts: &mut P,
@@ -35,7 +35,7 @@ fn drain_one<S: Held, P: Parts<S>>(
     }
 }
 
-// The rounds of one cache.
+/// The rounds of one cache.
 fn drain_rounds<S: Held, P: Parts<S>>(
     parts: &mut P,
     arena: u32,
@@ -56,7 +56,7 @@ fn drain_rounds<S: Held, P: Parts<S>>(
     }
 }
 
-// The last so many of all caches of an arena.
+/// The last so many of all caches of an arena.
 fn drain_caches<S: Held, P: Parts<S>>(
     parts: &mut P,
     arena: u32,
@@ -81,7 +81,7 @@ fn drain_caches<S: Held, P: Parts<S>>(
     }
 }
 
-// The arenas below this number.
+/// The arenas below this number.
 fn drain_below<S: Held, P: Parts<S>>(
     parts: &mut P,
     tree: &Tree,
@@ -106,7 +106,7 @@ fn drain_below<S: Held, P: Parts<S>>(
     }
 }
 
-// All caches of the chain's first arena.
+/// All caches of the chain's first arena.
 fn drain_chain<S: Held, P: Parts<S>>(parts: &mut P, chain: &[Level]) -> Result<(), EmptyingFault<S>>
     requires { All (λ l. 0 < l.quantum) chain.now }
     ensures ran { (turns : ℕ) → P.rounds parts.old < turns

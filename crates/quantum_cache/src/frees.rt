@@ -13,7 +13,7 @@ use deed_core::{Held, Route};
 use magazine_layer::EmptyFault;
 use slab_layer::PutFault;
 
-// Into the CPU's own magazines.
+/// Into the CPU's own magazines.
 #[tactic(auto, using(crate::proofs::Runs::asks), unfolding(crate::specs::Frees::push_round))]
 fn push<S: Held, P: Parts<S>>(parts: &mut P, arena: u32, cache: u8, segment: S) -> Placing<S>
     ensures ran { Ran P.step P.tree P.count P.rounds (push_round arena cache (S.tag segment))
@@ -27,7 +27,7 @@ fn push<S: Held, P: Parts<S>>(parts: &mut P, arena: u32, cache: u8, segment: S) 
     }
 }
 
-// After the CPU changed over to magazines of this size.
+/// After the CPU changed over to magazines of this size.
 #[tactic(auto, using(crate::proofs::Runs::asks), unfolding(crate::specs::Frees::push_changed))]
 fn change_and_push<S: Held, P: Parts<S>>(
     parts: &mut P,
@@ -48,7 +48,7 @@ fn change_and_push<S: Held, P: Parts<S>>(
     }
 }
 
-// After a full magazine was exchanged for one that was made.
+/// After a full magazine was exchanged for one that was made.
 #[tactic(auto, using(crate::proofs::Runs::asks), unfolding(crate::specs::Frees::push_fresh))]
 fn freshen_and_push<S: Held, P: Parts<S>>(
     parts: &mut P,
@@ -70,7 +70,7 @@ fn freshen_and_push<S: Held, P: Parts<S>>(
     }
 }
 
-// After a full magazine was exchanged for an empty one of the depot, or for one that was made.
+/// After a full magazine was exchanged for an empty one of the depot, or for one that was made.
 #[tactic(auto, using(crate::proofs::Runs::asks), unfolding(crate::specs::Frees::push_exchanged))]
 fn exchange_and_push<S: Held, P: Parts<S>>(
     parts: &mut P,
@@ -113,7 +113,7 @@ pub(crate) fn put_back<S: Held, P: Parts<S>>(
     }
 }
 
-// The first stage that takes the round; else its slab.
+/// The first stage that takes the round; else its slab.
 fn keep<S: Held, P: Parts<S>>(
     parts: &mut P,
     arena: u32,
@@ -137,7 +137,7 @@ fn keep<S: Held, P: Parts<S>>(
     put_back(parts, segment)
 }
 
-// As `free`, which says what follows.
+/// As `free`, which says what follows.
 fn place<S: Held, P: Parts<S>>(
     parts: &mut P,
     chain: &[Level],

@@ -30,7 +30,7 @@ pub struct ReapFault<S> {
     pub cause: EmptyingFault<S>,
 }
 
-// One round of the depot goes to its slab. None where there is none.
+/// One round of the depot goes to its slab. None where there is none.
 #[tactic(auto, using(crate::proofs::Runs::goes_on), unfolding(crate::specs::Reaps::reap_round))]
 fn one_round<S: Held, P: Parts<S>>(
     parts: &mut P,
@@ -53,7 +53,7 @@ fn one_round<S: Held, P: Parts<S>>(
     }
 }
 
-// One complete slab goes to its arena: its units. None where there is none.
+/// One complete slab goes to its arena: its units. None where there is none.
 #[tactic(auto, using(crate::proofs::Runs::goes_on), unfolding(crate::specs::Reaps::reap_slab))]
 fn one_slab<S: Held, P: Parts<S>>(
     parts: &mut P,
@@ -82,7 +82,7 @@ fn one_slab<S: Held, P: Parts<S>>(
     }
 }
 
-// Rounds of one depot, until there are none.
+/// Rounds of one depot, until there are none.
 fn reap_rounds<S: Held, P: Parts<S>>(
     parts: &mut P,
     arena: u32,
@@ -107,7 +107,7 @@ fn reap_rounds<S: Held, P: Parts<S>>(
     Ok(reaping)
 }
 
-// Complete slabs of one cache, until there are none.
+/// Complete slabs of one cache, until there are none.
 fn reap_slabs<S: Held, P: Parts<S>>(
     parts: &mut P,
     chain: &[Level],
@@ -136,7 +136,7 @@ fn reap_slabs<S: Held, P: Parts<S>>(
     Ok(reaping)
 }
 
-// One cache: the rounds of its depot, and then its slabs.
+/// One cache: the rounds of its depot, and then its slabs.
 #[tactic(auto, using(crate::proofs::Runs::ends), unfolding(crate::specs::Reaps::reap_cache))]
 fn reap_cache<S: Held, P: Parts<S>>(
     parts: &mut P,
@@ -159,7 +159,7 @@ fn reap_cache<S: Held, P: Parts<S>>(
     }
 }
 
-// The last so many of all caches of an arena.
+/// The last so many of all caches of an arena.
 fn reap_caches<S: Held, P: Parts<S>>(
     parts: &mut P,
     chain: &[Level],
@@ -187,7 +187,7 @@ fn reap_caches<S: Held, P: Parts<S>>(
     }
 }
 
-// All caches of the chain's first arena.
+/// All caches of the chain's first arena.
 fn reap_chain<S: Held, P: Parts<S>>(
     parts: &mut P,
     chain: &[Level],
@@ -207,7 +207,7 @@ fn reap_chain<S: Held, P: Parts<S>>(
     reap_caches(parts, chain, level.id, caches, caches, before)
 }
 
-// The arenas below this number, the last first.
+/// The arenas below this number, the last first.
 fn reap_below<S: Held, P: Parts<S>>(
     parts: &mut P,
     tree: &Tree,

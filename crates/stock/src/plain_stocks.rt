@@ -33,6 +33,7 @@ pub fn plain_stock(
     }
 }
 
+/// A plain deed of each span of the setup, numbered in order.
 fn plain_deeds(alloc: Global, setup: &Setup) -> Result<Vec<PlainDeed>, AllocError>
     ensures { IfOk result (λ deeds. deeds.items ≡ numbered_deeds 0 setup.now.spans) }
 {
@@ -46,6 +47,7 @@ fn plain_deeds(alloc: Global, setup: &Setup) -> Result<Vec<PlainDeed>, AllocErro
     Ok(deeds)
 }
 
+/// Ends deeds that no stock took.
 fn close_all(mut deeds: Vec<PlainDeed>) {
     while let Some(deed) = deeds.pop() {
         let _ = deed.close();
