@@ -16,7 +16,8 @@ use Rattle.lease_book.specs.BookState.{BookState, IsHistory, Enters, account_in}
 use Rattle.lease_book.specs.Answers.{IsNew}
 use Rattle.lease_book.proofs.LawProofs.{account_is, last_outcome, outcomes_stay, numbers_settled_once}
 use Rattle.lease_history.specs.Told.{reply_to}
-use Rattle.lease_machine.specs.Picture.{Picture, arena_named}
+use Rattle.lease_machine.specs.Picture.{Picture}
+use Rattle.arena_tree.specs.Trees.{arena_named}
 use Rattle.lease_machine.specs.Machine.{AnswersLine}
 use Rattle.lease_machine.specs.Laws.{Runs}
 use Rattle.lease_machine.specs.AnswerLaws.{reply_bytes, AnswersAgree, RepeatsFit}

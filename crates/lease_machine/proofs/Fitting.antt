@@ -24,7 +24,8 @@ use Rattle.lease_book.specs.declared.receipts.KeptReply.{KeptReply}
 use Rattle.lease_book.specs.declared.receipts.KeptReply.TheVariants as replies
 use Rattle.lease_book.specs.declared.receipts.Terms.{Terms}
 use Rattle.lease_book.proofs.LawProofs.{account_is, last_outcome, outcomes_stay, outcome_earned}
-use Rattle.lease_machine.specs.Picture.{Picture, Finds, arena_named, name_or_none, IsEnteredIn, IsSettledIn}
+use Rattle.lease_machine.specs.Picture.{Picture, Finds, IsEnteredIn, IsSettledIn}
+use Rattle.arena_tree.specs.Trees.{arena_named, name_or_none}
 use Rattle.lease_machine.specs.Machine.{NewLease, Grants}
 use Rattle.lease_machine.specs.AnswerLaws.{FitsLine, GrantsFit, IsFitting, KeptGrantsFit}
 use Rattle.lease_machine.proofs.Repeats.{request_answer}

@@ -33,7 +33,8 @@ use Rattle.lease_book.specs.Account.{Account, Lease, is_lease, without_first, le
 use Rattle.lease_book.specs.BookState.{BookState, HasHistory, Enters, account_in, account_or_nobody}
 use Rattle.lease_book.proofs.LawProofs.{entered_changes}
 use Rattle.lease_history.specs.Told.{reply_to}
-use Rattle.lease_machine.specs.Picture.{Picture, IsPicture, arena_named, name_or_none}
+use Rattle.lease_machine.specs.Picture.{Picture, IsPicture}
+use Rattle.arena_tree.specs.Trees.{arena_named, name_or_none}
 use Rattle.lease_machine.specs.Machine.{LeaseStep}
 use Rattle.lease_machine.specs.Laws.{Runs}
 use Rattle.lease_machine.specs.AnswerLaws.{reply_bytes, IsKept, IsReadAs, AreNamed}

@@ -11,7 +11,8 @@ use Rattle.lease_book.specs.BookState.{BookState, account_in}
 use Rattle.lease_book.specs.Receipts.{ReceiptState}
 use Rattle.lease_history.specs.Told.{IsTellable, reply_to, reply_to_answer, IsKnownReply}
 use Rattle.lease_machine.specs.Conversations.{CanName}
-use Rattle.lease_machine.specs.Picture.{Picture, IsPicture, arena_named}
+use Rattle.lease_machine.specs.Picture.{Picture, IsPicture}
+use Rattle.arena_tree.specs.Trees.{arena_named}
 use Rattle.lease_machine.proofs.Fitting.{kept_grants_fit}
 
 module _ {D : Type 0} (book : BookState) (id : RequestId) where

@@ -47,7 +47,8 @@ use Rattle.lease_machine.specs.Conversations.{BookDoes, RunsCall, AnswersRequest
 use Rattle.lease_machine.specs.Held.{parts_in, with_parts}
 use Rattle.lease_machine.specs.Machine.{NewLease}
 use Rattle.lease_machine.specs.Moves.{Climbs, ClimbsInVain, Returns}
-use Rattle.lease_machine.specs.Picture.{Picture, IsPicture, IsBookOf, Finds, SameSetup, arena_named, IsHeld}
+use Rattle.lease_machine.specs.Picture.{Picture, IsPicture, IsBookOf, Finds, SameSetup, IsHeld}
+use Rattle.arena_tree.specs.Trees.{arena_named}
 use Rattle.lease_machine.specs.Serving.{ServesWith, FallsBack}
 use Rattle.lease_machine.proofs.BookMoves.{same_leases, book_enters, granted_is_picture}
 use Rattle.lease_machine.proofs.Ending.{Ends, ended, alone, known_ends, refused_ends, answered_ends, refusal_ends}

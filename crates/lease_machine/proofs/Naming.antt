@@ -13,7 +13,8 @@ use Rattle.lease_book.specs.BookState.{account_in}
 use Rattle.lease_book.specs.Entry.{Grant, kept_reply_of}
 use Rattle.lease_book.specs.Answers.{IsNew}
 use Rattle.lease_history.specs.Told.{reply_to, IsKnownReply}
-use Rattle.lease_machine.specs.Picture.{Picture, arena_named}
+use Rattle.lease_machine.specs.Picture.{Picture}
+use Rattle.arena_tree.specs.Trees.{arena_named}
 use Rattle.lease_machine.specs.Machine.{NewLease, NewRelease, NewRequest, RequestStep}
 use Rattle.lease_machine.specs.AnswerLaws.{NamesRequest}
 

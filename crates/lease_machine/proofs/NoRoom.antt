@@ -34,7 +34,8 @@ use Rattle.lease_book.specs.Receipts.{Kept}
 use Rattle.lease_book.specs.Account.{Account}
 use Rattle.lease_book.specs.BookState.{BookState, account_in, account_or_nobody, leased_segments, segments_of_accounts}
 use Rattle.lease_book.proofs.LawProofs.{entered_changes}
-use Rattle.lease_machine.specs.Picture.{Picture, IsPicture, Finds, arena_named}
+use Rattle.lease_machine.specs.Picture.{Picture, IsPicture, Finds}
+use Rattle.arena_tree.specs.Trees.{arena_named}
 use Rattle.local_calls.specs.NoFits.{HasBaseUp}
 use Rattle.lease_machine.specs.Serving.{CanServe}
 use Rattle.lease_machine.specs.Machine.{NewLease, RefusesLease, HelloStep, Sweeps, AnswersLine}

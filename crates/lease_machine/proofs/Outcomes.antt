@@ -15,7 +15,7 @@ use Rattle.lease_book.specs.declared.answers.Answer.{Answer}
 use Rattle.lease_book.specs.declared.answers.Answer.TheVariants as answer
 use Rattle.lease_history.specs.Told.{IsTellable, reply_to, reply_to_answer}
 use Rattle.lease_machine.specs.Conversations.{CanName}
-use Rattle.lease_machine.specs.Picture.{arena_named}
+use Rattle.arena_tree.specs.Trees.{arena_named}
 use Rattle.lease_machine.proofs.KnownAnswers.{IsKnown}
 
 not_repeated : (book : BookState) (a : Account) (id : RequestId) (v : ReceiptState) → IsNew a id → IsRepeated book a id v → ⊥

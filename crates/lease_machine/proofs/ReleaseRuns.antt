@@ -24,7 +24,8 @@ use Rattle.lease_history.specs.Told.{IsTellable, reply_to}
 use Rattle.lease_machine.specs.Conversations.{BookDoes, RunsCall, AnswersRequest}
 use Rattle.lease_machine.specs.Held.{parts_in, with_parts}
 use Rattle.lease_machine.specs.Machine.{RequestStep}
-use Rattle.lease_machine.specs.Picture.{Picture, IsPicture, arena_named, IsHeld}
+use Rattle.lease_machine.specs.Picture.{Picture, IsPicture, IsHeld}
+use Rattle.arena_tree.specs.Trees.{arena_named}
 use Rattle.lease_machine.proofs.BookMoves.{released_in_hand, released_book}
 use Rattle.lease_machine.proofs.Ending.{Ends, ended, alone, answered_ends, refusal_ends}
 use Rattle.lease_machine.proofs.HeldLaws.{hand_is_local}

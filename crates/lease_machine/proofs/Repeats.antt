@@ -25,7 +25,8 @@ use Rattle.lease_book.specs.Answers.{IsNew}
 use Rattle.lease_book.proofs.LawProofs.{entered_changes}
 use Rattle.lease_history.specs.Told.{reply_to, IsKnownReply, IsKeptReply}
 use Rattle.arena_tree.specs.declared.trees.TreeArena.{TreeArena}
-use Rattle.lease_machine.specs.Picture.{Picture, IsPicture, arena_named}
+use Rattle.lease_machine.specs.Picture.{Picture, IsPicture}
+use Rattle.arena_tree.specs.Trees.{arena_named}
 use Rattle.lease_machine.specs.Operators.{Performs, LeavesOff, OperatorStep}
 use Rattle.lease_machine.specs.Machine.{RequestStep, NewRequest, Sweeps, HelloStep, ClientStep, AnswersLine, LeaseStep}
 use Rattle.lease_machine.specs.Laws.{Runs}

@@ -30,7 +30,8 @@ use Rattle.lease_book.specs.ClientLaws.{IsReplyInRange, IsInBounds}
 use Rattle.lease_book.specs.Receipts.{Kept}
 use Rattle.lease_book.proofs.LawProofs.{books_in_bounds}
 use Rattle.lease_history.specs.Told.{reply_to, IsKnownReply}
-use Rattle.lease_machine.specs.Picture.{Picture, IsPicture, arena_named, name_or_none}
+use Rattle.lease_machine.specs.Picture.{Picture, IsPicture}
+use Rattle.arena_tree.specs.Trees.{arena_named, name_or_none}
 use Rattle.lease_machine.specs.Machine.{NewLease, NewRelease, NewRequest, RequestStep, HelloStep}
 use Rattle.lease_machine.specs.AnswerLaws.{reply_bytes, IsKept, IsReadAs, AreNamed, ClientsGetReplies, NamesHello}
 use Rattle.lease_machine.proofs.Repeats.{history_of, request_kept, kept_or}

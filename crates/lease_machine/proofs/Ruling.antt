@@ -20,7 +20,8 @@ use Rattle.lease_proto.specs.declared.replies.Reply.{Reply}
 use Rattle.lease_proto.specs.declared.replies.Reply.TheVariants as reply
 use Rattle.lease_book.specs.Entry.{Grant}
 use Rattle.lease_history.specs.Told.{reply_to}
-use Rattle.lease_machine.specs.Picture.{Picture, IsPicture, arena_named}
+use Rattle.lease_machine.specs.Picture.{Picture, IsPicture}
+use Rattle.arena_tree.specs.Trees.{arena_named}
 use Rattle.local_calls.specs.NoFits.{HasBase}
 use Rattle.lease_proto.specs.Operators.{served_of}
 use Rattle.lease_proto.specs.Requests.{demand_of}

@@ -26,7 +26,8 @@ use Rattle.lease_call.specs.declared.outcomes.Outcome.TheVariants.{Settled, Answ
 use Rattle.lease_history.specs.Told.{IsTellable, reply_to, reply_to_answer, hello_refusal}
 use Rattle.lease_machine.specs.Held.{parts_in, with_parts}
 use Rattle.lease_machine.specs.Machine.{RequestStep, HelloStep}
-use Rattle.lease_machine.specs.Picture.{Picture, IsPicture, SameSetup, arena_named}
+use Rattle.lease_machine.specs.Picture.{Picture, IsPicture, SameSetup}
+use Rattle.arena_tree.specs.Trees.{arena_named}
 
 -- a call of the book is its event, and nothing stops; the parts stay
 abbrev pub BookDoes : (D : Type 0) → BookState → LocalState → (k : BookCall) → AnswerOf D k

@@ -20,7 +20,8 @@ use Rattle.lease_proto.specs.Operators.{served_of}
 use Rattle.lease_book.specs.Account.{Lease, is_lease, is_older, without_first, lease_of}
 use Rattle.lease_book.specs.BookState.{account_in}
 use Rattle.lease_book.specs.Answers.{IsNew}
-use Rattle.lease_machine.specs.Picture.{Picture, IsPicture, arena_named}
+use Rattle.lease_machine.specs.Picture.{Picture, IsPicture}
+use Rattle.arena_tree.specs.Trees.{arena_named}
 use Rattle.lease_machine.specs.Machine.{LeaseStep}
 use Rattle.lease_machine.specs.AnswerLaws.{reply_bytes, IsRequestLine}
 

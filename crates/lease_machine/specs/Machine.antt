@@ -36,7 +36,7 @@ use Rattle.lease_book.specs.Calls.{IsGranted, IsRefused, IsReleased, IsSwept}
 use Rattle.lease_book.specs.declared.books.TheConstants.{MOST_LEASES}
 use Rattle.lease_history.specs.Told.{IsKnownReply, reply_of_settled}
 use Rattle.lease_machine.specs.Picture.{Picture, IsPicture, SameSetup, BookAlone, Finds}
-use Rattle.lease_machine.specs.Picture.{arena_named}
+use Rattle.arena_tree.specs.Trees.{arena_named}
 use Rattle.lease_machine.specs.Moves.{SameNames}
 use Rattle.lease_machine.specs.Chunks.{GoesBack}
 use Rattle.lease_machine.specs.Serving.{CanServe, ServesWith, ServesNone, ServesInVain, FallsBack}

@@ -1,6 +1,6 @@
 -- What is seen of a service of leases between two lines, when nothing is in a hand.
 use Rattle.std.specs.Prelude.{◌≡◌, ◌≢◌, ℕ, ◌≤◌, ◌==◌, Bool, List, [], All, AllPairs}
-use Rattle.std.specs.Prelude.{map, slice_get, Option, Some, None}
+use Rattle.std.specs.Prelude.{map, slice_get, Some}
 use Rattle.std.specs.List.{find, flat_map, AllByRecursion}
 use Rattle.deed_core.specs.Holding.{Holding}
 use Rattle.deed_core.specs.Tag.{Tag}
@@ -49,14 +49,6 @@ held_outside d = outside_with [] d
 -- a CPU with no round, whose magazines are of the least size
 abbrev pub fresh_cpu : ℕ → List SpaceState → NumberedCpu
 fresh_cpu n spaces = record { number = n; caches = new_cpu 3 (plans_of spaces) }
-
-abbrev pub name_or_none : Option TreeArena → List ℕ
-name_or_none None = []
-name_or_none (Some x) = x.name
-
--- the name of the arena at the index
-abbrev pub arena_named : List TreeArena → ℕ → List ℕ
-arena_named tree index = name_or_none (slice_get tree index)
 
 -- a grant is of one of the arenas, and was made by its quantum
 abbrev pub IsSettledIn : List TreeArena → Settlement → Type 0

@@ -36,7 +36,8 @@ use Rattle.lease_book.specs.Answers.{IsNew}
 use Rattle.lease_book.specs.declared.books.TheConstants.{MOST_LEASES}
 use Rattle.lease_history.specs.Told.{reply_to, IsKnownReply}
 use Rattle.lease_proto.specs.Serving.{ServesLines}
-use Rattle.lease_machine.specs.Picture.{Picture, IsPicture, Finds, SameSetup, arena_named}
+use Rattle.lease_machine.specs.Picture.{Picture, IsPicture, Finds, SameSetup}
+use Rattle.arena_tree.specs.Trees.{arena_named}
 use Rattle.lease_machine.specs.Serving.{CanServe}
 use Rattle.lease_machine.specs.Operators.{OperatorStep}
 use Rattle.lease_machine.specs.Machine.{LeaseStep, TakesDemand, RefusesRelease}

@@ -22,7 +22,8 @@ use Rattle.lease_proto.specs.Reports.{ok_text}
 use Rattle.lease_book.specs.Answers.{IsNew}
 use Rattle.lease_book.specs.BookState.{account_in}
 use Rattle.lease_book.specs.Reports.{report_of}
-use Rattle.lease_machine.specs.Picture.{Picture, IsPicture, SameSetup, BookAlone, arena_named}
+use Rattle.lease_machine.specs.Picture.{Picture, IsPicture, SameSetup, BookAlone}
+use Rattle.arena_tree.specs.Trees.{arena_named}
 use Rattle.lease_machine.specs.Operators.{Resizes, with_cpu, with_depots_by, audit_texts_of}
 use Rattle.lease_machine.specs.Operators.{client_text_of}
 use Rattle.lease_machine.specs.Machine.{LeaseStep, RefusesLease, Releases, RefusesRelease}

@@ -4,7 +4,7 @@ ghost use Rattle.lease_history.specs.Told.{IsTellable, reply_to, reply_to_answer
 ghost use Rattle.lease_history.specs.Told.{hello_refusal};
 ghost use Rattle.lease_proto.specs.declared.replies.Reply.TheVariants as replies;
 ghost use Rattle.lease_machine.specs.Conversations.{CanName, CanTell, reply_of_outcome};
-ghost use Rattle.lease_machine.specs.Picture.{arena_named};
+ghost use Rattle.arena_tree.specs.Trees.{arena_named};
 
 use arena_tree::Tree;
 use deed_core::PlainDeed;
