@@ -15,3 +15,5 @@ pub mod LawLemmas
 pub mod LawProofs
 pub mod LeasesIn
 pub mod FirstLemmas
+pub mod TotalLemmas
+pub mod CountLemmas

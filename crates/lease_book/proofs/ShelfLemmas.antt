@@ -189,23 +189,6 @@ pub limited_after : {T E : Type 0} (r : Result T E) (l m : List Lease) (x : Leas
 limited_after (Ok t) l m x room ok err = omega (arith, ap length ok, length-append l (x ∷ []))
 limited_after (Err e) l m x room ok err = omega (arith, ap length err)
 
-pub leased_after : {T E : Type 0} (r : Result T E) (es : List (ℕ × Standing)) (ls : List (List Lease)) (accounts : List Account) (i : ℕ) (l m : List Lease) (x : Lease)
-    → accounts_of es ls ≡ accounts → l ≡ get_or ls i l → OnOk r (m ≡ l ++ x ∷ [])
-    → OnOk r (accounts_of es (set ls i m) ≡ update_at accounts i (with_leases (λ ys. ys ++ x ∷ [])))
-leased_after (Ok t) es ls accounts i l m x is at ok =
-    ap (λ (y : List Lease). accounts_of es (set ls i y)) ok ∙ write_leases (λ ys. ys ++ x ∷ []) es ls i l at ∙ ap (λ (xs : List Account). update_at xs i (with_leases (λ ys. ys ++ x ∷ []))) is
-leased_after (Err e) es ls accounts i l m x is at ok = tt
-
-pub unleased_after : {T E : Type 0} (r : Result T E) (es : List (ℕ × Standing)) (ls : List (List Lease)) (accounts : List Account) (i : ℕ) (l m : List Lease)
-    → accounts_of es ls ≡ accounts → l ≡ get_or ls i l → OnErr r (m ≡ l) → OnErr r (accounts_of es (set ls i m) ≡ accounts)
-unleased_after (Ok t) es ls accounts i l m is at err = tt
-unleased_after (Err e) es ls accounts i l m is at err = ap (accounts_of es) (set_same ls i l m at err) ∙ is
-
-pub untaken_after : {T : Type 0} (r : Option T) (es : List (ℕ × Standing)) (ls : List (List Lease)) (accounts : List Account) (i : ℕ) (l m : List Lease)
-    → accounts_of es ls ≡ accounts → l ≡ get_or ls i l → IfNone r (m ≡ l) → IfNone r (accounts_of es (set ls i m) ≡ accounts)
-untaken_after (Some t) es ls accounts i l m is at none = tt
-untaken_after None es ls accounts i l m is at none = ap (accounts_of es) (set_same ls i l m at none) ∙ is
-
 -- a new client's account, with no leases, goes last
 pub opened_shelf : (es new_es : List (ℕ × Standing)) (ls new_ls : List (List Lease)) (l : List Lease) (c : ℕ) (s : Standing) → IsShelf es ls → IsClient c
     → new_es ≡ es ++ (c, s) ∷ [] → new_ls ≡ ls ++ l ∷ [] → l ≡ [] → IsDistinct nat_eq (keys_of new_es) → IsShelf new_es new_ls

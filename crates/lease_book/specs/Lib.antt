@@ -5,6 +5,7 @@ pub mod Shelf
 pub mod Places
 pub mod History
 pub mod BookState
+pub mod Totals
 pub mod Answers
 pub mod Calls
 pub mod Reports

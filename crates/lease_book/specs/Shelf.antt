@@ -5,8 +5,10 @@ use Rattle.std.specs.Map.{keys_of}
 use Rattle.std.specs.List.{IsDistinct}
 use Rattle.lease_terms.specs.Ranges.{IsClient}
 use Rattle.lease_book.specs.Account.{Lease, Account}
+use Rattle.lease_book.specs.Totals.{IsCounted}
 use Rattle.lease_book.specs.declared.accounts.Standing.{Standing}
 use Rattle.lease_book.specs.declared.books.TheConstants.{MOST_LEASES}
+use Rattle.lease_book.specs.declared.totals.Total.{Total}
 use Rattle.lease_terms.specs.declared.values.TheConstants.{LAST_CLIENT}
 
 -- none of the leases is of an incarnation before the least
@@ -42,10 +44,12 @@ IsEmptyBefore zero ls = Unit {0}
 IsEmptyBefore (suc i) [] = Unit {0}
 IsEmptyBefore (suc i) (l ∷ ls) = (l ≡ []) × IsEmptyBefore i ls
 
--- the accounts as they are stored, none before this index with a lease
-pub record IsStored (es : List (ℕ × Standing)) (ls : List (List Lease)) (empty : ℕ) : Type 0 where
+-- the accounts as they are stored, none before this index with a lease, and the totals of the arenas
+pub record IsStored (es : List (ℕ × Standing)) (ls : List (List Lease)) (empty : ℕ)
+    (totals : List Total) : Type 0 where
   pub shelf : IsShelf es ls
   pub before : IsEmptyBefore empty ls
+  pub counted : IsCounted ls totals
 
 -- the list with the member at an index changed
 abbrev pub update_at : {X : Type 0} → List X → ℕ → (X → X) → List X

@@ -6,7 +6,6 @@ ghost use Rattle.std.specs.List.{find};
 ghost use Rattle.lease_terms.specs.declared.values.TheConstants.{LAST_CLIENT};
 ghost use Rattle.lease_book.specs.Receipts.{IsEarned};
 ghost use Rattle.lease_book.specs.Account.{Account, number_of, without_first};
-ghost use Rattle.lease_book.specs.BookState.{units_of_lease};
 ghost use Rattle.lease_book.specs.Places.{is_asked};
 ghost use Rattle.lease_book.specs.Shelf.{IsEmptyBefore};
 ghost use Rattle.lease_book.specs.declared.books.TheConstants.{MOST_LEASES};
@@ -14,6 +13,7 @@ ghost use Rattle.lease_book.specs.declared.books.TheConstants.{MOST_LEASES};
 use crate::leases::{Held, Leases, Which};
 use crate::receipts::{Kept, KeptReply, Terms};
 use crate::reports::ClientReport;
+use crate::totals::Totals;
 use deed_core::{Deed, Segment};
 use indexmap::IndexMap;
 use lease_terms::{ClientId, Ordinal, Quantity, RequestId};
@@ -50,12 +50,14 @@ impl Standing {
 
 /// What is kept of each client, and beside it its leases. No client before the index `empty` has a
 /// lease: so a search for a client that has one needn't begin from the first each time. A client is
-/// looked for first at the index `near`, where it was last gone to.
+/// looked for first at the index `near`, where it was last gone to. How many units of each arena are
+/// leased is counted with each lease that comes and goes.
 pub(crate) struct Accounts<D: Deed> {
     clients: IndexMap<ClientId, Standing>,
     leases: Vec<Leases<D>>,
     empty: usize,
     near: usize,
+    totals: Totals,
 }
 
 impl<D: Deed> Model for Accounts<D> {
@@ -67,7 +69,7 @@ impl<D: Deed> Model for Accounts<D> {
 
     ghost view = { λ a. accounts_of a.clients.entries a.leases.items };
 
-    ghost invariant = { λ a. IsStored a.clients.entries a.leases.items a.empty };
+    ghost invariant = { λ a. IsStored a.clients.entries a.leases.items a.empty a.totals };
 }
 
 impl<D: Deed> Accounts<D> {
@@ -84,6 +86,7 @@ impl<D: Deed> Accounts<D> {
             leases: Vec::new(alloc),
             empty: 0,
             near: 0,
+            totals: Totals::new(alloc),
         }
     }
 
@@ -206,8 +209,18 @@ impl<D: Deed> Accounts<D> {
         ensures unchanged { OnErr result (self.new ≡ self.old) }
         ensures handed_back { IfErr result (λ s. s ≡ held.segment) }
     {
+        let (arena, units) = held.arena_and_units();
+        let Ok(()) = self.totals.add(arena, units) else {
+            return Err(held.into_segment());
+        };
         self.empty = self.empty.min(index);
-        self.leases[index].add(held)
+        match self.leases[index].add(held) {
+            Ok(()) => Ok(()),
+            Err(segment) => {
+                self.totals.subtract(arena, units);
+                Err(segment)
+            }
+        }
     }
 
     /// Takes the first lease out that is asked for.
@@ -220,7 +233,10 @@ impl<D: Deed> Accounts<D> {
             (with_leases (without_first (is_asked which))) }
         ensures unchanged { IfNone result (self.new ≡ self.old) }
     {
-        self.leases[index].take(which)
+        let held = self.leases[index].take(which)?;
+        let (arena, units) = held.arena_and_units();
+        self.totals.subtract(arena, units);
+        Some(held)
     }
 
     /// The index of a client that has a lease. The search goes on where the one before ended.
@@ -266,7 +282,7 @@ impl<D: Deed> Accounts<D> {
     pub(crate) fn units(&self, arena: u32) -> u128
         ensures { result ≡ sum_by (units_of_arena arena) (segments_of_accounts self.now) }
     {
-        units_of(&self.leases, arena)
+        self.totals.of(arena)
     }
 
     /// Ends accounts that have no leases.
@@ -278,6 +294,7 @@ impl<D: Deed> Accounts<D> {
             leases,
             empty: _empty,
             near: _near,
+            totals: _totals,
         } = self;
         close_all(leases);
     }
@@ -295,18 +312,6 @@ fn first_leased<D: Deed>(leases: &[Leases<D>], empty: usize) -> Option<usize>
         }
     }
     None
-}
-
-fn units_of<D: Deed>(leases: &[Leases<D>], arena: u32) -> u128
-    requires few { length leases.now ≤ LAST_CLIENT }
-    requires limited { All (λ l. length l ≤ MOST_LEASES) leases.now }
-    ensures { result ≡ sum_by (λ l. sum_by (units_of_lease arena) l) leases.now }
-{
-    let mut units: u128 = 0;
-    for one in leases {
-        units += one.units(arena);
-    }
-    units
 }
 
 fn close_all<D: Deed>(mut leases: Vec<Leases<D>>)

@@ -1,11 +1,9 @@
 //! Some leases of a client in a list, in order of grant. A search reads through it, so it is for
 //! few.
 ghost use Rattle.std.specs.Prelude.{◌≡◌, ◌+◌, ◌*◌, ◌<◌, ◌≤◌, [], ◌∷◌, ◌++◌, length, OnOk, OnErr};
-ghost use Rattle.std.specs.Prelude.{IfOk, IfErr, IfNone, true, position, sum_by};
+ghost use Rattle.std.specs.Prelude.{IfOk, IfErr, IfNone, true, position};
 ghost use Rattle.std.specs.List.{find, list_any};
-ghost use Rattle.lease_terms.specs.declared.values.TheConstants.{LARGEST};
 ghost use Rattle.lease_book.specs.Account.{is_lease, is_older, without_first};
-ghost use Rattle.lease_book.specs.BookState.{units_of_lease};
 ghost use Rattle.lease_book.specs.Places.{is_asked, leases_in};
 ghost use Rattle.lease_book.specs.declared.places.TheConstants.{CHAINS_EACH};
 
@@ -58,13 +56,6 @@ impl<D: Deed> BoxedLease<D> {
         ensures { result ≡ is_older incarnation self.now }
     {
         self.held.is_older(incarnation)
-    }
-
-    fn units(&self, arena: u32) -> u64
-        ensures value { result ≡ units_of_lease arena self.now }
-        ensures bound { result ≤ LARGEST }
-    {
-        self.held.units(arena)
     }
 
     /// The lease out of its box.
@@ -145,18 +136,6 @@ impl<D: Deed> LeaseList<D> {
         ensures { result ≡ list_any (is_older incarnation) self.now }
     {
         first_older(&self.held, incarnation).is_some()
-    }
-
-    /// The units of the arena that are leased.
-    pub(crate) fn units(&self, arena: u32) -> u128
-        ensures value { result ≡ sum_by (units_of_lease arena) self.now }
-        ensures bound { result ≤ length self.now * LARGEST }
-    {
-        let mut units: u128 = 0;
-        for held in &self.held {
-            units += held.units(arena) as u128;
-        }
-        units
     }
 
     /// Moves all leases to places that have room for them.

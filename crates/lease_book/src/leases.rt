@@ -1,11 +1,10 @@
 //! The leases of one client, in order of grant.
-ghost use Rattle.std.specs.Prelude.{◌≡◌, ◌*◌, ◌<◌, ◌≤◌, [], ◌∷◌, ◌++◌, length, OnOk, OnErr};
-ghost use Rattle.std.specs.Prelude.{IfErr, IfNone, sum_by, All};
+ghost use Rattle.std.specs.Prelude.{◌≡◌, ◌<◌, ◌≤◌, [], ◌∷◌, ◌++◌, length, OnOk, OnErr};
+ghost use Rattle.std.specs.Prelude.{IfErr, IfNone, All};
 ghost use Rattle.std.specs.List.{find, list_any};
-ghost use Rattle.lease_terms.specs.declared.values.TheConstants.{LARGEST};
+ghost use Rattle.deed_core.specs.Extent.{IsRange};
 ghost use Rattle.lease_book.specs.Account.{Lease, is_lease, is_older, lease_of};
 ghost use Rattle.lease_book.specs.Account.{granted_request, without_first};
-ghost use Rattle.lease_book.specs.BookState.{units_of_lease};
 ghost use Rattle.lease_book.specs.Places.{is_asked, leases_in};
 ghost use Rattle.lease_book.specs.declared.books.TheConstants.{MOST_LEASES};
 
@@ -99,16 +98,13 @@ impl<D: Deed> Held<D> {
         (id, segment)
     }
 
-    /// The units of it that are the arena's.
-    pub(crate) fn units(&self, arena: u32) -> u64
-        ensures value { result ≡ units_of_lease arena self.now }
-        ensures bound { result ≤ LARGEST }
+    /// Its arena, and how many units of it are leased.
+    pub(crate) fn arena_and_units(&self) -> (u32, u64)
+        ensures arena { result.0 ≡ self.now.segment.arena }
+        ensures units { result.1 ≡ self.now.segment.holding.range.len }
+        ensures range { IsRange self.now.segment.holding.range }
     {
-        if self.segment.arena() == arena {
-            self.segment.range().len()
-        } else {
-            0
-        }
+        (self.segment.arena(), self.segment.range().len())
     }
 }
 
@@ -220,15 +216,6 @@ impl<D: Deed> Leases<D> {
             return self.least;
         }
         incarnation.get()
-    }
-
-    /// The units of the arena that are leased.
-    pub(crate) fn units(&self, arena: u32) -> u128
-        requires { length self.now ≤ MOST_LEASES }
-        ensures value { result ≡ sum_by (units_of_lease arena) self.now }
-        ensures bound { result ≤ MOST_LEASES * LARGEST }
-    {
-        self.few.units(arena) + self.places.units(arena)
     }
 
     /// Ends an empty list.

@@ -21,10 +21,12 @@
 //! takes the same time too, but that now and then all leases of its client get new places: two are
 //! moved for each grant, on average; and that the first after a greater hello looks at each. A
 //! sweep, and `can_sweep` after a greater hello, look at a client's places from where the last
-//! sweep found a lease on, at most at half as many again as `MOST_LEASES` and four, and `units` at
-//! all. Ending all leases one by one looks at each client once. A book keeps a few words for each
-//! client that ever said hello. A lease takes some 80 bytes while its client has few, and 70 to 110
-//! and more in places, which stay until all are renewed or the last lease in them ends.
+//! sweep found a lease on, at most at half as many again as `MOST_LEASES` and four. `units` looks at
+//! the totals of the arenas that ever had a lease, and so does each grant and each end of a lease,
+//! which change one of them. Ending all leases one by one looks at each client once. A book keeps a
+//! few words for each client that ever said hello. A lease takes some 80 bytes while its client has
+//! few, and 70 to 110 and more in places, which stay until all are renewed or the last lease in
+//! them ends.
 #![tactic(auto)]
 
 mod accounts;
@@ -36,6 +38,7 @@ mod leases;
 mod places;
 mod receipts;
 mod reports;
+mod totals;
 
 pub use answers::{Answer, HelloFault, Look, NotLeased};
 pub use books::{Book, MOST_LEASES};

@@ -4,12 +4,10 @@
 //! of a chain, the last of them first (chained hashing; which lease goes on which chain is our
 //! own choice).
 ghost use Rattle.std.specs.Prelude.{◌≡◌, ◌+◌, ◌*◌, ◌/◌, ◌<◌, ◌≤◌, [], ◌∷◌, ◌++◌, length};
-ghost use Rattle.std.specs.Prelude.{Some, None, IfOk, OnOk, OnErr, IfNone, position, sum_by};
+ghost use Rattle.std.specs.Prelude.{Some, None, IfOk, OnOk, OnErr, IfNone, position};
 ghost use Rattle.std.specs.Prelude.{is_some, nat_le};
 ghost use Rattle.std.specs.List.{find, list_any};
-ghost use Rattle.lease_terms.specs.declared.values.TheConstants.{LARGEST};
 ghost use Rattle.lease_book.specs.Account.{Lease, is_lease, is_older, without_first};
-ghost use Rattle.lease_book.specs.BookState.{units_of_lease};
 ghost use Rattle.lease_book.specs.Places.{leases_in, is_asked, holds, chain_of, EmptyBefore};
 ghost use Rattle.lease_book.specs.declared.books.TheConstants.{MOST_LEASES};
 ghost use Rattle.lease_book.specs.declared.places.TheConstants.{CHAINS_EACH, MOST_PLACES};
@@ -67,16 +65,6 @@ impl<D: Deed> Place<D> {
         match &self.held {
             Some(held) => held.is_older(incarnation),
             None => false,
-        }
-    }
-
-    fn units(&self, arena: u32) -> u64
-        ensures value { result ≡ sum_by (units_of_lease arena) (leases_in (self.now ∷ [])) }
-        ensures bound { result ≤ length (leases_in (self.now ∷ [])) * LARGEST }
-    {
-        match &self.held {
-            Some(held) => held.units(arena),
-            None => 0,
         }
     }
 
@@ -294,18 +282,6 @@ impl<D: Deed> Places<D> {
         ensures { result ≡ list_any (is_older incarnation) (leases_in self.now.places) }
     {
         first_older(&self.places, self.empty, incarnation).is_some()
-    }
-
-    /// The units of the arena that are leased.
-    pub(crate) fn units(&self, arena: u32) -> u128
-        ensures value { result ≡ sum_by (units_of_lease arena) (leases_in self.now.places) }
-        ensures bound { result ≤ length (leases_in self.now.places) * LARGEST }
-    {
-        let mut units: u128 = 0;
-        for place in &self.places {
-            units += place.units(arena) as u128;
-        }
-        units
     }
 
     /// Ends places without leases.

@@ -13,6 +13,7 @@ pub invariant_of-self : goal.invariant_of-self
 invariant_of-self g c = record {
   shelf = c.self.invariant.shelf;
   before = subst (λ (ls : List (List Lease)). IsEmptyBefore c.in_ok-index.index ls) c.deref.ensures.value c.in_ok-index.ensures.before;
+  counted = c.self.invariant.counted;
 }
 
 pub returns-in_err-index-clause-none : goal.returns-in_err-index-clause-none

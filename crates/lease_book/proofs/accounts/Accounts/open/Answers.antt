@@ -1,7 +1,9 @@
 use Rattle.std.proofs.Common.{List, ◌∷◌, [], ◌++◌, ap, sym, subst, ◌∙◌}
 use Rattle.lease_book.specs.Account.{Lease}
 use Rattle.lease_book.specs.Shelf.{IsEmptyBefore}
+use Rattle.lease_book.specs.Totals.{IsCounted}
 use Rattle.lease_book.proofs.ShelfLemmas.{inserted, opened_shelf, opened_accounts, empty_push}
+use Rattle.lease_book.proofs.CountLemmas.{counted_push}
 use Rattle.lease_book.proofs.accounts.Accounts.open.Goals as goal
 
 pub invariant_of-self-2 : goal.invariant_of-self-2
@@ -11,6 +13,7 @@ invariant_of-self-2 g c =
     record {
       shelf = opened_shelf _ _ _ _ _ _ _ c.self.invariant.shelf c.get.ensures.range entries leases c.new-leases.ensures c.in-Ok.ensures.unique;
       before = subst (IsEmptyBefore c.self.inside.empty) (sym (leases ∙ ap (λ (x : List Lease). c.self.inside.leases.items ++ x ∷ []) c.new-leases.ensures)) (empty_push _ _ c.self.invariant.before);
+      counted = subst (λ (xs : List (List Lease)). IsCounted xs c.self.inside.totals) (sym (leases ∙ ap (λ (x : List Lease). c.self.inside.leases.items ++ x ∷ []) c.new-leases.ensures)) (counted_push _ _ c.self.invariant.counted);
     }
 
 pub returns-clause-ok : goal.returns-clause-ok

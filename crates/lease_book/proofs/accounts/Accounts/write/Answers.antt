@@ -11,6 +11,7 @@ pub invariant_of-self : goal.invariant_of-self
 invariant_of-self g c = record {
   shelf = shelf_write c.self.inside.clients.entries c.self.inside.leases.items c.args.index c.args.standing c.self.invariant.shelf;
   before = c.self.invariant.before;
+  counted = c.self.invariant.counted;
 }
 
 pub returns : goal.returns
