@@ -99,6 +99,7 @@ impl StepCount {
             → (self.old.noted ≡ true) ⊎ MayStop G.may_stop gate.now }
         ensures stops { result ≡ true → MayStop G.may_stop gate.now }
         ensures told { result ≡ true → self.new.noted ≡ true }
+        ensures same { result ≡ false → self.new.noted ≡ self.old.noted }
         ensures kept { self.old.noted ≡ true → self.new.noted ≡ true }
     {
         let step = NextStep {

@@ -50,6 +50,7 @@ impl<'a, N: Name, R: Wait, G: Gate> Running<'a, N, R, G> {
         ensures caches { result.caches.now ≡ caches.old }
         ensures loan { result.caches.ghost_name ≡ caches.entry.ghost_name }
         ensures unstopped { result.steps.noted ≡ false }
+        ensures uncounted { result.count ≡ 0 }
     {
         Running {
             parts,
@@ -67,7 +68,8 @@ impl<N: Name, R: Wait, G: Gate> Parts<Segment<SeatDeed<N>>> for Running<'_, N, R
         NotesStops G.may_stop s.gate.now t.gate.now s.steps.noted t.steps.noted
         × (t.caches.ghost_name ≡ s.caches.ghost_name)
         × AreForSame s.caches.now.items t.caches.now.items
-        × (is_stopped e a ≡ true → t.steps.noted ≡ true) };
+        × (is_stopped e a ≡ true → t.steps.noted ≡ true)
+        × (is_stopped e a ≡ false → t.steps.noted ≡ s.steps.noted) };
 
     ghost tree = { λ s. nodes_of s.parts.now.arenas };
 
