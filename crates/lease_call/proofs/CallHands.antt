@@ -33,8 +33,9 @@ use Rattle.lease_call.specs.Calls.{BookCall, AnswerOf, Look, Settle, Refuse, Rel
 use Rattle.lease_call.specs.CallPlans.{CallPlan, Done, Part, Call, over_parts}
 use Rattle.lease_call.specs.Greeting.{on_sweep, sweep_plan, on_hello, greet_plan}
 use Rattle.lease_call.specs.Hands.{on_place, hand_first}
-use Rattle.lease_call.specs.Kept.{released, swept, not_leased, CallBeginsWith, hand_after_call, CallHandles, put_in, taken_out, put_in_book, taken_out_of_book, HandsBack, put_first, KeepsAll, call_left}
-use Rattle.lease_call.specs.Laws.{RequestHandles, HelloHandles, RequestKeeps, HelloKeeps, EventHandsBack, StopHandsBack}
+use Rattle.lease_call.specs.Answered.{AnsweredStep, EndsTold}
+use Rattle.lease_call.specs.Kept.{released, swept, not_leased, CallBeginsWith, hand_after_call, CallHandles, put_in, taken_out, put_in_book, taken_out_of_book, HandsBack, put_first, came_in, gone_out, IsAllKept, call_left}
+use Rattle.lease_call.specs.Laws.{RequestHandles, HelloHandles, RequestKeeps, HelloKeeps, EventHandsBack}
 use Rattle.lease_call.specs.Leasing.{is_plain, carve_end, take_steps, take_plan, on_settle, on_take, lease_at, on_look}
 use Rattle.lease_call.specs.Placing.{place_plan}
 use Rattle.lease_call.specs.Releasing.{CallEnd, on_refuse, on_release, release_at}
@@ -192,16 +193,16 @@ module _ (nodes : List Node) (hand : Option Tag) (came gone : List Tag) (kept : 
   call_keeps D (Sweep client) x is s = moved hand None (swept x) came gone is kept
 
 -- what is asked with the hand that it needs keeps all
-keeps : {D A : Type 0} (nodes : List Node) (left : A → Option Tag) (p : CallPlan D A) (hand : Option Tag) (came gone : List Tag) → came ≡ put_first hand gone → CallHandles left p hand → KeepsAll nodes left p came gone
-keeps nodes left (Done a) hand came gone kept w = kept ∙ ap (λ h. put_first h gone) w
-keeps nodes left (Part e f) hand came gone kept w = λ x s. keeps nodes left (f x) (hand_after e x hand) _ _ (step_keeps nodes hand came gone kept e x w.0 s) (w.1 x)
-keeps {D = D} nodes left (Call k f) hand came gone kept w = λ x s. keeps nodes left (f x) (hand_after_call D k x) _ _ (call_keeps nodes hand came gone kept D k x w.0 s) (w.1 x)
+keeps : {D A : Type 0} (nodes : List Node) (left : A → Option Tag) (first : Option Tag) (p : CallPlan D A) (hand : Option Tag) (told : List (AnsweredStep D)) → IsAllKept first hand told → CallHandles left p hand → EndsTold (Sound nodes) (HandsBack D) (λ now r. IsAllKept first (left r) now) p told
+keeps nodes left first (Done a) hand told kept w = kept ∙ ap (λ h. put_first h (gone_out told)) w
+keeps nodes left first (Part e f) hand told kept w = λ x s. keeps nodes left first (f x) (hand_after e x hand) _ (step_keeps nodes hand (came_in first told) (gone_out told) kept e x w.0 s) (w.1 x)
+keeps {D = D} nodes left first (Call k f) hand told kept w = λ x s. keeps nodes left first (f x) (hand_after_call D k x) _ (call_keeps nodes hand (came_in first told) (gone_out told) kept D k x w.0 s) (w.1 x)
 
 pub request_keeps : (D : Type 0) → RequestKeeps D
-request_keeps D arenas hand id op = keeps (nodes_of arenas) call_left _ hand (put_first hand []) [] refl (request_handles D arenas hand id op)
+request_keeps D arenas hand id op = keeps (nodes_of arenas) call_left hand _ hand [] refl (request_handles D arenas hand id op)
 
 pub hello_keeps : (D : Type 0) → HelloKeeps D
-hello_keeps D arenas hand h turns = keeps (nodes_of arenas) call_left _ hand (put_first hand []) [] refl (line_handles D arenas hand h turns)
+hello_keeps D arenas hand h turns = keeps (nodes_of arenas) call_left hand _ hand [] refl (line_handles D arenas hand h turns)
 
 -- a book hands back what it doesn't lease
 pub event_hands_back : (D : Type 0) → EventHandsBack D
@@ -213,13 +214,3 @@ event_hands_back D b c (Refuse id why) x event = tt
 event_hands_back D b c (Release id arena base) x event = tt
 event_hands_back D b c (Hello client incarnation) x event = tt
 event_hands_back D b c (Sweep client) x event = tt
-
-pub stop_hands_back : (D : Type 0) → StopHandsBack D
-stop_hands_back D (Look id) x stopped = tt
-stop_hands_back D (Settle id given terms) (Ok r) stopped = tt
-stop_hands_back D (Settle id given terms) (Err (settling.NotLeased n)) stopped = absurd stopped
-stop_hands_back D (Settle id given terms) (Err (settling.Stopped t)) stopped = stopped
-stop_hands_back D (Refuse id why) x stopped = tt
-stop_hands_back D (Release id arena base) x stopped = tt
-stop_hands_back D (Hello client incarnation) x stopped = tt
-stop_hands_back D (Sweep client) x stopped = tt

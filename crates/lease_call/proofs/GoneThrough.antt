@@ -6,7 +6,7 @@ use Rattle.arena_tree.specs.Plans as plans
 use Rattle.arena_tree.specs.Chains.{Node}
 use Rattle.arena_tree.specs.Plans.{Plan, Gives}
 use Rattle.arena_tree.specs.Sound.{Sound}
-use Rattle.lease_call.specs.Answered.{GoneThrough, EndsWell}
+use Rattle.lease_call.specs.Answered.{GoneThrough, EndsWell, AnsweredStep, EndsTold, answers_along}
 use Rattle.lease_call.specs.Calls.{BookCall, AnswerOf}
 use Rattle.lease_call.specs.CallPlans.{CallPlan, Done, Part, Call, over_parts, CallPath}
 use Rattle.lease_call.specs.CallTags.{tag_end}
@@ -31,6 +31,13 @@ pub gone_ends : {D A : Type 0} (sound : (e : Event) → AnswerTo e → Type 0) (
 gone_ends sound known post (Done y) a d w = subst post d w
 gone_ends sound known post (Part e f) a d w = gone_ends sound known post (f d.0) a d.2 (w d.0 d.1)
 gone_ends sound known post (Call k f) a d w = gone_ends sound known post (f d.0) a d.2 (w d.0 d.1)
+
+-- what is so whatever such answers come is so of those that came
+pub ends_along : {D A : Type 0} (sound part : (e : Event) → AnswerTo e → Type 0) (known book : (k : BookCall) → AnswerOf D k → Type 0) → ((e : Event) (x : AnswerTo e) → part e x → sound e x) → ((k : BookCall) (x : AnswerOf D k) → book k x → known k x)
+    → (post : List (AnsweredStep D) → A → Type 0) (p : CallPlan D A) (told : List (AnsweredStep D)) (a : A) (d : GoneThrough part book p a) → EndsTold sound known post p told → post (answers_along part book p a d told) a
+ends_along sound part known book is of post (Done y) told a d w = subst (post told) d w
+ends_along sound part known book is of post (Part e f) told a d w = ends_along sound part known book is of post (f d.0) _ a d.2 (w d.0 (is e d.0 d.1))
+ends_along sound part known book is of post (Call k f) told a d w = ends_along sound part known book is of post (f d.0) _ a d.2 (w d.0 (of k d.0 d.1))
 
 -- whatever the parts answer
 pub ends_over : {D X A : Type 0} (sound : (e : Event) → AnswerTo e → Type 0) (known : (k : BookCall) → AnswerOf D k → Type 0) (post : A → Type 0) (p : Plan X) (next : X → CallPlan D A) → ((x : X) → EndsWell sound known post (next x)) → EndsWell sound known post (over_parts p next)

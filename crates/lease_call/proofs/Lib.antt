@@ -8,3 +8,5 @@ mod CallBounds
 mod CallHands
 mod NoFitAsks
 mod Unplaced
+mod PartStops
+mod CallStops

@@ -8,9 +8,10 @@ use Rattle.deed_core.specs.declared.requests.Request.{Request}
 use Rattle.lease_terms.specs.Requests.{RequestId}
 use Rattle.arena_tree.specs.Chains.{Node, IsChain, amount_of}
 use Rattle.arena_tree.specs.Climbs.{ClimbEnd, ReturnEnd}
-use Rattle.arena_tree.specs.Events.{Carve}
+use Rattle.arena_tree.specs.Events.{AnswerTo, Carve}
 use Rattle.arena_tree.specs.Plans as plans
 use Rattle.arena_tree.specs.Plans.{Plan}
+use Rattle.arena_tree.specs.Sound.{Sound}
 use Rattle.arena_tree.specs.Told.{AnsweredEvent, Tells}
 use Rattle.arena_tree.specs.Trees.{IsTree, index_in, nodes_of}
 use Rattle.arena_tree.specs.declared.levels.Level.{Level}
@@ -32,15 +33,16 @@ use Rattle.lease_proto.specs.Requests.{demand_of}
 use Rattle.lease_proto.specs.declared.lines.LeaseLine.{LeaseLine}
 use Rattle.lease_proto.specs.declared.lines.Op.{Op}
 use Rattle.lease_proto.specs.declared.lines.Op.TheVariants as ops
-use Rattle.lease_call.specs.CallPlans.{CallPlan, Done, over_parts}
-use Rattle.lease_call.specs.Calls.{BookCall}
+use Rattle.lease_call.specs.Answered.{AnsweredStep, EndsTold}
+use Rattle.lease_call.specs.CallPlans.{CallPlan, Done, Part, Call, over_parts}
+use Rattle.lease_call.specs.Calls.{BookCall, AnswerOf}
 use Rattle.lease_call.specs.Hands.{on_place, place_first, hand_first}
 use Rattle.lease_call.specs.Laws.{NoFitIsLast}
 use Rattle.lease_call.specs.Leasing.{is_plain, carve_end, take_steps, take_plan, on_settle, on_take, lease_at, on_look}
-use Rattle.lease_call.specs.Refusing.{AsksAfter, LastFoundNone, NoFitAfter}
+use Rattle.lease_call.specs.Refusing.{AskedAfter, LastFoundNone, NoFitAfter, of_parts}
 use Rattle.lease_call.specs.Placing.{place_plan}
 use Rattle.lease_call.specs.Releasing.{CallEnd, on_release, release_at}
-use Rattle.lease_call.specs.Requesting.{op_plan}
+use Rattle.lease_call.specs.Requesting.{op_plan, request_plan}
 use Rattle.lease_call.specs.declared.call_faults.CallFault.{CallFault}
 use Rattle.lease_call.specs.declared.call_faults.NotReleased.{NotReleased}
 use Rattle.lease_call.specs.declared.call_faults.NotReleased.TheVariants as releasing
@@ -48,6 +50,12 @@ use Rattle.lease_call.specs.declared.call_faults.NotSettled.{NotSettled}
 use Rattle.lease_call.specs.declared.call_faults.NotSettled.TheVariants as settling
 use Rattle.lease_call.specs.declared.outcomes.Outcome.TheVariants.{Settled, Answered}
 use Rattle.lease_call.proofs.TreeChains.{tree_chain}
+
+-- each call of the book is asked only after such answers of the parts, the last first, where each answer is sound
+abbrev AsksAfter : {D A : Type 0} → List Node → (BookCall → List AnsweredEvent → Type 0) → CallPlan D A → List AnsweredEvent → Type 0
+AsksAfter nodes post (Done a) told = Unit {0}
+AsksAfter nodes post (Part e f) told = (x : AnswerTo e) → Sound nodes e x → AsksAfter nodes post (f x) (record { event = e; answer = x } ∷ told)
+AsksAfter {D = D} nodes post (Call k f) told = post k told × ((x : AnswerOf D k) → AsksAfter nodes post (f x) told)
 
 -- an arena that has a name is one of the tree's
 named_within : (arenas : List TreeArena) (name : List ℕ) (arena : ℕ) → index_in name arenas ≡ Some arena → arena < length arenas
@@ -140,5 +148,11 @@ module _ (D : Type 0) (arenas : List TreeArena) (id : RequestId) where
   op_asks tree (ops.Lease l) told = (tt, looked_asks tree l (lease_at arenas id (demand_of l) (index_in l.arena arenas)) told (lease_asks tree l (index_in l.arena arenas) refl told))
   op_asks tree (ops.Release l) told = release_asks (ops.Release l) l.base (index_in l.arena arenas) told
 
+-- so was each that was asked
+asked : {D A : Type 0} (nodes : List Node) (post : BookCall → List AnsweredEvent → Type 0) (p : CallPlan D A) (told : List (AnsweredStep D)) → AskedAfter post told → AsksAfter nodes post p (of_parts told) → EndsTold (Sound nodes) (λ k x. Unit {0}) (λ now r. AskedAfter post now) p told
+asked nodes post (Done a) told before w = before
+asked nodes post (Part e f) told before w = λ x s. asked nodes post (f x) _ before (w x s)
+asked nodes post (Call k f) told before w = λ x _. asked nodes post (f x) _ (w.0, before) (w.1 x)
+
 pub no_fit_is_last : (D : Type 0) → NoFitIsLast D
-no_fit_is_last D arenas hand id op tree = hand_asks arenas (NoFitAfter arenas op) hand (op_plan arenas id op) [] (op_asks D arenas id tree op)
+no_fit_is_last D arenas hand id op tree = asked (nodes_of arenas) (NoFitAfter arenas op) (request_plan arenas hand id op) [] tt (hand_asks arenas (NoFitAfter arenas op) hand (op_plan arenas id op) [] (op_asks D arenas id tree op))

@@ -50,21 +50,3 @@ BookEvent D b (Hello client incarnation) (Err greeting.Stopped) c = ⊥
 BookEvent D b (Sweep client) (Ok None) c = IsSweptClean b client × (c ≡ b)
 BookEvent D b (Sweep client) (Ok (Some r)) c = IsSwept b c client r.0 r.1
 BookEvent D b (Sweep client) (Err e) c = ⊥
-
--- the answer says that nothing was done; the segment comes back
-abbrev pub StoppedCall : (D : Type 0) → (k : BookCall) → AnswerOf D k → Type 0
-StoppedCall D (Look id) (Ok o) = ⊥
-StoppedCall D (Look id) (Err e) = Unit {0}
-StoppedCall D (Settle id t terms) (Ok r) = ⊥
-StoppedCall D (Settle id t terms) (Err (settling.NotLeased n)) = ⊥
-StoppedCall D (Settle id t terms) (Err (settling.Stopped s)) = s ≡ t
-StoppedCall D (Refuse id why) (Ok a) = ⊥
-StoppedCall D (Refuse id why) (Err e) = Unit {0}
-StoppedCall D (Release id arena base) (Ok r) = ⊥
-StoppedCall D (Release id arena base) (Err (releasing.Answered a)) = ⊥
-StoppedCall D (Release id arena base) (Err releasing.Stopped) = Unit {0}
-StoppedCall D (Hello client incarnation) (Ok u) = ⊥
-StoppedCall D (Hello client incarnation) (Err (greeting.Late f)) = ⊥
-StoppedCall D (Hello client incarnation) (Err greeting.Stopped) = Unit {0}
-StoppedCall D (Sweep client) (Ok o) = ⊥
-StoppedCall D (Sweep client) (Err e) = Unit {0}

@@ -1,16 +1,15 @@
 -- The segments that a line's list of steps moves: what comes into the hand goes out of it, or is
 -- left in it.
-use Rattle.std.specs.Prelude.{◌≡◌, List, ◌∷◌, Option, Some, None, Result, Ok, Err}
+use Rattle.std.specs.Prelude.{◌≡◌, List, [], ◌∷◌, Option, Some, None, Result, Ok, Err}
 use Rattle.deed_core.specs.Tag.{Tag}
 use Rattle.lease_terms.specs.Requests.{RequestId}
-use Rattle.arena_tree.specs.Chains.{Node}
 use Rattle.arena_tree.specs.Events.{Event, AnswerTo, BeginsWith, hand_after, hand_left}
 use Rattle.arena_tree.specs.Events.{hand_of_answer, Carve, Free, AddCarve, SlabTake, SlabPut}
 use Rattle.arena_tree.specs.Events.{SlabAdd, SlabReap, SwapFull, SwapEmpty, SwapFresh, DepotReap}
 use Rattle.arena_tree.specs.Events.{Pop, Push, Change}
-use Rattle.arena_tree.specs.Sound.{Sound}
 use Rattle.arena_tree.specs.declared.part_faults.Stopped.{Stopped}
 use Rattle.lease_book.specs.Receipts.{ReceiptState}
+use Rattle.lease_call.specs.Answered.{AnsweredStep, OfPart, OfBook}
 use Rattle.lease_call.specs.Calls.{BookCall, AnswerOf, Look, Settle, Refuse, Release, Hello, Sweep}
 use Rattle.lease_call.specs.CallPlans.{CallPlan, Done, Part, Call}
 use Rattle.lease_call.specs.Hands.{left_in_hand}
@@ -137,17 +136,22 @@ abbrev pub put_first : Option Tag → List Tag → List Tag
 put_first None ts = ts
 put_first (Some t) ts = t ∷ ts
 
--- `came` came into the hand by then, and `gone` went out of it, each the last first; what comes and
--- goes from then on, by whatever parts answer soundly and by any book that hands back what it
--- doesn't lease, comes to this: all that came has gone, but for what is left in the end
-abbrev pub KeepsAll : {D A : Type 0} → List Node → (A → Option Tag) → CallPlan D A
-    → (came gone : List Tag) → Type 0
-KeepsAll nodes left (Done a) came gone = came ≡ put_first (left a) gone
-KeepsAll nodes left (Part e f) came gone = (x : AnswerTo e) → Sound nodes e x
-    → KeepsAll nodes left (f x) (put_first (taken_out e x) came) (put_first (put_in e x) gone)
-KeepsAll {D = D} nodes left (Call k f) came gone = (x : AnswerOf D k) → HandsBack D k x
-    → KeepsAll nodes left (f x) (put_first (taken_out_of_book D k x) came)
-    (put_first (put_in_book D k x) gone)
+-- what came into the hand, which held this at first, and what went out of it, each the last first,
+-- by all that was answered
+abbrev pub came_in : {D : Type 0} → Option Tag → List (AnsweredStep D) → List Tag
+came_in hand [] = put_first hand []
+came_in hand (OfPart a ∷ told) = put_first (taken_out a.event a.answer) (came_in hand told)
+came_in {D = D} hand (OfBook k a ∷ told) =
+    put_first (taken_out_of_book D k a) (came_in hand told)
+
+abbrev pub gone_out : {D : Type 0} → List (AnsweredStep D) → List Tag
+gone_out [] = []
+gone_out (OfPart a ∷ told) = put_first (put_in a.event a.answer) (gone_out told)
+gone_out {D = D} (OfBook k a ∷ told) = put_first (put_in_book D k a) (gone_out told)
+
+-- all that came has gone, but for what is left in the hand
+abbrev pub IsAllKept : {D : Type 0} → (hand left : Option Tag) → List (AnsweredStep D) → Type 0
+IsAllKept hand left told = came_in hand told ≡ put_first left (gone_out told)
 
 -- what a line leaves in the hand
 abbrev pub call_left : {A : Type 0} → Result A (CallFault Tag) → Option Tag

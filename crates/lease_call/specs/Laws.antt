@@ -1,10 +1,12 @@
 -- Laws of the lists of steps of lines, over all trees: how many locks of parts they take, where
--- each segment is then, and when nothing fits. A call of the book takes none of the locks, and what
+-- each segment is then, when nothing fits, and what a stop ends. A call of the book takes none of the locks, and what
 -- was in the hand before is a free of its own.
-use Rattle.std.specs.Prelude.{ℕ, ◌+◌, ◌*◌, ◌≤◌, List, [], Option, Some, None, Ok, Err, length}
+use Rattle.std.specs.Prelude.{◌≡◌, ℕ, ◌+◌, ◌*◌, ◌≤◌, List, [], Option, Some, None, Ok, Err}
+use Rattle.std.specs.Prelude.{length, false}
 use Rattle.deed_core.specs.Tag.{Tag}
 use Rattle.lease_terms.specs.Requests.{RequestId}
 use Rattle.arena_tree.specs.Events.{AnswerTo, locks}
+use Rattle.arena_tree.specs.Sound.{Sound}
 use Rattle.arena_tree.specs.Trees.{IsTree, index_in, nodes_of}
 use Rattle.arena_tree.specs.declared.limits.TheConstants.{LONGEST_CHAIN}
 use Rattle.arena_tree.specs.declared.trees.TreeArena.{TreeArena}
@@ -14,15 +16,17 @@ use Rattle.lease_proto.specs.declared.lines.HelloLine.{HelloLine}
 use Rattle.lease_proto.specs.declared.lines.LeaseLine.{LeaseLine}
 use Rattle.lease_proto.specs.declared.lines.Op.{Op}
 use Rattle.lease_proto.specs.declared.lines.ReleaseLine.{ReleaseLine}
-use Rattle.lease_call.specs.BookEvents.{BookEvent, StoppedCall}
+use Rattle.lease_call.specs.Answered.{EndsTold}
+use Rattle.lease_call.specs.BookEvents.{BookEvent}
 use Rattle.lease_call.specs.CallPlans.{CallPlan, Done, Part, Call}
 use Rattle.lease_call.specs.Calls.{BookCall, AnswerOf}
 use Rattle.lease_call.specs.Greeting.{HelloEnd, greet_plan, hello_plan}
-use Rattle.lease_call.specs.Kept.{CallHandles, HandsBack, KeepsAll, call_left, put_first}
+use Rattle.lease_call.specs.Kept.{CallHandles, HandsBack, IsAllKept, call_left}
 use Rattle.lease_call.specs.Leasing.{lease_plan}
-use Rattle.lease_call.specs.Refusing.{AsksAfter, NoFitAfter}
+use Rattle.lease_call.specs.Refusing.{AskedAfter, NoFitAfter}
 use Rattle.lease_call.specs.Releasing.{CallEnd, release_plan}
 use Rattle.lease_call.specs.Requesting.{request_plan}
+use Rattle.lease_call.specs.Stopping.{StopsLast, call_stopped, is_stopped_call}
 use Rattle.lease_call.specs.declared.outcomes.Outcome.TheVariants.{Settled, Answered, Again}
 
 -- after so many locks, there are at most so many in all, by what it ends with
@@ -71,29 +75,42 @@ HelloHandles D = (arenas : List TreeArena) (hand : Option Tag) (h : HelloLine) (
     → CallHandles {D = D} call_left (hello_plan arenas hand h turns) hand
 
 -- No line loses a segment: what was in the hand, what parts gave, and what the ended leases were of
--- went into parts, or was leased, or is left in the hand.
+-- went into parts, or was leased, or is left in the hand, whatever parts answer soundly and whatever
+-- book hands back what it doesn't lease.
 abbrev pub RequestKeeps : Type 0 → Type 0
 RequestKeeps D = (arenas : List TreeArena) (hand : Option Tag) (id : RequestId) (op : Op)
-    → KeepsAll {D = D} (nodes_of arenas) call_left (request_plan arenas hand id op)
-    (put_first hand []) []
+    → EndsTold (Sound (nodes_of arenas)) (HandsBack D)
+    (λ told r. IsAllKept hand (call_left r) told) (request_plan arenas hand id op) []
 
 abbrev pub HelloKeeps : Type 0 → Type 0
 HelloKeeps D = (arenas : List TreeArena) (hand : Option Tag) (h : HelloLine) (turns : ℕ)
-    → KeepsAll {D = D} (nodes_of arenas) call_left (hello_plan arenas hand h turns)
-    (put_first hand []) []
+    → EndsTold (Sound (nodes_of arenas)) (HandsBack D)
+    (λ told r. IsAllKept hand (call_left r) told) (hello_plan arenas hand h turns) []
 
--- The books of which that is so: an event of the book, and a call that was stopped, hand back what
--- isn't leased.
+-- The books of which that is so: an event of the book hands back what isn't leased. (So does a call
+-- that was stopped, by what that is.)
 abbrev pub EventHandsBack : Type 0 → Type 0
 EventHandsBack D = (b c : BookState) (k : BookCall) (a : AnswerOf D k) → BookEvent D b k a c
     → HandsBack D k a
-
-abbrev pub StopHandsBack : Type 0 → Type 0
-StopHandsBack D = (k : BookCall) (a : AnswerOf D k) → StoppedCall D k a → HandsBack D k a
 
 -- The book is asked to refuse a request for NoFit only where each carve of the last climb found
 -- none.
 abbrev pub NoFitIsLast : Type 0 → Type 0
 NoFitIsLast D = (arenas : List TreeArena) (hand : Option Tag) (id : RequestId) (op : Op)
     → IsTree arenas
-    → AsksAfter {D = D} (nodes_of arenas) (NoFitAfter arenas op) (request_plan arenas hand id op) []
+    → EndsTold {D = D} (Sound (nodes_of arenas)) (λ k a. Unit {0})
+    (λ told r. AskedAfter (NoFitAfter arenas op) told) (request_plan arenas hand id op) []
+
+-- A step that is stopped is the last one, and its line ends as stopped; no other line ends so.
+abbrev pub RequestStops : Type 0 → Type 0
+RequestStops D = (arenas : List TreeArena) (hand : Option Tag) (id : RequestId) (op : Op)
+    → StopsLast {D = D} call_stopped (request_plan arenas hand id op) false
+
+abbrev pub HelloStops : Type 0 → Type 0
+HelloStops D = (arenas : List TreeArena) (hand : Option Tag) (h : HelloLine) (turns : ℕ)
+    → StopsLast {D = D} call_stopped (hello_plan arenas hand h turns) false
+
+-- No event of a book is a stop.
+abbrev pub EventGoesOn : Type 0 → Type 0
+EventGoesOn D = (b c : BookState) (k : BookCall) (a : AnswerOf D k) → BookEvent D b k a c
+    → is_stopped_call D k a ≡ false

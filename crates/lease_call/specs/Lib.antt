@@ -11,5 +11,6 @@ pub mod Taking
 pub mod Requesting
 pub mod Greeting
 pub mod Kept
+pub mod Stopping
 pub mod Refusing
 pub mod Laws

@@ -1,10 +1,8 @@
 -- When a request is refused since nothing fits.
-use Rattle.std.specs.Prelude.{◌≡◌, ℕ, Bool, true, false, List, ◌∷◌, Some, Err}
+use Rattle.std.specs.Prelude.{◌≡◌, ℕ, Bool, true, false, List, [], ◌∷◌, Some, Err}
 use Rattle.deed_core.specs.declared.requests.Request.{Request}
 use Rattle.lease_terms.specs.declared.refusals.Refusal.TheVariants.{NoFit}
-use Rattle.arena_tree.specs.Chains.{Node}
-use Rattle.arena_tree.specs.Events.{AnswerTo, Carve}
-use Rattle.arena_tree.specs.Sound.{Sound}
+use Rattle.arena_tree.specs.Events.{Carve}
 use Rattle.arena_tree.specs.Told.{AnsweredEvent}
 use Rattle.arena_tree.specs.Trees.{index_in}
 use Rattle.arena_tree.specs.declared.part_faults.PartFault.TheVariants as asking
@@ -15,19 +13,22 @@ use Rattle.quantum_cache.specs.Told.{NoneFitted}
 use Rattle.lease_proto.specs.Requests.{demand_of}
 use Rattle.lease_proto.specs.declared.lines.Op.{Op}
 use Rattle.lease_proto.specs.declared.lines.Op.TheVariants as ops
-use Rattle.lease_call.specs.Calls.{BookCall, AnswerOf, Look, Settle, Refuse, Release, Hello, Sweep}
-use Rattle.lease_call.specs.CallPlans.{CallPlan, Done, Part, Call}
+use Rattle.lease_call.specs.Answered.{AnsweredStep, OfPart, OfBook}
+use Rattle.lease_call.specs.Calls.{BookCall, Look, Settle, Refuse, Release, Hello, Sweep}
 use Rattle.lease_call.specs.Leasing.{is_plain}
 
--- each call of the book is asked only after such answers of the parts, the last first, where each
--- answer is sound
-abbrev pub AsksAfter : {D A : Type 0} → List Node → (BookCall → List AnsweredEvent → Type 0)
-    → CallPlan D A → List AnsweredEvent → Type 0
-AsksAfter nodes post (Done a) told = Unit {0}
-AsksAfter nodes post (Part e f) told = (x : AnswerTo e) → Sound nodes e x
-    → AsksAfter nodes post (f x) (record { event = e; answer = x } ∷ told)
-AsksAfter {D = D} nodes post (Call k f) told =
-    post k told × ((x : AnswerOf D k) → AsksAfter nodes post (f x) told)
+-- what the parts answered, the last first
+abbrev pub of_parts : {D : Type 0} → List (AnsweredStep D) → List AnsweredEvent
+of_parts [] = []
+of_parts (OfPart a ∷ told) = a ∷ of_parts told
+of_parts (OfBook k a ∷ told) = of_parts told
+
+-- each call of the book was asked only after such answers of the parts
+abbrev pub AskedAfter : {D : Type 0} → (BookCall → List AnsweredEvent → Type 0)
+    → List (AnsweredStep D) → Type 0
+AskedAfter post [] = Unit {0}
+AskedAfter post (OfPart a ∷ told) = AskedAfter post told
+AskedAfter post (OfBook k a ∷ told) = post k (of_parts told) × AskedAfter post told
 
 -- the last that was asked is this carve, and nothing fitted
 abbrev pub NotCarved : ℕ → Request → List AnsweredEvent → Type 0

@@ -2,7 +2,8 @@
 //! law does nothing: its contract is the law.
 ghost use Rattle.lease_call.specs.Laws.{LeaseIsShort, ReleaseIsShort, HelloIsShort};
 ghost use Rattle.lease_call.specs.Laws.{RequestHandles, HelloHandles, RequestKeeps, HelloKeeps};
-ghost use Rattle.lease_call.specs.Laws.{EventHandsBack, StopHandsBack, NoFitIsLast};
+ghost use Rattle.lease_call.specs.Laws.{EventHandsBack, NoFitIsLast};
+ghost use Rattle.lease_call.specs.Laws.{RequestStops, HelloStops, EventGoesOn};
 
 /// How many locks of parts each line takes at most.
 pub fn lock_laws<D>()
@@ -22,10 +23,16 @@ pub fn kept_laws<D>()
     ensures request { RequestKeeps D }
     ensures hello { HelloKeeps D }
     ensures event { EventHandsBack D }
-    ensures stopped { StopHandsBack D }
 {}
 
 /// A request is refused since nothing fits only where each carve of the last climb found none.
 pub fn no_fit_laws<D>()
     ensures request { NoFitIsLast D }
+{}
+
+/// A stop ends a line's list of steps, and the line ends as stopped just then.
+pub fn stop_laws<D>()
+    ensures request { RequestStops D }
+    ensures hello { HelloStops D }
+    ensures event { EventGoesOn D }
 {}

@@ -12,7 +12,9 @@
 //! Hands.antt, Releasing.antt, Leasing.antt, Requesting.antt and Greeting.antt the lists of steps,
 //! line by line. A function has the one clause that its list of steps was gone through
 //! (`CallRan`), and a few that follow from it; all else is a law (laws): how many locks of parts a
-//! line takes at most, that it loses no segment (Kept.antt), and when nothing fits (Refusing.antt).
+//! line takes at most, that it loses no segment (Kept.antt), when nothing fits (Refusing.antt), and
+//! that a stop ends it (Stopping.antt). Who has gone through a list has them of what was answered
+//! (Answered.antt).
 #![tactic(auto)]
 
 mod books;
@@ -28,7 +30,7 @@ mod requesting;
 pub use books::Books;
 pub use call_faults::{CallFault, NotGreeted, NotReleased, NotSettled};
 pub use greeting::hello;
-pub use laws::{hand_laws, kept_laws, lock_laws, no_fit_laws};
+pub use laws::{hand_laws, kept_laws, lock_laws, no_fit_laws, stop_laws};
 pub use outcomes::{Greeting, Outcome};
 pub use placing::place;
 pub use requesting::request;

@@ -1,5 +1,6 @@
--- What a line's list of steps leaves in a running system, and what it was where no Stop is noted at its end.
-use Rattle.std.proofs.Common.{◌≡◌, ◌∙◌, ℕ, List, Bool, true, false, inl, inr, refl, ap, subst}
+-- What a line's list of steps leaves in a running system, and what it was.
+use Rattle.std.proofs.Common.{◌≡◌, ◌∙◌, ℕ, List, Option, Result, Ok, Err, IfOk, OnErr, Bool, true, false, inl, inr, refl, sym, ap, subst}
+use Rattle.deed_core.specs.Tag.{Tag}
 use Rattle.arena_tree.specs.Chains.{Node}
 use Rattle.arena_tree.specs.Events.{Event, AnswerTo}
 use Rattle.arena_tree.specs.Plans.{Step}
@@ -8,11 +9,16 @@ use Rattle.arena_tree.specs.Stops.{is_stopped}
 use Rattle.lease_call.specs.Answered.{GoneThrough}
 use Rattle.lease_call.specs.Calls.{BookCall, AnswerOf}
 use Rattle.lease_call.specs.CallPlans.{CallPlan, Done, Part, Call, BookStep, CallPath, CallRan}
+use Rattle.lease_call.specs.Stopping.{StopsLast, is_stopped_call, call_stopped}
+use Rattle.lease_call.specs.declared.call_faults.CallFault.{CallFault}
+use Rattle.lease_call.specs.declared.call_faults.CallFault.TheVariants as calling
+use Rattle.lease_call.proofs.LawProofs.{event_goes_on}
 use Rattle.locked_parts.specs.Answers.{AnswersSoundly}
 use Rattle.locked_parts.specs.Gates.{MayStop, NotesStops}
 use Rattle.locked_parts.specs.declared.gates.NextStep.{NextStep}
-use Rattle.lease_threads.specs.Calling.{IsLockedCall, IsLockedAnswer}
-use Rattle.lease_threads.proofs.Runs.{not_both, not_true}
+use Rattle.locked_parts.specs.declared.gates.RequestStopped.{RequestStopped}
+use Rattle.lease_threads.specs.Calling.{IsLockedCall, IsCallOrStop, IsLockedAnswer, StopsOrEnds}
+use Rattle.lease_threads.proofs.Runs.{not_both}
 
 notes_on : {X : Type 0} (may : X → NextStep → Type 0) (x y z : X) (a b c : Bool) → NotesStops may x y a b → NotesStops may y z b c → NotesStops may x z a c
 notes_on {X} may x y z a b c first later = (
@@ -23,6 +29,19 @@ notes_on {X} may x y z a b c first later = (
   ],
   λ n. later.2 (first.2 n),
 )
+
+-- an event of a book is no stop
+goes : {D : Type 0} (k : BookCall) (x : AnswerOf D k) → IsLockedCall D k x → is_stopped_call D k x ≡ false
+goes {D = D} k x is = event_goes_on D is.old is.new k x is.event
+
+-- what a list of steps ended with is told on, or was a stop
+pub told_on : {A : Type 0} (P : Result A (CallFault Tag) → Type 0) (ended : Result A (CallFault Tag)) (r : Result (Result A (CallFault Tag)) RequestStopped) (hand : Option Tag) → StopsOrEnds ended r hand → (call_stopped ended ≡ false → P ended) → IfOk r P
+told_on P ended (Ok e) hand is f = subst P (sym is.0) (f is.1)
+told_on P ended (Err s) hand is f = tt
+
+pub stopped_on : {A : Type 0} (P : Type 0) (ended : Result A (CallFault Tag)) (r : Result (Result A (CallFault Tag)) RequestStopped) (hand : Option Tag) → StopsOrEnds ended r hand → (ended ≡ Err (calling.Stopped hand) → P) → OnErr r P
+stopped_on P ended (Ok e) hand is f = tt
+stopped_on P ended (Err s) hand is f = f is
 
 module _ {B P X M K D : Type 0} (may : X → NextStep → Type 0) (gate : P → X) (noted : P → Bool) (name : P → M) (kinds : P → K) (tree : P → List Node) (count rounds : P → ℕ)
     (part : P → (e : Event) → AnswerTo e → P → Type 0) (book : B → P → (k : BookCall) → AnswerOf D k → B → P → Type 0) where
@@ -40,34 +59,72 @@ module _ {B P X M K D : Type 0} (may : X → NextStep → Type 0) (gate : P → 
   PartsStay = (s t : P) (e : Event) (x : AnswerTo e) → part s e x t → Stays s t × (is_stopped e x ≡ true → noted t ≡ true)
 
   abbrev pub CallsStay : Type 0
-  CallsStay = (b c : B) (s t : P) (k : BookCall) (x : AnswerOf D k) → book b s k x c t → Stays s t × IsLockedAnswer D k x (noted t)
+  CallsStay = (b c : B) (s t : P) (k : BookCall) (x : AnswerOf D k) → book b s k x c t → Stays s t × IsLockedAnswer D k x (noted s) (noted t)
 
-  -- where none is noted, it was an event of the book
-  event_of : (k : BookCall) (x : AnswerOf D k) (n : Bool) → n ≡ false → IsLockedAnswer D k x n → IsLockedCall D k x
-  event_of k x n none (inl s) = absurd (not_both n s.1 none)
-  event_of k x n none (inr e) = e
+  abbrev pub Goes : {A : Type 0} → CallPlan D A → B → P → B → P → A → Type 0
+  Goes p b s c t a = CallPath (Step part tree count rounds) (BookStep book tree count rounds) p b s c t a
+
+  either : (k : BookCall) (x : AnswerOf D k) (m n : Bool) → IsLockedAnswer D k x m n → IsCallOrStop D k x
+  either k x m n (inl s) = inl s.0
+  either k x m n (inr e) = inr e.0
+
+  -- one that isn't a stop was an event of the book
+  event_of : (k : BookCall) (x : AnswerOf D k) (m n : Bool) → is_stopped_call D k x ≡ false → IsLockedAnswer D k x m n → IsLockedCall D k x
+  event_of k x m n goes_on (inl s) = absurd (not_both (is_stopped_call D k x) s.0.0 goes_on)
+  event_of k x m n goes_on (inr e) = e.0
+
+  noted_by : (k : BookCall) (x : AnswerOf D k) (m n : Bool) → IsLockedAnswer D k x m n → is_stopped_call D k x ≡ true → n ≡ true
+  noted_by k x m n (inl s) stopped = s.1
+  noted_by k x m n (inr e) stopped = absurd (not_both (is_stopped_call D k x) stopped (goes k x e.0))
 
   module _ (parts : PartsStay) (calls : CallsStay) where
-    path_stays : {A : Type 0} (p : CallPlan D A) (b : B) (s : P) (c : B) (t : P) (a : A) → CallPath (Step part tree count rounds) (BookStep book tree count rounds) p b s c t a → Stays s t
+    path_stays : {A : Type 0} (p : CallPlan D A) (b : B) (s : P) (c : B) (t : P) (a : A) → Goes p b s c t a → Stays s t
     path_stays (Done y) b s c t a d = subst (Stays s) d.1 (record { notes = (refl, λ n. inl n, λ n. n); loan = refl; shape = refl })
     path_stays (Part e f) b s c t a d = stays_on s d.0 t ((parts s d.0 e d.1 d.2.does).0) (path_stays (f d.1) b d.0 c t a d.3)
     path_stays (Call k f) b s c t a d = stays_on s d.1 t ((calls b d.0 s d.1 k d.2 d.3.does).0) (path_stays (f d.2) d.0 d.1 c t a d.4)
 
-    path_goes : {A : Type 0} (nodes : List Node) (p : CallPlan D A) (b : B) (s : P) (c : B) (t : P) (a : A) → tree s ≡ nodes → noted t ≡ false → CallPath (Step part tree count rounds) (BookStep book tree count rounds) p b s c t a
-        → GoneThrough (AnswersSoundly nodes) (IsLockedCall D) p a × (noted s ≡ false)
-    path_goes nodes (Done y) b s c t a is none d = (d.2, ap noted d.1 ∙ none)
-    path_goes nodes (Part e f) b s c t a is none d =
-        let rest = path_goes nodes (f d.1) b d.0 c t a (d.2.same_tree ∙ is) none d.3 in
-        let here = parts s d.0 e d.1 d.2.does in (
-          (d.1, (subst (λ ns. Sound ns e d.1) is d.2.sound, not_true (is_stopped e d.1) (λ stopped. not_both (noted d.0) (here.1 stopped) rest.1)), rest.0),
-          not_true (noted s) (λ was. not_both (noted d.0) (here.0.notes.2 was) rest.1),
-        )
-    path_goes nodes (Call k f) b s c t a is none d =
-        let rest = path_goes nodes (f d.2) d.0 d.1 c t a (d.3.same_tree ∙ is) none d.4 in
-        let here = calls b d.0 s d.1 k d.2 d.3.does in (
-          (d.2, event_of k d.2 (noted d.1) rest.1 here.1, rest.0),
-          not_true (noted s) (λ was. not_both (noted d.1) (here.0.notes.2 was) rest.1),
-        )
+    -- with stops or without
+    path_goes : {A : Type 0} (nodes : List Node) (p : CallPlan D A) (b : B) (s : P) (c : B) (t : P) (a : A) → tree s ≡ nodes → Goes p b s c t a → GoneThrough (Sound nodes) (IsCallOrStop D) p a
+    path_goes nodes (Done y) b s c t a is d = d.2
+    path_goes nodes (Part e f) b s c t a is d = (d.1, subst (λ ns. Sound ns e d.1) is d.2.sound, path_goes nodes (f d.1) b d.0 c t a (d.2.same_tree ∙ is) d.3)
+    path_goes nodes (Call k f) b s c t a is d = (d.2, either k d.2 (noted s) (noted d.1) ((calls b d.0 s d.1 k d.2 d.3.does).1), path_goes nodes (f d.2) d.0 d.1 c t a (d.3.same_tree ∙ is) d.4)
 
-    pub went_through : {A : Type 0} (p : CallPlan D A) (b : B) (s : P) (c : B) (t : P) (a : A) → CallRan part tree count rounds book p b s c t a → Stays s t × (noted t ≡ false → GoneThrough (AnswersSoundly (tree s)) (IsLockedCall D) p a)
-    went_through p b s c t a ran = (path_stays p b s c t a ran.path, λ none. (path_goes (tree s) p b s c t a refl none ran.path).0)
+    module _ {A : Type 0} (ends : A → Bool) (nodes : List Node) where
+      -- what didn't end as stopped came to no stop
+      path_ends : (p : CallPlan D A) (last : Bool) (b : B) (s : P) (c : B) (t : P) (a : A) → StopsLast ends p last → tree s ≡ nodes → ends a ≡ false → Goes p b s c t a → GoneThrough (AnswersSoundly nodes) (IsLockedCall D) p a × (last ≡ false)
+      path_ends (Done y) last b s c t a stops is none d = (d.2, sym stops ∙ ap ends d.2 ∙ none)
+      path_ends (Part e f) true b s c t a stops is none d = absurd stops
+      path_ends (Part e f) false b s c t a stops is none d =
+          let rest = path_ends (f d.1) (is_stopped e d.1) b d.0 c t a (stops d.1) (d.2.same_tree ∙ is) none d.3 in
+          ((d.1, (subst (λ ns. Sound ns e d.1) is d.2.sound, rest.1), rest.0), refl)
+      path_ends (Call k f) true b s c t a stops is none d = absurd stops
+      path_ends (Call k f) false b s c t a stops is none d =
+          let rest = path_ends (f d.2) (is_stopped_call D k d.2) d.0 d.1 c t a (stops d.2) (d.3.same_tree ∙ is) none d.4 in
+          ((d.2, event_of k d.2 (noted s) (noted d.1) rest.1 ((calls b d.0 s d.1 k d.2 d.3.does).1), rest.0), refl)
+
+      -- what ended as stopped came to one that is noted
+      path_notes : (p : CallPlan D A) (last : Bool) (b : B) (s : P) (c : B) (t : P) (a : A) → StopsLast ends p last → (last ≡ true → noted s ≡ true) → ends a ≡ true → Goes p b s c t a → noted t ≡ true
+      path_notes (Done y) last b s c t a stops was stopped d = subst (λ (u : P). noted u ≡ true) d.1 (was (sym stops ∙ ap ends d.2 ∙ stopped))
+      path_notes (Part e f) true b s c t a stops was stopped d = absurd stops
+      path_notes (Part e f) false b s c t a stops was stopped d = path_notes (f d.1) (is_stopped e d.1) b d.0 c t a (stops d.1) ((parts s d.0 e d.1 d.2.does).1) stopped d.3
+      path_notes (Call k f) true b s c t a stops was stopped d = absurd stops
+      path_notes (Call k f) false b s c t a stops was stopped d = path_notes (f d.2) (is_stopped_call D k d.2) d.0 d.1 c t a (stops d.2) (noted_by k d.2 (noted s) (noted d.1) ((calls b d.0 s d.1 k d.2 d.3.does).1)) stopped d.4
+
+    -- what a line's list of steps came to, where no Stop was noted before
+    pub record Went {A : Type 0} (p : CallPlan D (Result A (CallFault Tag))) (s t : P) (a : Result A (CallFault Tag)) : Type 0 where
+      pub stays : Stays s t
+      pub gone : GoneThrough (Sound (tree s)) (IsCallOrStop D) p a
+      pub ends : call_stopped a ≡ false → GoneThrough (AnswersSoundly (tree s)) (IsLockedCall D) p a
+      pub stops : call_stopped a ≡ true → MayStop may (gate s)
+
+    pub went_through : {A : Type 0} (p : CallPlan D (Result A (CallFault Tag))) (b : B) (s : P) (c : B) (t : P) (a : Result A (CallFault Tag)) → StopsLast call_stopped p false → noted s ≡ false → CallRan part tree count rounds book p b s c t a → Went p s t a
+    went_through p b s c t a last none ran =
+        let stays = path_stays p b s c t a ran.path in record {
+          stays = stays;
+          gone = path_goes (tree s) p b s c t a refl ran.path;
+          ends = λ e. (path_ends call_stopped (tree s) p false b s c t a last refl e ran.path).0;
+          stops = λ e. elim (stays.notes.1 (path_notes call_stopped (tree s) p false b s c t a last (λ f. absurd (not_both false f refl)) e ran.path)) [
+            | inl was ↦ absurd (not_both (noted s) was none)
+            | inr m ↦ m
+          ];
+        }

@@ -1,7 +1,9 @@
 -- What a line's list of steps comes to in a running system.
-use Rattle.std.specs.Prelude.{◌≡◌, ◌⊎◌, ◌+◌, Bool, true, List, Option, Some, None, Ok, Err, IfSome}
+use Rattle.std.specs.Prelude.{◌≡◌, ◌⊎◌, ◌+◌, Bool, true, false, List, Option, Some, None, Result}
+use Rattle.std.specs.Prelude.{Ok, Err, IfSome}
 use Rattle.deed_core.specs.Tag.{Tag}
 use Rattle.lease_terms.specs.Requests.{RequestId}
+use Rattle.arena_tree.specs.Sound.{Sound}
 use Rattle.arena_tree.specs.Trees.{nodes_of}
 use Rattle.arena_tree.specs.declared.limits.TheConstants.{MOST_ROOTS}
 use Rattle.arena_tree.specs.declared.trees.TreeArena.{TreeArena}
@@ -16,18 +18,23 @@ use Rattle.lease_proto.specs.declared.lines.Op.{Op}
 use Rattle.lease_proto.specs.declared.replies.Reply.{Reply}
 use Rattle.lease_proto.specs.declared.replies.Reply.TheVariants as reply
 use Rattle.lease_call.specs.Answered.{GoneThrough}
-use Rattle.lease_call.specs.BookEvents.{BookEvent, StoppedCall}
+use Rattle.lease_call.specs.BookEvents.{BookEvent}
 use Rattle.lease_call.specs.CallPlans.{CallPlan}
 use Rattle.lease_call.specs.Calls.{BookCall, AnswerOf}
 use Rattle.lease_call.specs.Greeting.{HelloEnd, hello_plan}
+use Rattle.lease_call.specs.Kept.{call_left}
 use Rattle.lease_call.specs.Releasing.{CallEnd}
 use Rattle.lease_call.specs.Requesting.{request_plan}
+use Rattle.lease_call.specs.Stopping.{StoppedCall, call_stopped}
+use Rattle.lease_call.specs.declared.call_faults.CallFault.{CallFault}
+use Rattle.lease_call.specs.declared.call_faults.CallFault.TheVariants as calling
 use Rattle.lease_call.specs.declared.outcomes.Greeting.{Greeting}
 use Rattle.lease_call.specs.declared.outcomes.Greeting.TheVariants.{Welcome, Late, Unswept}
 use Rattle.lease_call.specs.declared.outcomes.Outcome.{Outcome}
 use Rattle.lease_call.specs.declared.outcomes.Outcome.TheVariants.{Settled, Answered, Again}
 use Rattle.lease_history.specs.Told.{hello_refusal}
 use Rattle.locked_parts.specs.Answers.{AnswersSoundly}
+use Rattle.locked_parts.specs.declared.gates.RequestStopped.{RequestStopped}
 use Rattle.lease_threads.specs.Replying.{IsReceiptOf, IsBookAnswerTo, IsToldAs, TellsAnswer}
 use Rattle.lease_threads.specs.Replying.{IsLateHello}
 use Rattle.lease_threads.specs.Settling.{Settles, new_receipt}
@@ -39,9 +46,15 @@ pub record IsLockedCall (D : Type 0) (k : BookCall) (a : AnswerOf D k) : Type 0 
   pub mark : old.mark.root ≡ MOST_ROOTS
   pub event : BookEvent D old k a new
 
--- or nothing was done, and that a Stop was said is noted
-abbrev pub IsLockedAnswer : (D : Type 0) → (k : BookCall) → AnswerOf D k → Bool → Type 0
-IsLockedAnswer D k a noted = (StoppedCall D k a × (noted ≡ true)) ⊎ IsLockedCall D k a
+-- or nothing was done
+abbrev pub IsCallOrStop : (D : Type 0) → (k : BookCall) → AnswerOf D k → Type 0
+IsCallOrStop D k a = StoppedCall D k a ⊎ IsLockedCall D k a
+
+-- that a Stop was said is noted, and nothing else is
+abbrev pub IsLockedAnswer : (D : Type 0) → (k : BookCall) → AnswerOf D k → (noted now : Bool)
+    → Type 0
+IsLockedAnswer D k a noted now =
+    (StoppedCall D k a × (now ≡ true)) ⊎ (IsLockedCall D k a × (now ≡ noted))
 
 -- what the request comes to is the book's
 abbrev pub IsOutcomeOf : {D : Type 0} → RequestId → Outcome D → Type 0
@@ -84,12 +97,27 @@ abbrev pub WentThrough : {D A : Type 0} → List TreeArena → CallPlan D A → 
 WentThrough {D = D} arenas plan a =
     GoneThrough (AnswersSoundly (nodes_of arenas)) (IsLockedCall D) plan a
 
--- the list of steps was gone through, and the line is answered by what it ended with
+-- the list of steps was gone through, the hand has what it left, and the line is answered by what
+-- it ended with
 pub record AnswersBy {D : Type 0} (arenas : List TreeArena) (id : RequestId)
-    (plan : CallPlan D (CallEnd D)) (r : Reply) (w : Option ReceiptState) : Type 0 where
+    (plan : CallPlan D (CallEnd D)) (hand : Option Tag) (r : Reply) (w : Option ReceiptState)
+    : Type 0 where
   pub ended : CallEnd D
   pub went : WentThrough arenas plan ended
+  pub left : hand ≡ call_left ended
   pub told : TellsEnd arenas id ended r w
+
+-- the list of steps was gone through up to a step that was stopped, and the hand has what it left
+abbrev pub StopsIn : {D A : Type 0} → List TreeArena → CallPlan D (Result A (CallFault Tag))
+    → Option Tag → Type 0
+StopsIn {D = D} arenas plan hand = GoneThrough (Sound (nodes_of arenas)) (IsCallOrStop D) plan
+    (Err (calling.Stopped hand))
+
+-- a list of steps that ended is told on, but for a stop, of which the hand has what it left
+abbrev pub StopsOrEnds : {A : Type 0} → Result A (CallFault Tag)
+    → Result (Result A (CallFault Tag)) RequestStopped → Option Tag → Type 0
+StopsOrEnds ended (Ok e) hand = (e ≡ ended) × (call_stopped ended ≡ false) × (hand ≡ None)
+StopsOrEnds ended (Err stopped) hand = ended ≡ Err (calling.Stopped hand)
 
 -- what a hello comes to is the book's
 abbrev pub IsGreetedSo : HelloLine → Greeting → Type 0
@@ -108,18 +136,32 @@ abbrev pub greeting_end : HelloLine → HelloEnd → Reply
 greeting_end h (Ok g) = greeting_of h g
 greeting_end h (Err e) = hello_again_of h
 
--- the hello's list of steps was gone through, with a sweep for each lease that a client may have
--- and one more, and it is answered by what that ended with
-pub record GreetsBy (D : Type 0) (arenas : List TreeArena) (hand : Option Tag) (h : HelloLine)
-    (r : Reply) : Type 0 where
+-- a hello's list of steps, with a sweep for each lease that a client may have and one more
+abbrev pub greeting_plan : (D : Type 0) → List TreeArena → Option Tag → HelloLine
+    → CallPlan D HelloEnd
+greeting_plan D arenas hand h = hello_plan arenas hand h (MOST_LEASES + 1)
+
+-- it was gone through, the hand has what it left, and the hello is answered by what it ended with
+pub record GreetsBy (D : Type 0) (arenas : List TreeArena) (h : HelloLine)
+    (plan : CallPlan D HelloEnd) (hand : Option Tag) (r : Reply) : Type 0 where
   pub ended : HelloEnd
-  pub went : WentThrough {D = D} arenas (hello_plan arenas hand h (MOST_LEASES + 1)) ended
+  pub went : WentThrough arenas plan ended
+  pub left : hand ≡ call_left ended
   pub told : r ≡ greeting_end h ended
 
--- the line's list of steps was gone through, after the hand was emptied, and the line is answered
--- by what it ended with
-abbrev pub RunsLine : (D : Type 0) → List TreeArena → Option Tag → Line → Reply
-    → Option ReceiptState → Type 0
-RunsLine D arenas hand (lines.Hello h) r w = GreetsBy D arenas hand h r
-RunsLine D arenas hand (lines.Request id o) r w =
-    AnswersBy {D = D} arenas id (request_plan arenas hand id o) r w
+-- the line's list of steps was gone through, after the hand before it was emptied, and the line is
+-- answered by what it ended with, and the hand after it has what that left
+abbrev pub RunsLine : (D : Type 0) → List TreeArena → (hand : Option Tag) → Line
+    → (after : Option Tag) → Reply → Option ReceiptState → Type 0
+RunsLine D arenas hand (lines.Hello h) after r w =
+    GreetsBy D arenas h (greeting_plan D arenas hand h) after r
+RunsLine D arenas hand (lines.Request id o) after r w =
+    AnswersBy {D = D} arenas id (request_plan arenas hand id o) after r w
+
+-- the same of one that was stopped, which isn't answered
+abbrev pub StopsLine : (D : Type 0) → List TreeArena → (hand : Option Tag) → Line
+    → (after : Option Tag) → Type 0
+StopsLine D arenas hand (lines.Hello h) after =
+    StopsIn {D = D} arenas (greeting_plan D arenas hand h) after
+StopsLine D arenas hand (lines.Request id o) after =
+    StopsIn {D = D} arenas (request_plan arenas hand id o) after

@@ -5,3 +5,4 @@ pub mod Replying
 pub mod Reaping
 pub mod Settling
 pub mod Calling
+pub mod LineLaws

@@ -14,8 +14,8 @@
 //!
 //! What contracts see of a system and a CPU stands in `specs/Systems.antt`, what a line may be
 //! answered in `Replying.antt` and `Settling.antt`, that its list of steps was gone through in
-//! `Calling.antt`, what a reaping tells in `Reaping.antt`, how a system begins and ends in
-//! `Openings.antt` and `Ends.antt`.
+//! `Calling.antt`, what follows of each line's segments in `LineLaws.antt` (laws), what a reaping
+//! tells in `Reaping.antt`, how a system begins and ends in `Openings.antt` and `Ends.antt`.
 //!
 //! A request takes the book's lock twice at most, as its list of steps shows, and those of its
 //! steps over the parts, of which `lease_call` says how many they are at most (`lock_laws`), by the
@@ -32,6 +32,7 @@ mod cpus;
 mod emptying;
 mod ending;
 mod hands;
+mod laws;
 mod marked_books;
 mod openings;
 mod replies;
@@ -43,6 +44,7 @@ mod systems;
 mod upkeep;
 
 pub use cpus::Cpu;
+pub use laws::line_laws;
 pub use locked_parts::{EventName, Gate, NextStep, OpenGate, Pass, RequestStopped};
 pub use openings::SystemFault;
 pub use replies::{LineAnswer, Told};

@@ -1,15 +1,15 @@
 //! Answering one line: its list of steps is gone through, and what that comes to is told.
-ghost use Rattle.std.specs.Prelude.{◌≡◌, ◌≢◌, ◌+◌, None, Some, true, IfOk, IfSome};
+ghost use Rattle.std.specs.Prelude.{◌≡◌, ◌≢◌, None, Some, true, IfOk, IfSome};
 ghost use Rattle.std.specs.Prelude.{OnOk, OnErr};
 ghost use Rattle.deed_table.specs.declared.deeds.SeatDeed.{SeatDeed};
-ghost use Rattle.lease_call.specs.Greeting.{hello_plan};
+ghost use Rattle.lease_call.specs.Kept.{call_left};
 ghost use Rattle.lease_call.specs.Requesting.{request_plan};
 ghost use Rattle.locked_parts.specs.Gates.{MayStop};
 ghost use Rattle.locked_parts.specs.Kinds.{AreForSame};
 ghost use Rattle.lease_threads.specs.Calling.{AnswersBy, GreetsBy, RunsLine, WentThrough};
 ghost use Rattle.lease_threads.specs.Calling.{IsGreetedSo, IsOutcomeOf, TellsEnd};
-ghost use Rattle.lease_threads.specs.Calling.{greeting_end, end_receipt};
-ghost use Rattle.lease_book.specs.declared.books.TheConstants.{MOST_LEASES};
+ghost use Rattle.lease_threads.specs.Calling.{greeting_end, end_receipt, greeting_plan};
+ghost use Rattle.lease_threads.specs.Calling.{StopsIn, StopsLine, StopsOrEnds};
 ghost use Rattle.lease_threads.specs.Replying.{IsAnswerTo, IsReplyTo, IsGreeting, IsAgain};
 ghost use Rattle.lease_threads.specs.Settling.{IsSettledAsAsked, Settles};
 ghost use Rattle.lease_book.specs.Receipts.{ReceiptState};
@@ -33,7 +33,7 @@ pub(crate) type Ended<N, T> = Result<T, CallFault<Segment<SeatDeed<N>>>>;
 
 impl<N: Name> System<N> {
     /// Answers one line of a client. The gate is asked before each step; where it says Stop the
-    /// request ends there, and the CPU keeps its hand and its magazines. A segment that can't be
+    /// request ends there, and the CPU keeps what that left in its hand, and its magazines. A segment that can't be
     /// placed stays in the hand: each request tries to place it first, and is answered `again`
     /// while it can't.
     pub fn request<R: Wait, G: Gate>(
@@ -44,12 +44,14 @@ impl<N: Name> System<N> {
         line: &Line,
     ) -> Result<(Reply, Option<Receipt<SeatDeed<N>>>), RequestStopped>
         ensures runs { IfOk result (λ r.
-            RunsLine (SeatDeed N) self.now.arenas cpu.old.hand line.now r.0 r.1) }
+            RunsLine (SeatDeed N) self.now.arenas cpu.old.hand line.now cpu.new.hand r.0 r.1) }
         ensures answers { IfOk result (λ r. IsAnswerTo self.now.arenas line.now r.0 r.1) }
         ensures number { cpu.new.number ≡ cpu.old.number }
         ensures magazines { AreForSame cpu.old.caches cpu.new.caches }
         ensures held { IfOk result (λ r. IfSome cpu.new.hand (λ _. IsAgain r.0)) }
         ensures stopped { OnErr result (MayStop G.may_stop gate.now) }
+        ensures left { OnErr result
+            (StopsLine (SeatDeed N) self.now.arenas cpu.old.hand line.now cpu.new.hand) }
     {
         let told = self.answer(rt, cpu, gate, line)?;
         Ok((told.reply, told.receipt))
@@ -65,7 +67,8 @@ impl<N: Name> System<N> {
         line: &Line,
     ) -> Result<Told<N>, RequestStopped>
         ensures runs { IfOk result (λ r.
-            RunsLine (SeatDeed N) self.now.arenas cpu.old.hand line.now r.reply r.receipt) }
+            RunsLine (SeatDeed N) self.now.arenas cpu.old.hand line.now cpu.new.hand
+            r.reply r.receipt) }
         ensures answers { IfOk result (λ r.
             IsAnswerTo self.now.arenas line.now r.reply r.receipt) }
         ensures new { IfOk result (λ r. r.is_new ≡ true
@@ -74,6 +77,8 @@ impl<N: Name> System<N> {
         ensures magazines { AreForSame cpu.old.caches cpu.new.caches }
         ensures held { IfOk result (λ r. IfSome cpu.new.hand (λ _. IsAgain r.reply)) }
         ensures stopped { OnErr result (MayStop G.may_stop gate.now) }
+        ensures left { OnErr result
+            (StopsLine (SeatDeed N) self.now.arenas cpu.old.hand line.now cpu.new.hand) }
     {
         match line {
             Line::Hello(hello) => Ok(unsettled(self.greet(rt, cpu, gate, hello)?)),
@@ -89,13 +94,15 @@ impl<N: Name> System<N> {
         gate: &G,
         hello: &HelloLine,
     ) -> Result<Reply, RequestStopped>
-        ensures runs { IfOk result
-            (GreetsBy (SeatDeed N) self.now.arenas cpu.old.hand hello.now) }
+        ensures runs { IfOk result (GreetsBy (SeatDeed N) self.now.arenas hello.now
+            (greeting_plan (SeatDeed N) self.now.arenas cpu.old.hand hello.now) cpu.new.hand) }
         ensures greeting { IfOk result (IsGreeting hello.now) }
         ensures number { cpu.new.number ≡ cpu.old.number }
         ensures magazines { AreForSame cpu.old.caches cpu.new.caches }
         ensures held { IfOk result (λ r. IfSome cpu.new.hand (λ _. IsAgain r)) }
         ensures stopped { OnErr result (MayStop G.may_stop gate.now) }
+        ensures left { OnErr result (StopsIn self.now.arenas
+            (greeting_plan (SeatDeed N) self.now.arenas cpu.old.hand hello.now) cpu.new.hand) }
     {
         let ended = self.run_hello(rt, cpu, gate, hello)?;
         Ok(tell_hello(cpu, hello, ended))
@@ -111,7 +118,8 @@ impl<N: Name> System<N> {
         op: &Op,
     ) -> Result<Told<N>, RequestStopped>
         ensures runs { IfOk result (λ r. AnswersBy {D = SeatDeed N} self.now.arenas id
-            (request_plan self.now.arenas cpu.old.hand id op.now) r.reply r.receipt) }
+            (request_plan self.now.arenas cpu.old.hand id op.now) cpu.new.hand
+            r.reply r.receipt) }
         ensures told { IfOk result (λ r. IsReplyTo self.now.arenas id r.reply r.receipt) }
         ensures new { IfOk result (λ r. r.is_new ≡ true → (v : ReceiptState)
             × (r.receipt ≡ Some v) × Settles self.now.arenas op.now v) }
@@ -119,6 +127,8 @@ impl<N: Name> System<N> {
         ensures magazines { AreForSame cpu.old.caches cpu.new.caches }
         ensures held { IfOk result (λ r. IfSome cpu.new.hand (λ _. IsAgain r.reply)) }
         ensures stopped { OnErr result (MayStop G.may_stop gate.now) }
+        ensures left { OnErr result (StopsIn {D = SeatDeed N} self.now.arenas
+            (request_plan self.now.arenas cpu.old.hand id op.now) cpu.new.hand) }
     {
         let ended = self.run_request(rt, cpu, gate, id, op)?;
         // For its clause: it is a tree.
@@ -141,22 +151,16 @@ impl<N: Name> System<N> {
         ensures magazines { AreForSame cpu.old.caches cpu.new.caches }
         ensures hand { OnOk result (cpu.new.hand ≡ None) }
         ensures stopped { OnErr result (MayStop G.may_stop gate.now) }
+        ensures left { OnErr result (StopsIn {D = SeatDeed N} self.now.arenas
+            (request_plan self.now.arenas cpu.old.hand id op.now) cpu.new.hand) }
     {
         let hand = cpu.hand.take();
         let number = cpu.number();
         let mut running = Running::new(&self.parts, rt, gate, number, &mut cpu.caches);
         let mut book = SharedBook { book: &self.book };
-        let ended = lease_call::request(&mut running, &mut book, self.parts.tree(), hand, id, op);
-        if !running.steps.noted {
-            return Ok(ended);
-        }
-        match ended {
-            Ok(_) => Err(RequestStopped),
-            Err(fault) => {
-                cpu.hold_left(fault.left());
-                Err(RequestStopped)
-            }
-        }
+        let tree = self.parts.tree();
+        let ended = lease_call::request(&mut running, &mut book, tree, hand, id, op);
+        unless_stopped(cpu, ended)
     }
 
     /// Goes through the list of steps of a hello.
@@ -167,12 +171,14 @@ impl<N: Name> System<N> {
         gate: &G,
         hello: &HelloLine,
     ) -> Result<Ended<N, Greeting>, RequestStopped>
-        ensures went { IfOk result (WentThrough {D = SeatDeed N} self.now.arenas
-            (hello_plan self.now.arenas cpu.old.hand hello.now (MOST_LEASES + 1))) }
+        ensures went { IfOk result (WentThrough self.now.arenas
+            (greeting_plan (SeatDeed N) self.now.arenas cpu.old.hand hello.now)) }
         ensures number { cpu.new.number ≡ cpu.old.number }
         ensures magazines { AreForSame cpu.old.caches cpu.new.caches }
         ensures hand { OnOk result (cpu.new.hand ≡ None) }
         ensures stopped { OnErr result (MayStop G.may_stop gate.now) }
+        ensures left { OnErr result (StopsIn self.now.arenas
+            (greeting_plan (SeatDeed N) self.now.arenas cpu.old.hand hello.now) cpu.new.hand) }
     {
         let hand = cpu.hand.take();
         let number = cpu.number();
@@ -181,15 +187,27 @@ impl<N: Name> System<N> {
         let turns = MOST_LEASES as u64 + 1;
         let tree = self.parts.tree();
         let ended = lease_call::hello(&mut running, &mut book, tree, hand, hello, turns);
-        if !running.steps.noted {
-            return Ok(ended);
-        }
-        match ended {
-            Ok(_) => Err(RequestStopped),
-            Err(fault) => {
-                cpu.hold_left(fault.left());
-                Err(RequestStopped)
-            }
+        unless_stopped(cpu, ended)
+    }
+}
+
+/// Tells on what a list of steps ended with, unless it was stopped. What a stop left goes into the
+/// empty hand.
+fn unless_stopped<N: Name, T>(
+    cpu: &mut Cpu<N>,
+    ended: Ended<N, T>,
+) -> Result<Ended<N, T>, RequestStopped>
+    requires hand { cpu.old.hand ≡ None }
+    ensures told { StopsOrEnds ended result cpu.new.hand }
+    ensures number { cpu.new.number ≡ cpu.old.number }
+    ensures magazines { cpu.new.caches ≡ cpu.old.caches }
+{
+    match ended {
+        Ok(end) => Ok(Ok(end)),
+        Err(CallFault::Stuck(segment)) => Ok(Err(CallFault::Stuck(segment))),
+        Err(CallFault::Stopped(left)) => {
+            cpu.hold_left(left);
+            Err(RequestStopped)
         }
     }
 }
@@ -199,6 +217,7 @@ fn tell_hello<N: Name>(cpu: &mut Cpu<N>, hello: &HelloLine, ended: Ended<N, Gree
     requires hand { cpu.old.hand ≡ None }
     requires greeting { IfOk ended (IsGreetedSo hello.now) }
     ensures exactly { result ≡ greeting_end hello.now ended }
+    ensures left { cpu.new.hand ≡ call_left ended }
     ensures greeting { IsGreeting hello.now result }
     ensures number { cpu.new.number ≡ cpu.old.number }
     ensures magazines { AreForSame cpu.old.caches cpu.new.caches }
@@ -224,6 +243,7 @@ fn tell<N: Name>(
     requires hand { cpu.old.hand ≡ None }
     requires outcome { IfOk ended (IsOutcomeOf id) }
     ensures exactly { TellsEnd tree.now id ended result.reply result.receipt }
+    ensures left { cpu.new.hand ≡ call_left ended }
     ensures told { IsReplyTo tree.now id result.reply result.receipt }
     ensures new { result.is_new ≡ true
         → (result.receipt ≢ None) × (end_receipt ended ≡ result.receipt) }

@@ -31,7 +31,7 @@ impl<N: Name, R: Wait, G: Gate> Books<Segment<SeatDeed<N>>, SeatDeed<N>, Running
         NotesStops G.may_stop s.gate.now t.gate.now s.steps.noted t.steps.noted
         × (t.caches.ghost_name ≡ s.caches.ghost_name)
         × (t.caches.now ≡ s.caches.now)
-        × IsLockedAnswer _ k a t.steps.noted };
+        × IsLockedAnswer _ k a s.steps.noted t.steps.noted };
 
     fn look(
         &mut self,

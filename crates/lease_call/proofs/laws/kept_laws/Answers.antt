@@ -1,4 +1,4 @@
-use Rattle.lease_call.proofs.CallHands.{request_keeps, hello_keeps, event_hands_back, stop_hands_back}
+use Rattle.lease_call.proofs.CallHands.{request_keeps, hello_keeps, event_hands_back}
 use Rattle.lease_call.proofs.laws.kept_laws.Goals as goal
 
 pub returns-clause-request : goal.returns-clause-request
@@ -9,6 +9,3 @@ returns-clause-hello g c = hello_keeps _
 
 pub returns-clause-event : goal.returns-clause-event
 returns-clause-event g c = event_hands_back _
-
-pub returns-clause-stopped : goal.returns-clause-stopped
-returns-clause-stopped g c = stop_hands_back _

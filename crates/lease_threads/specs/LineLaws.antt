@@ -1,0 +1,61 @@
+-- Laws of lines that a running system answered, or that were stopped in it.
+use Rattle.std.specs.Prelude.{List, [], Option, Err}
+use Rattle.deed_core.specs.Tag.{Tag}
+use Rattle.lease_terms.specs.Requests.{RequestId}
+use Rattle.arena_tree.specs.Sound.{Sound}
+use Rattle.arena_tree.specs.Trees.{IsTree, nodes_of}
+use Rattle.arena_tree.specs.declared.trees.TreeArena.{TreeArena}
+use Rattle.lease_book.specs.Receipts.{ReceiptState}
+use Rattle.lease_proto.specs.declared.lines.Line.{Line}
+use Rattle.lease_proto.specs.declared.lines.Line.TheVariants as lines
+use Rattle.lease_proto.specs.declared.lines.Op.{Op}
+use Rattle.lease_proto.specs.declared.replies.Reply.{Reply}
+use Rattle.lease_call.specs.Answered.{AnsweredStep, answers_along}
+use Rattle.lease_call.specs.Kept.{IsAllKept}
+use Rattle.lease_call.specs.Refusing.{AskedAfter, NoFitAfter}
+use Rattle.lease_call.specs.Requesting.{request_plan}
+use Rattle.lease_call.specs.declared.call_faults.CallFault.TheVariants as calling
+use Rattle.locked_parts.specs.Answers.{AnswersSoundly}
+use Rattle.lease_threads.specs.Calling.{IsLockedCall, IsCallOrStop, greeting_plan}
+use Rattle.lease_threads.specs.Calling.{RunsLine, StopsLine}
+
+-- what the parts and the book answered on a line's way, the last first
+abbrev pub line_answers : (D : Type 0) (arenas : List TreeArena) (hand : Option Tag) (line : Line)
+    (after : Option Tag) (r : Reply) (w : Option ReceiptState)
+    → RunsLine D arenas hand line after r w → List (AnsweredStep D)
+line_answers D arenas hand (lines.Hello h) after r w ran = answers_along
+    (AnswersSoundly (nodes_of arenas)) (IsLockedCall D) (greeting_plan D arenas hand h)
+    ran.ended ran.went []
+line_answers D arenas hand (lines.Request id o) after r w ran = answers_along
+    (AnswersSoundly (nodes_of arenas)) (IsLockedCall D) (request_plan arenas hand id o)
+    ran.ended ran.went []
+
+abbrev pub stopped_answers : (D : Type 0) (arenas : List TreeArena) (hand : Option Tag)
+    (line : Line) (after : Option Tag) → StopsLine D arenas hand line after
+    → List (AnsweredStep D)
+stopped_answers D arenas hand (lines.Hello h) after ran = answers_along
+    (Sound (nodes_of arenas)) (IsCallOrStop D) (greeting_plan D arenas hand h)
+    (Err (calling.Stopped after)) ran []
+stopped_answers D arenas hand (lines.Request id o) after ran = answers_along
+    (Sound (nodes_of arenas)) (IsCallOrStop D) (request_plan arenas hand id o)
+    (Err (calling.Stopped after)) ran []
+
+-- No line loses a segment: what was in the hand, what the parts gave and what ended leases were of
+-- went into parts, or was leased, or is in the hand after it.
+abbrev pub LineKeeps : Type 0 → Type 0
+LineKeeps D = (arenas : List TreeArena) (hand : Option Tag) (line : Line) (after : Option Tag)
+    (r : Reply) (w : Option ReceiptState) (ran : RunsLine D arenas hand line after r w)
+    → IsAllKept hand after (line_answers D arenas hand line after r w ran)
+
+abbrev pub StoppedLineKeeps : Type 0 → Type 0
+StoppedLineKeeps D = (arenas : List TreeArena) (hand : Option Tag) (line : Line)
+    (after : Option Tag) (ran : StopsLine D arenas hand line after)
+    → IsAllKept hand after (stopped_answers D arenas hand line after ran)
+
+-- The book was asked to refuse a request for NoFit only after carves that found none.
+abbrev pub LineNoFit : Type 0 → Type 0
+LineNoFit D = (arenas : List TreeArena) (hand : Option Tag) (id : RequestId) (o : Op)
+    (after : Option Tag) (r : Reply) (w : Option ReceiptState) → IsTree arenas
+    → (ran : RunsLine D arenas hand (lines.Request id o) after r w)
+    → AskedAfter (NoFitAfter arenas o)
+    (line_answers D arenas hand (lines.Request id o) after r w ran)
