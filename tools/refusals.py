@@ -24,9 +24,9 @@ class Refusal:
         """From here on none is refused."""
         Path(self.until).touch()
 
-    def is_over(self):
-        """Returns whether it was met, and none can be refused any more."""
-        return self.was_met() and (not self.goes_on or os.path.exists(self.until))
+    def begin_again(self):
+        """From here on each is refused again, where that went on and was ended."""
+        Path(self.until).unlink(missing_ok=True)
 
 
 class Refuser:

@@ -1,30 +1,20 @@
 -- A system that comes to its end, and what is left of one that doesn't.
-use Rattle.std.specs.Prelude.{◌≡◌, ℕ, ◌/◌, ◌++◌, List, [], ◌∷◌, Option, Some, None}
-use Rattle.deed_core.specs.Extent.{Extent}
+use Rattle.std.specs.Prelude.{◌≡◌, ℕ, ◌/◌, List, [], ◌∷◌, Option, Some, None}
 use Rattle.deed_core.specs.Holding.{Holding}
 use Rattle.deed_core.specs.Tag.{Tag}
 use Rattle.arena_tree.specs.declared.limits.TheConstants.{MOST_SPANS}
 use Rattle.lease_threads.specs.Systems.{SystemState, root_ranges}
-use Rattle.lease_threads.specs.declared.shutting.ShutFault.{ShutFault}
-use Rattle.lease_threads.specs.declared.shutting.ShutFault.TheVariants.{NoMemory, Stuck}
 use Rattle.lease_threads.specs.declared.shutting.StoppedAt.{StoppedAt}
 use Rattle.lease_threads.specs.declared.shutting.StoppedAt.TheVariants as stop
 
--- on its way to its end: the ranges of the roots that are closed, what isn't ended yet, and the
--- segment that couldn't be placed
+-- on its way to its end: what isn't ended yet, and the segment that couldn't be placed
 pub record HaltedState : Type 0 where
-  pub closed : List Extent
   pub system : SystemState
   pub segment : Option Tag
 
--- the ranges of all its roots, the closed ones first
-abbrev pub all_ranges : HaltedState → List Extent
-all_ranges h = h.closed ++ root_ranges h.system
-
--- all that is left of the system: it itself, or its arenas with the ranges of its roots
-abbrev pub IsLeftOf : SystemState → ShutFault SystemState HaltedState → Type 0
-IsLeftOf s (NoMemory same) = same ≡ s
-IsLeftOf s (Stuck h) = (h.system.arenas ≡ s.arenas) × (all_ranges h ≡ root_ranges s)
+-- what is left of the system has its arenas, and the ranges of all its roots
+abbrev pub IsLeftOf : SystemState → HaltedState → Type 0
+IsLeftOf s h = (h.system.arenas ≡ s.arenas) × (root_ranges h.system ≡ root_ranges s)
 
 -- the number of the arena that owns the span of this root
 abbrev pub owner_of : Holding → ℕ

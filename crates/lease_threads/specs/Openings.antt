@@ -1,5 +1,5 @@
 -- A system as it is made.
-use Rattle.std.specs.Prelude.{◌≡◌, ℕ, ◌*◌, ◌<◌, ◌≤◌, List, AllPairs, length, map}
+use Rattle.std.specs.Prelude.{◌≡◌, ℕ, ◌*◌, ◌<◌, ◌≤◌, List, [], AllPairs, length, map}
 use Rattle.std.specs.Prelude.{slice_index_or}
 use Rattle.std.specs.List.{flat_map}
 use Rattle.std.specs.Option.{option_to_list}
@@ -30,11 +30,12 @@ abbrev pub AreFrom : ℕ → ℕ → List OwnedSpan → Type 0
 AreFrom arena index spans = (k : ℕ) (d : OwnedSpan) → index ≤ k → k < length spans
     → arena ≤ (slice_index_or spans k d).arena
 
--- the system has the arenas of the setup, and a root for each of its spans
+-- the system has the arenas of the setup, and a root for each of its spans, none of them closed
 pub record IsSystemOf (setup : SetupState) (s : SystemState) : Type 0 where
   pub one : OneSpanEach setup.spans
   pub arenas : s.arenas ≡ setup.arenas
   pub roots : s.roots ≡ map root_of setup.spans
+  pub closed : s.closed ≡ []
 
 -- the setup is back, and why; memory is asked for only where no arena owns a further span
 abbrev pub RefusesSystem : SetupState → SystemFault → Type 0

@@ -1,5 +1,5 @@
 -- What a contract sees of a system and of a CPU.
-use Rattle.std.specs.Prelude.{◌≡◌, ℕ, ◌+◌, List, All, Option, None, map, sum_by}
+use Rattle.std.specs.Prelude.{◌≡◌, ℕ, ◌+◌, ◌++◌, List, All, Option, None, map, sum_by}
 use Rattle.std.specs.Option.{option_to_list}
 use Rattle.deed_core.specs.Covering.{units_tagged}
 use Rattle.deed_core.specs.Extent.{Extent}
@@ -9,15 +9,16 @@ use Rattle.magazine_layer.specs.Magazines.{BothEmpty, cache_rounds}
 use Rattle.arena_tree.specs.declared.trees.TreeArena.{TreeArena}
 use Rattle.locked_parts.specs.Kinds.{OwnCacheState}
 
--- its arenas by number, and the roots that they own, in order of setup: what stands beside the
--- locks
+-- its arenas by number, the roots that they own, in order of setup, and the ranges of those before
+-- them, which are closed: what stands beside the locks
 pub record SystemState : Type 0 where
   pub arenas : List TreeArena
   pub roots : List Holding
+  pub closed : List Extent
 
--- their ranges
+-- the ranges of all its roots, the closed ones first
 abbrev pub root_ranges : SystemState → List Extent
-root_ranges s = map (λ r. r.range) s.roots
+root_ranges s = s.closed ++ map (λ r. r.range) s.roots
 
 -- a CPU: its number, its hand, and its magazines
 pub record CpuState : Type 0 where

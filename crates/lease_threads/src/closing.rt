@@ -1,7 +1,5 @@
 //! How the roots of a system are closed.
-ghost use Rattle.std.specs.Prelude.{◌≡◌, ◌+◌, ◌<◌, ◌≤◌, ◌++◌, [], length, None, IfOk, OnOk, IfErr};
-ghost use Rattle.std.specs.Prelude.{true};
-ghost use Rattle.std.specs.Prelude.{vec_len, vec_capacity};
+ghost use Rattle.std.specs.Prelude.{◌≡◌, ◌+◌, ◌<◌, [], length, None, IfOk, OnOk, IfErr, true};
 ghost use Rattle.lease_threads.specs.Systems.{root_ranges};
 
 use crate::cpus::Cpu;
@@ -15,20 +13,16 @@ use std::sync::Wait;
 /// and says whether that was done with all. A deed that isn't the whole root's is in the hand.
 pub(crate) fn close_roots<N: Name, R: Wait>(
     rt: &R,
-    closed: &mut Vec<Range>,
     system: &mut System<N>,
     cpu: &mut Cpu<N>,
 ) -> bool
-    requires room { vec_len closed.old + length system.old.roots ≤ vec_capacity closed.old }
     requires hand { cpu.old.hand ≡ None }
-    ensures room { vec_len closed.new + length system.new.roots ≤ vec_capacity closed.new }
     ensures arenas { system.new.arenas ≡ system.old.arenas }
-    ensures ranges { closed.new.items ++ root_ranges system.new
-        ≡ closed.old.items ++ root_ranges system.old }
+    ensures ranges { root_ranges system.new ≡ root_ranges system.old }
     ensures all { result ≡ true → (system.new.roots ≡ []) × (cpu.new.hand ≡ None) }
 {
     while !system.roots.is_empty() {
-        if !close_first(rt, closed, system, cpu) {
+        if !close_first(rt, system, cpu) {
             return false;
         }
     }
@@ -36,19 +30,11 @@ pub(crate) fn close_roots<N: Name, R: Wait>(
 }
 
 /// The same of the first root that isn't closed.
-fn close_first<N: Name, R: Wait>(
-    rt: &R,
-    closed: &mut Vec<Range>,
-    system: &mut System<N>,
-    cpu: &mut Cpu<N>,
-) -> bool
+fn close_first<N: Name, R: Wait>(rt: &R, system: &mut System<N>, cpu: &mut Cpu<N>) -> bool
     requires some { 0 < length system.old.roots }
-    requires room { vec_len closed.old + length system.old.roots ≤ vec_capacity closed.old }
     requires hand { cpu.old.hand ≡ None }
-    ensures room { vec_len closed.new + length system.new.roots ≤ vec_capacity closed.new }
     ensures arenas { system.new.arenas ≡ system.old.arenas }
-    ensures ranges { closed.new.items ++ root_ranges system.new
-        ≡ closed.old.items ++ root_ranges system.old }
+    ensures ranges { root_ranges system.new ≡ root_ranges system.old }
     ensures closed { result ≡ true → (cpu.new.hand ≡ None)
         × (length system.new.roots + 1 ≡ length system.old.roots) }
 {
@@ -56,7 +42,7 @@ fn close_first<N: Name, R: Wait>(
     let arena = owner_of(&root);
     match close_root(rt, &system.parts, arena, root, cpu) {
         Ok(range) => {
-            closed.push_reserved(range);
+            system.closed.push_reserved(range);
             true
         }
         Err(root) => {

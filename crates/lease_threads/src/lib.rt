@@ -48,5 +48,5 @@ pub use laws::line_laws;
 pub use locked_parts::{EventName, Gate, NextStep, OpenGate, Pass, RequestStopped};
 pub use openings::SystemFault;
 pub use replies::{LineAnswer, Told};
-pub use shutting::{Halted, ShutFault, StoppedAt, Unshut};
+pub use shutting::{Halted, StoppedAt};
 pub use systems::System;

@@ -146,11 +146,12 @@ fn open_book<N: Name>(alloc: Global, rest: &mut Opener<N>) -> Result<MarkedBook<
     Ok(MarkedBook::new(Book::new(alloc, deed), mark))
 }
 
-/// Room for so many arenas of a system and for a root of each.
+/// Room for so many arenas of a system, for a root of each, and for the ranges of these at its end.
 struct Room<N: Name> {
     count: usize,
     arenas: Vec<LockedArena<N>>,
     roots: Vec<Root<N>>,
+    closed: Vec<Range>,
 }
 
 impl<N: Name> Model for Room<N> {
@@ -160,8 +161,9 @@ impl<N: Name> Model for Room<N> {
 
     ghost view = { λ r. r.count };
 
-    ghost invariant = { λ r. (vec_len r.arenas ≡ 0) × (vec_len r.roots ≡ 0)
-        × (r.count ≤ vec_capacity r.arenas) × (r.count ≤ vec_capacity r.roots) };
+    ghost invariant = { λ r. (vec_len r.arenas ≡ 0) × (r.count ≤ vec_capacity r.arenas)
+        × (vec_len r.roots ≡ 0) × (r.count ≤ vec_capacity r.roots)
+        × (vec_len r.closed ≡ 0) × (r.count ≤ vec_capacity r.closed) };
 }
 
 impl<N: Name> Room<N> {
@@ -169,6 +171,7 @@ impl<N: Name> Room<N> {
     fn new(alloc: Global, count: usize) -> Result<Room<N>, AllocError>
         ensures { IfOk result (λ room. room ≡ count) }
     {
+        let closed = Vec::with_capacity(alloc, count)?;
         let arenas = Vec::with_capacity(alloc, count)?;
         let Ok(roots) = Vec::with_capacity(alloc, count) else {
             arenas.destroy_empty();
@@ -178,6 +181,7 @@ impl<N: Name> Room<N> {
             count,
             arenas,
             roots,
+            closed,
         })
     }
 
@@ -193,16 +197,19 @@ impl<N: Name> Room<N> {
         requires set_up { AreMadeAsSet tree made.items }
         ensures arenas { result.arenas ≡ tree }
         ensures roots { result.roots ≡ roots_of made.items }
+        ensures closed { result.closed ≡ [] }
     {
         let Room {
             count: _,
             mut arenas,
             mut roots,
+            closed,
         } = self;
         lock_all(made, &mut arenas, &mut roots);
         System {
             parts: LockedParts::new(alloc, tree, arenas),
             roots,
+            closed,
             book: Mutex::new(book),
         }
     }
@@ -213,6 +220,7 @@ impl<N: Name> Room<N> {
             count: _,
             arenas,
             roots,
+            closed: _,
         } = self;
         arenas.destroy_empty();
         roots.destroy_empty();
@@ -227,7 +235,8 @@ fn lock_all<N: Name>(
 )
     requires arenas { vec_len arenas.old + vec_len made ≤ vec_capacity arenas.old }
     requires roots { vec_len roots.old + vec_len made ≤ vec_capacity roots.old }
-    ensures { roots.new.items ≡ roots.old.items ++ roots_of made.items }
+    ensures roots { roots.new.items ≡ roots.old.items ++ roots_of made.items }
+    ensures few { vec_len roots.new ≤ vec_len roots.old + vec_len made }
 {
     while !made.is_empty() {
         let (locked, root) = made.remove(0).lock();

@@ -4,7 +4,7 @@ ghost use Rattle.std.specs.Prelude.{◌≡◌};
 use super::{ask, ask_all, child, cpu, have, made, retire, root, shut, stuck};
 use arena_tree::Setup;
 use deed_table::{Ground, Name};
-use lease_threads::{Halted, ShutFault, StoppedAt, System};
+use lease_threads::{Halted, StoppedAt, System};
 use std::alloc::AllocGlobal;
 use std::marker::Brand;
 use std::process::Abort;
@@ -235,7 +235,7 @@ fn goes_on<N: Name, R: Abort + Wait + AllocGlobal>(rt: &R, ground: Ground, setup
     assert!(rt; halted.segment().is_none());
     assert!(rt; halted.stopped_at() == StoppedAt::Root(1), "another place");
     retire(rt, halted.system(), one);
-    match ShutFault::Stuck(halted).again(rt) {
+    match halted.again(rt) {
         Ok(ranges) => have(rt, &ranges, &[(0, 8), (64, 64)]),
         Err(fault) => stuck(rt, fault),
     }
@@ -245,7 +245,6 @@ fn goes_on<N: Name, R: Abort + Wait + AllocGlobal>(rt: &R, ground: Ground, setup
 fn halt<N: Name, R: Abort + Wait>(rt: &R, system: System<N>) -> Halted<N> {
     match system.shut(rt) {
         Ok(_) => panic!(rt; "a unit is out"),
-        Err(ShutFault::NoMemory(system)) => stuck(rt, system),
-        Err(ShutFault::Stuck(halted)) => halted,
+        Err(halted) => halted,
     }
 }

@@ -2,12 +2,12 @@
 //! given is back, what stands is as before, and the same call then succeeds.
 ghost use Rattle.std.specs.Prelude.{◌≡◌};
 
-use super::{have, line, retire, stuck};
+use super::{line, retire, shut};
 use arena_tree::{NewChild, NewRoot, Setting, Setup, SetupFault};
 use deed_table::{Ground, Name};
 use lease_proto::{Line, Reply};
 use lease_terms::ArenaName;
-use lease_threads::{Cpu, OpenGate, ShutFault, System, SystemFault};
+use lease_threads::{Cpu, OpenGate, System, SystemFault};
 use std::alloc::AllocGlobal;
 use std::marker::Brand;
 use std::process::Abort;
@@ -163,21 +163,6 @@ fn change<N: Name, R: Abort + Wait>(rt: &R, system: &System<N>, cpu: &mut Cpu<N>
         assert!(rt; matches!(&reply, Reply::Granted(_)), "at {text}");
     }
     ask(rt, system, cpu, "hello 3 2", "welcome 3 2");
-}
-
-/// Shuts the system, again where it was out of memory for the answer.
-fn shut<N: Name, R: Abort + Wait>(rt: &R, system: System<N>, wanted: &[(u64, u64)]) {
-    let fault = match system.shut(rt) {
-        Ok(ranges) => return have(rt, &ranges, wanted),
-        Err(fault) => fault,
-    };
-    if let ShutFault::Stuck(_) = &fault {
-        stuck(rt, fault)
-    }
-    match fault.again(rt) {
-        Ok(ranges) => have(rt, &ranges, wanted),
-        Err(fault) => stuck(rt, fault),
-    }
 }
 
 /// Asks the lines of two CPUs; the setup comes back where no system could be made.

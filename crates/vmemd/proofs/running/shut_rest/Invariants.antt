@@ -1,7 +1,7 @@
-use Rattle.lease_threads.specs.Ends.{IsLeftOf}
-use Rattle.lease_threads.specs.Systems.{SystemState}
+use Rattle.std.proofs.Common.{◌≡◌}
+use Rattle.lease_threads.specs.Systems.{root_ranges}
 use Rattle.vmemd.proofs.running.shut_rest.Given as goal
 
--- it is still all that is left of the system
+-- it still has the ranges of all roots
 abbrev pub invariant-loop : goal.invariant-loop
-invariant-loop g l = (system : SystemState) → IsLeftOf system l.fn.fault → IsLeftOf system l.left
+invariant-loop g l = root_ranges l.left.system ≡ root_ranges l.fn.halted.system

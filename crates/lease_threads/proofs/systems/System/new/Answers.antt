@@ -9,6 +9,7 @@ returns-in-Ok-open_all-clause-made g c = record {
   one = subst OneSpanEach c.spans.ensures.value (c.are_one_each.ensures.0 c.if-not-are_one_each.false);
   arenas = c.fill.ensures.arenas ∙ c.into_tree.ensures;
   roots = c.fill.ensures.roots ∙ c.in-Ok-open_all.ensures.roots;
+  closed = c.fill.ensures.closed;
 }
 
 pub fill-requires-clause-set_up : goal.fill-requires-clause-set_up
