@@ -20,9 +20,9 @@ use Rattle.arena_tree.specs.declared.setups.OwnedSpan.{OwnedSpan}
 use Rattle.arena_tree.specs.Settings.{SetupState, IsSetup, IsOwned, Clash}
 use Rattle.stock.specs.Spaces.{SpaceState, QuantumCacheState, SpacePlan, plan_of, plans_of, with_arena}
 use Rattle.stock.specs.Stocks.{IsStock}
-use Rattle.stock.specs.Steps.{OnArena}
+use Rattle.stock.specs.Steps.{OnArena, new_cache}
 use Rattle.stock.specs.Endings.{IsBare, IsReaped, IsReapedCache}
-use Rattle.stock.specs.Setups.{plan_for, plans_for, IsNewCache, IsNewSpace, AreDeedsOf, deeds_owned, unused_arena, IsUnused, IsSetUpFrom}
+use Rattle.stock.specs.Setups.{plan_for, plans_for, AreNewCaches, IsNewSpace, AreDeedsOf, deeds_owned, unused_arena, IsUnused, IsSetUpFrom}
 use Rattle.stock.specs.Owning.{weight_owned, AreOwnedOrLeft}
 
 -- the last is the first of the list turned round
@@ -127,7 +127,9 @@ module _ (setup : SetupState) (all : List Holding) (rounds : ℕ) where
     more_owned = ap (λ (a : ArenaState). a.owned) on.does
 
     here_unused : IsUnused rounds o.arena on.arena.owned (with_arena on.arena on.space)
-    here_unused = (let was = is.unused o.arena on.space on.at in record { arena = grown on.space.arena on.arena o.arena h was.arena on.does; caches = was.caches })
+    here_unused =
+        let was = is.unused o.arena on.space on.at in
+        record { arena = grown on.space.arena on.arena o.arena h was.arena on.does; caches = subst (λ (a : ArenaState). AreNewCaches rounds (with_arena a on.space)) (sym on.does) was.caches }
 
     here_owned : deeds_owned o.arena setup.spans all ≡ on.arena.owned ++ deeds_owned o.arena left rest
     here_owned =
@@ -185,11 +187,14 @@ module _ (setup : SetupState) (all : List Holding) (rounds : ℕ) where
         subst (λ (os : List Holding). IsUnused rounds k os s) all_of (is.unused k s at);
   }
 
-  reaped_cache : (c : QuantumCacheState) → IsNewCache rounds c → IsReapedCache c
-  reaped_cache c new = record { rounds = ap depot_rounds new.depot; slabs = subst (λ (xs : List SlabState). All (λ s. ¬ IsComplete s) xs) (sym new.slabs) (All-nil (λ (s : SlabState). ¬ IsComplete s)) }
+  reaped_cache : (arena k quantum slab_size : ℕ) (c : QuantumCacheState) → c ≡ new_cache arena k quantum slab_size rounds → IsReapedCache c
+  reaped_cache arena k quantum slab_size c new = record {
+    rounds = ap (λ (x : QuantumCacheState). depot_rounds x.depot) new;
+    slabs = subst (λ (x : QuantumCacheState). All (λ s. ¬ IsComplete s) x.slab.slabs) (sym new) (All-nil (λ (s : SlabState). ¬ IsComplete s));
+  }
 
   pub owning_is_reaped : (left : List OwnedSpan) (rest : List Holding) (spaces : List SpaceState) → IsOwning left rest spaces → All IsReaped spaces
-  owning_is_reaped left rest spaces is = all_from IsReaped spaces (λ k s at. all_from IsReapedCache s.caches (λ j c there. reaped_cache c (all_at (IsNewCache rounds) s.caches j c (is.unused k s at).caches there)))
+  owning_is_reaped left rest spaces is = all_from IsReaped spaces (λ k s at. all_from IsReapedCache s.caches (λ j c there. reaped_cache s.arena.id (j + 1) s.arena.quantum c.slab.slab_size c ((is.unused k s at).caches j c there)))
 
 -- an arena changed
 module _ (old new : List SpaceState) (k : ℕ) (P : ArenaState → ArenaState → Type 0) (on : OnArena k P old new) where

@@ -3,18 +3,18 @@ use Rattle.std.proofs.Common.{◌≡◌, ℕ, suc, zero, ◌+◌, ◌*◌, ◌/�
 use Rattle.std.specs.Prelude.{slice_get}
 use Rattle.std.proofs.Math.Nat.{mul-le-mul_left, mod_self}
 use Rattle.std.proofs.lemmas.List.{length-map, length-replicate, length-take-le, length_push, map-set, replicate_more, take_more}
-use Rattle.std.proofs.lemmas.List.Elements.{All-nil, All-push, All-weaker, All-set}
+use Rattle.std.proofs.lemmas.List.Elements.{All-push, All-weaker, All-set}
 use Rattle.std.proofs.lemmas.Bool.{cases_lt}
 use Rattle.std.proofs.lemmas.Option.{slice_get_within, slice_get-get_or}
-use Rattle.deed_core.proofs.LawProofs.{pushed, slice_get_one, slice_get_mapped, all_at, smaller_power_divides}
+use Rattle.deed_core.proofs.LawProofs.{pushed, slice_get_one, slice_get_mapped, all_at, all_from, smaller_power_divides}
 use Rattle.tag_arena.specs.ArenaState.{spans_of}
 use Rattle.magazine_layer.specs.Depots.{depot_rounds}
-use Rattle.slab_layer.specs.Slab.{SlabState, deeds_in}
+use Rattle.slab_layer.specs.Slab.{deeds_in}
 use Rattle.arena_tree.specs.declared.trees.TreeArena.{TreeArena}
 use Rattle.arena_tree.specs.Trees.{HasCaches, IsArena, IsTree, ImportsFrom}
 use Rattle.stock.specs.Spaces.{SpaceState, QuantumCacheState, SpacePlan, slab_size_of, plan_of, plans_of, with_caches}
-use Rattle.stock.specs.Steps.{CanImportFrom, HasRoomForCache, GainsCache, next_cache, new_space}
-use Rattle.stock.specs.Setups.{plan_for, plans_for, IsNewCache, IsNewSpace}
+use Rattle.stock.specs.Steps.{CanImportFrom, HasRoomForCache, GainsCache, new_cache, next_cache, new_space}
+use Rattle.stock.specs.Setups.{plan_for, plans_for, IsNewSpace}
 use Rattle.stock.specs.Endings.{IsBareCache, IsBare}
 use Rattle.std.specs.List.{flat_map}
 
@@ -47,7 +47,7 @@ module _ (rounds : ℕ) (x : TreeArena) (first : List SpaceState) where
   pub begun : (spaces : List SpaceState) → spaces ≡ first ++ new_space (length first) x.source x.quantum x.policy ∷ [] → IsPlanning rounds x first spaces 0
   begun spaces is = record {
     planned = ap plans_of is ∙ map-push plan_of first (new_space (length first) x.source x.quantum x.policy);
-    unused = λ all. subst (λ (xs : List SpaceState). All (IsNewSpace rounds) xs) (sym is) (All-push (IsNewSpace rounds) first (new_space (length first) x.source x.quantum x.policy) all (record { arena = refl; caches = All-nil (IsNewCache rounds) }));
+    unused = λ all. subst (λ (xs : List SpaceState). All (IsNewSpace rounds) xs) (sym is) (All-push (IsNewSpace rounds) first (new_space (length first) x.source x.quantum x.policy) all (record { arena = refl; caches = λ j c at. absurd (let e : None ≡ Some c = at in cc) }));
   }
 
   module _ (spaces : List SpaceState) (n : ℕ) (is : IsPlanning rounds x first spaces n) where
@@ -100,7 +100,15 @@ module _ (rounds : ℕ) (x : TreeArena) (first : List SpaceState) where
         planned_now i = record { source = (here i).source; quantum = (here i).quantum; policy = (here i).policy; slab_sizes = sizes i }
 
         unused_now : IsNewSpace rounds on.space → IsNewSpace rounds now
-        unused_now new = record { arena = new.arena; caches = All-push (IsNewCache rounds) on.space.caches c new.caches (record { slabs = refl; colour = refl; depot = refl }) }
+        unused_now new = record {
+          arena = new.arena;
+          caches = λ j k at. elim (pushed on.space.caches j c k at) [
+            | inl last ↦
+                subst (λ (y : QuantumCacheState). y ≡ new_cache on.space.arena.id (j + 1) on.space.arena.quantum y.slab.slab_size rounds) (sym last.1)
+                (subst (λ (n : ℕ). c ≡ new_cache on.space.arena.id (n + 1) on.space.arena.quantum x.slab_size rounds) (sym last.0) refl)
+            | inr there ↦ new.caches j k there
+          ];
+        }
 
 -- the arenas so far are those of the tree's front
 module _ (arenas : List TreeArena) (spaces : List SpaceState) (id : ℕ) (within : id < length arenas) (planned : plans_of spaces ≡ plans_for (take id arenas)) where
@@ -127,8 +135,8 @@ module _ (arenas : List TreeArena) (spaces : List SpaceState) (id : ℕ) (within
       is ∙ ap (λ (ps : List SpacePlan). ps ++ plan_for x ∷ []) planned ∙ sym (map-push plan_for (take id arenas) x) ∙ ap (λ (xs : List TreeArena). plans_for xs) (ap (λ (z : TreeArena). take id arenas ++ z ∷ []) (sym read) ∙ sym (take_more arenas id x within))
 
 -- what has nothing can end
-bare_cache : (rounds : ℕ) (c : QuantumCacheState) → IsNewCache rounds c → IsBareCache c
-bare_cache rounds c new = record { slab = ap (λ (ss : List SlabState). flat_map deeds_in ss) new.slabs; depot = ap depot_rounds new.depot }
+bare_cache : (arena k quantum slab_size rounds : ℕ) (c : QuantumCacheState) → c ≡ new_cache arena k quantum slab_size rounds → IsBareCache c
+bare_cache arena k quantum slab_size rounds c new = record { slab = ap (λ (x : QuantumCacheState). flat_map deeds_in x.slab.slabs) new; depot = ap (λ (x : QuantumCacheState). depot_rounds x.depot) new }
 
 pub new_is_bare : (rounds : ℕ) (spaces : List SpaceState) → All (IsNewSpace rounds) spaces → All IsBare spaces
-new_is_bare rounds spaces all = All-weaker (IsNewSpace rounds) IsBare (λ s new. record { spans = ap spans_of new.arena; caches = All-weaker (IsNewCache rounds) IsBareCache (bare_cache rounds) s.caches new.caches }) spaces all
+new_is_bare rounds spaces all = All-weaker (IsNewSpace rounds) IsBare (λ s new. record { spans = ap spans_of new.arena; caches = all_from IsBareCache s.caches (λ j c at. bare_cache s.arena.id (j + 1) s.arena.quantum c.slab.slab_size rounds c (new.caches j c at)) }) spaces all

@@ -1,16 +1,16 @@
 -- What a stock is set up as by a setup: the arenas of its tree, and the spans that its roots own.
-use Rattle.std.specs.Prelude.{◌≡◌, ℕ, ◌+◌, ◌/◌, ◌==◌, if◌then◌else◌, List, [], ◌∷◌, All, map}
+use Rattle.std.specs.Prelude.{◌≡◌, ℕ, ◌+◌, ◌/◌, ◌==◌, if◌then◌else◌, List, [], ◌∷◌, map}
 use Rattle.std.specs.Prelude.{replicate}
 use Rattle.std.specs.Prelude.{slice_get, Some}
 use Rattle.std.specs.FinMap as finmap
 use Rattle.deed_core.specs.Holding.{Holding}
 use Rattle.tag_arena.specs.declared.policies.Policy.{Policy}
 use Rattle.tag_arena.specs.ArenaState.{ArenaState, empty_arena}
-use Rattle.magazine_layer.specs.Depots.{new_depot}
 use Rattle.arena_tree.specs.declared.trees.TreeArena.{TreeArena}
 use Rattle.arena_tree.specs.declared.setups.OwnedSpan.{OwnedSpan}
 use Rattle.arena_tree.specs.Settings.{SetupState}
 use Rattle.stock.specs.Spaces.{SpaceState, QuantumCacheState, SpacePlan, plans_of}
+use Rattle.stock.specs.Steps.{new_cache}
 
 -- what an arena of a tree is set up as: it has a cache for each multiple of its quantum up to the
 -- greatest cached size, each with slabs of its one slab size
@@ -25,17 +25,16 @@ plan_for x = record {
 abbrev pub plans_for : List TreeArena → List SpacePlan
 plans_for arenas = map plan_for arenas
 
--- a cache with no slab and no magazine, whose first slab has no colour, and whose magazines take
--- this many rounds
-pub record IsNewCache (rounds : ℕ) (c : QuantumCacheState) : Type 0 where
-  pub slabs : c.slab.slabs ≡ []
-  pub colour : c.slab.colour ≡ 0
-  pub depot : c.depot ≡ new_depot rounds
+-- each cache of the arena is as it is made, with chunks of one quantum more than the one before it,
+-- with no slab yet and no magazine, and its magazines take this many rounds
+abbrev pub AreNewCaches : ℕ → SpaceState → Type 0
+AreNewCaches rounds s = (j : ℕ) (c : QuantumCacheState) → slice_get s.caches j ≡ Some c
+    → c ≡ new_cache s.arena.id (j + 1) s.arena.quantum c.slab.slab_size rounds
 
 -- an arena with no span, whose caches have nothing
 pub record IsNewSpace (rounds : ℕ) (s : SpaceState) : Type 0 where
   pub arena : s.arena ≡ empty_arena s.arena.id s.arena.quantum s.arena.policy
-  pub caches : All (IsNewCache rounds) s.caches
+  pub caches : AreNewCaches rounds s
 
 -- there is one deed for each owned span, of its range and in its order
 abbrev pub AreDeedsOf : List OwnedSpan → List Holding → Type 0
@@ -70,7 +69,7 @@ unused_arena id quantum policy spans = record {
 -- the arena of this number owns these spans, all of them free, and its caches have nothing
 pub record IsUnused (rounds id : ℕ) (spans : List Holding) (s : SpaceState) : Type 0 where
   pub arena : s.arena ≡ unused_arena id s.arena.quantum s.arena.policy spans
-  pub caches : All (IsNewCache rounds) s.caches
+  pub caches : AreNewCaches rounds s
 
 -- the stock has the arenas of the setup in their order, each with its source, quantum, policy and
 -- caches, and owning just the setup's spans of that arena, each once and whole, as these deeds; no

@@ -3,15 +3,15 @@ use Rattle.std.proofs.Common.{◌≡◌, sym, subst, ap, ◌∙◌, List, [], �
 use Rattle.std.specs.List.{flat_map}
 use Rattle.std.proofs.lemmas.List.{append-nil}
 use Rattle.deed_core.specs.Holding.{Holding}
-use Rattle.deed_core.proofs.LawProofs.{all_at, all_from}
+use Rattle.deed_core.proofs.LawProofs.{all_from}
 use Rattle.magazine_layer.specs.Depots.{depot_rounds}
 use Rattle.arena_tree.specs.declared.trees.TreeArena.{TreeArena}
 use Rattle.arena_tree.specs.Settings.{SetupState}
 use Rattle.arena_tree.specs.Trees.{IsTree}
 use Rattle.stock.specs.Accounts.{IsAccounted}
 use Rattle.stock.specs.Endings.{IsReaped, IsReapedCache}
-use Rattle.stock.specs.Setups.{IsSetUpFrom, IsNewCache, numbered_deeds, plans_for}
-use Rattle.stock.specs.Spaces.{SpaceState}
+use Rattle.stock.specs.Setups.{IsSetUpFrom, numbered_deeds, plans_for}
+use Rattle.stock.specs.Spaces.{SpaceState, QuantumCacheState}
 use Rattle.stock.specs.OwnCaches.{all_own_rounds}
 use Rattle.lease_book.specs.BookState.{BookState, IsHistory, segments_of_accounts}
 use Rattle.lease_machine.specs.Picture.{NumberedCpu, Picture, IsPicture, caches_of, fresh_cpu}
@@ -23,10 +23,10 @@ module _ (setup : SetupState) (deeds : List Holding) (spaces : List SpaceState) 
   -- no cache of it has anything
   all_reaped : All IsReaped spaces
   all_reaped = all_from IsReaped spaces (λ k s at. all_from IsReapedCache s.caches (λ j c among.
-      (let new = all_at (IsNewCache 3) s.caches j c (up.unused k s at).caches among in
+      (let new = (up.unused k s at).caches j c among in
       record {
-        rounds = ap depot_rounds new.depot;
-        slabs = λ i s below. absurd (omega (arith, below, ap length new.slabs));
+        rounds = ap (λ (x : QuantumCacheState). depot_rounds x.depot) new;
+        slabs = λ i s below. absurd (omega (arith, below, ap (λ (x : QuantumCacheState). length x.slab.slabs) new));
       })))
 
   module _ (tree : List TreeArena) (cpus : List NumberedCpu) (b : BookState) (named : tree ≡ setup.arenas) (one : cpus ≡ fresh_cpu 0 spaces ∷ []) (history : IsHistory [] b) where
