@@ -1,6 +1,6 @@
 -- Laws of the lists of steps of lines, over all trees: how many locks of parts they take, where
--- each segment is then, when nothing fits, and what a stop ends. A call of the book takes none of the locks, and what
--- was in the hand before is a free of its own.
+-- each segment is then, when nothing fits, and what a stop ends. A call of the book takes none of
+-- the locks, and what was in the hand before is a free of its own.
 use Rattle.std.specs.Prelude.{◌≡◌, ℕ, ◌+◌, ◌*◌, ◌≤◌, List, [], Option, Some, None, Ok, Err}
 use Rattle.std.specs.Prelude.{length, false}
 use Rattle.deed_core.specs.Tag.{Tag}
@@ -75,8 +75,8 @@ HelloHandles D = (arenas : List TreeArena) (hand : Option Tag) (h : HelloLine) (
     → CallHandles {D = D} call_left (hello_plan arenas hand h turns) hand
 
 -- No line loses a segment: what was in the hand, what parts gave, and what the ended leases were of
--- went into parts, or was leased, or is left in the hand, whatever parts answer soundly and whatever
--- book hands back what it doesn't lease.
+-- went into parts, or was leased, or is left in the hand, whatever parts answer soundly and
+-- whatever book hands back what it doesn't lease.
 abbrev pub RequestKeeps : Type 0 → Type 0
 RequestKeeps D = (arenas : List TreeArena) (hand : Option Tag) (id : RequestId) (op : Op)
     → EndsTold (Sound (nodes_of arenas)) (HandsBack D)

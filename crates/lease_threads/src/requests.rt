@@ -33,9 +33,9 @@ pub(crate) type Ended<N, T> = Result<T, CallFault<Segment<SeatDeed<N>>>>;
 
 impl<N: Name> System<N> {
     /// Answers one line of a client. The gate is asked before each step; where it says Stop the
-    /// request ends there, and the CPU keeps what that left in its hand, and its magazines. A segment that can't be
-    /// placed stays in the hand: each request tries to place it first, and is answered `again`
-    /// while it can't.
+    /// request ends there, and the CPU keeps what that left in its hand, and its magazines. A
+    /// segment that can't be placed stays in the hand: each request tries to place it first, and is
+    /// answered `again` while it can't.
     pub fn request<R: Wait, G: Gate>(
         &self,
         rt: &R,
