@@ -11,8 +11,9 @@ use Rattle.arena_tree.specs.Trees.{nodes_of, ChainFrom}
 use Rattle.arena_tree.specs.Plans.{Plan, Done, Ask, Step, Path, Ran}
 use Rattle.locked_parts.specs.Gates.{NotesStops}
 use Rattle.locked_parts.specs.declared.gates.NextStep.{NextStep}
+use Rattle.quantum_cache.specs.declared.reaps.Reaping.{Reaping}
 use Rattle.quantum_cache.specs.Reaps.{ReapEnd, reap_arena_plan}
-use Rattle.lease_threads.specs.Reaping.{EndsSoundly, HasReaped, ReapsSoundly}
+use Rattle.lease_threads.specs.Reaping.{EndsSoundly, HasReaped, ReapsSoundly, unbegun}
 use Rattle.lease_threads.proofs.Runs.{not_true}
 
 -- where no Stop was noted and the gate never says one, none comes, and none is noted
@@ -36,7 +37,7 @@ path_ends step tree count rounds noted quiet nodes (Ask e f) s t a none is d =
     (d.1, (subst (λ n. Sound n e d.1) is d.2.sound, calm.0), path_ends step tree count rounds noted quiet nodes (f d.1) d.0 t a calm.1 (d.2.same_tree ∙ is) d.3)
 
 -- its answers were sound
-pub ran_reaps : {S : Type 0} (step : S → (e : Event) → AnswerTo e → S → Type 0) (tree : S → List Node) (count rounds : S → ℕ) (noted : S → Bool) → IsQuiet step noted → (arenas chained : List TreeArena) (arena limit units : ℕ) (hand : Option Tag) (chain : List Level) (s t : S) (end : ReapEnd)
-    → Ran step tree count rounds (reap_arena_plan chain (record { left = limit; units = 0 })) s t end → noted s ≡ false → tree s ≡ nodes_of arenas → chained ≡ arenas → ChainFrom chained (Some arena) chain → HasReaped end units hand → ReapsSoundly arenas arena limit units hand
-ran_reaps step tree count rounds noted quiet arenas chained arena limit units hand chain s t end ran none seen is from has =
-    (chain, subst (λ xs. ChainFrom xs (Some arena) chain) is from, end, has, path_ends step tree count rounds noted quiet (nodes_of arenas) (reap_arena_plan chain (record { left = limit; units = 0 })) s t end none seen ran.path)
+pub ran_reaps : {S : Type 0} (step : S → (e : Event) → AnswerTo e → S → Type 0) (tree : S → List Node) (count rounds : S → ℕ) (noted : S → Bool) → IsQuiet step noted → (arenas chained : List TreeArena) (arena limit : ℕ) (reaping : Reaping) (hand : Option Tag) (chain : List Level) (s t : S) (end : ReapEnd)
+    → Ran step tree count rounds (reap_arena_plan chain (unbegun limit)) s t end → noted s ≡ false → tree s ≡ nodes_of arenas → chained ≡ arenas → ChainFrom chained (Some arena) chain → HasReaped end reaping hand → ReapsSoundly arenas arena limit reaping hand
+ran_reaps step tree count rounds noted quiet arenas chained arena limit reaping hand chain s t end ran none seen is from has =
+    (chain, subst (λ xs. ChainFrom xs (Some arena) chain) is from, end, has, path_ends step tree count rounds noted quiet (nodes_of arenas) (reap_arena_plan chain (unbegun limit)) s t end none seen ran.path)

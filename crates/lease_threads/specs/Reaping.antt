@@ -11,6 +11,7 @@ use Rattle.arena_tree.specs.declared.trees.TreeArena.{TreeArena}
 use Rattle.locked_parts.specs.Answers.{AnswersSoundly}
 use Rattle.quantum_cache.specs.declared.emptying_faults.EmptyingFault.{EmptyingFault}
 use Rattle.quantum_cache.specs.declared.emptying_faults.EmptyingFault.TheVariants.{Stuck, Stopped}
+use Rattle.quantum_cache.specs.declared.reaps.Reaping.{Reaping}
 use Rattle.quantum_cache.specs.Reaps.{ReapEnd, reap_arena_plan}
 
 -- some sound answers of the parts, none of them a Stop, lead the list of steps to this end
@@ -24,19 +25,22 @@ abbrev pub unplaced_hand : EmptyingFault Tag → Option Tag
 unplaced_hand (Stuck t) = Some t
 unplaced_hand (Stopped hand) = hand
 
--- the reaping ended with these units of slabs, and with this hand
-abbrev pub HasReaped : ReapEnd → ℕ → Option Tag → Type 0
-HasReaped (Ok r) units hand = (units ≡ r.units) × (hand ≡ None)
-HasReaped (Err f) units hand = (units ≡ f.reaping.units) × (hand ≡ unplaced_hand f.cause)
+-- so many looks may be taken, and none was
+abbrev pub unbegun : ℕ → Reaping
+unbegun limit = record { left = limit; units = 0 }
+
+-- the reaping came so far, and ended with this hand
+abbrev pub HasReaped : ReapEnd → Reaping → Option Tag → Type 0
+HasReaped (Ok r) reaping hand = (reaping ≡ r) × (hand ≡ None)
+HasReaped (Err f) reaping hand = (reaping ≡ f.reaping) × (hand ≡ unplaced_hand f.cause)
 
 -- the looks at the depots and slab caches of the chain's first arena, so many at most, ended so
-abbrev pub ReapsSoundly : List TreeArena → (arena limit units : ℕ) → Option Tag → Type 0
-ReapsSoundly arenas arena limit units hand = (chain : List Level)
+abbrev pub ReapsSoundly : List TreeArena → (arena limit : ℕ) → Reaping → Option Tag → Type 0
+ReapsSoundly arenas arena limit reaping hand = (chain : List Level)
     × ChainFrom arenas (Some arena) chain
-    × (end : ReapEnd) × HasReaped end units hand
-    × EndsSoundly (nodes_of arenas)
-    (reap_arena_plan chain (record { left = limit; units = 0 })) end
+    × (end : ReapEnd) × HasReaped end reaping hand
+    × EndsSoundly (nodes_of arenas) (reap_arena_plan chain (unbegun limit)) end
 
--- a hand that can't be placed stays full, and nothing was reaped
-abbrev pub KeepsHand : (old new : Option Tag) → ℕ → Type 0
-KeepsHand old new units = (old ≢ None) × (new ≢ None) × (units ≡ 0)
+-- a hand that can't be placed stays full, and no look was taken
+abbrev pub KeepsHand : (old new : Option Tag) → ℕ → Reaping → Type 0
+KeepsHand old new limit reaping = (old ≢ None) × (new ≢ None) × (reaping ≡ unbegun limit)

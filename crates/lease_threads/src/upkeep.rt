@@ -2,13 +2,13 @@
 ghost use Rattle.std.specs.Prelude.{◌≡◌, ◌⊎◌, ◌<◌, ◌≤◌, None, true, length};
 ghost use Rattle.magazine_layer.specs.Magazines.{IsSize};
 ghost use Rattle.locked_parts.specs.Kinds.{AreForSame, count_of_caches};
-ghost use Rattle.lease_threads.specs.Reaping.{ReapsSoundly, KeepsHand};
+ghost use Rattle.lease_threads.specs.Reaping.{ReapsSoundly, KeepsHand, unbegun};
 
 use crate::cpus::Cpu;
 use crate::systems::System;
 use deed_table::Name;
 use locked_parts::{OpenGate, Running};
-use quantum_cache::{EmptyingFault, ReapFault, reap_arena};
+use quantum_cache::{EmptyingFault, ReapFault, Reaping, reap_arena};
 use std::sync::Wait;
 
 impl<N: Name> System<N> {
@@ -32,49 +32,59 @@ impl<N: Name> System<N> {
     }
 
     /// Moves rounds that the depots of the arena may let go to their slabs, and slabs of which no
-    /// chunk is out to the arena, in at most `limit` looks: the units of those slabs. It tries to
-    /// place the CPU's hand first, and answers 0 while it can't.
-    pub fn reap<R: Wait>(&self, rt: &R, cpu: &mut Cpu<N>, arena: u32, limit: u64) -> u128
+    /// chunk is out to the arena, in at most `limit` looks. It tries to place the CPU's hand first,
+    /// and takes no look while it can't.
+    pub fn reap<R: Wait>(&self, rt: &R, cpu: &mut Cpu<N>, arena: u32, limit: u64) -> Reaping
         ensures number { cpu.new.number ≡ cpu.old.number }
         ensures magazines { AreForSame cpu.old.caches cpu.new.caches }
         ensures reaped { arena < length self.now.arenas
-            → KeepsHand cpu.old.hand cpu.new.hand result
+            → KeepsHand cpu.old.hand cpu.new.hand limit result
             ⊎ ReapsSoundly self.now.arenas arena limit result cpu.new.hand }
-        ensures no_arena { length self.now.arenas ≤ arena → (result ≡ 0)
-            × ((cpu.new.hand ≡ None) ⊎ KeepsHand cpu.old.hand cpu.new.hand result) }
+        ensures no_arena { length self.now.arenas ≤ arena → (result ≡ unbegun limit)
+            × ((cpu.new.hand ≡ None) ⊎ KeepsHand cpu.old.hand cpu.new.hand limit result) }
     {
         if !self.place_hand(rt, cpu) {
-            return 0;
+            return unbegun(limit);
         }
         self.reap_empty(rt, cpu, arena, limit)
     }
 
     /// Reaps with an empty hand.
-    fn reap_empty<R: Wait>(&self, rt: &R, cpu: &mut Cpu<N>, arena: u32, limit: u64) -> u128
+    fn reap_empty<R: Wait>(&self, rt: &R, cpu: &mut Cpu<N>, arena: u32, limit: u64) -> Reaping
         requires { cpu.old.hand ≡ None }
         ensures number { cpu.new.number ≡ cpu.old.number }
         ensures magazines { AreForSame cpu.old.caches cpu.new.caches }
         ensures reaped { arena < length self.now.arenas
             → ReapsSoundly self.now.arenas arena limit result cpu.new.hand }
         ensures no_arena { length self.now.arenas ≤ arena
-            → (result ≡ 0) × (cpu.new.hand ≡ None) }
+            → (result ≡ unbegun limit) × (cpu.new.hand ≡ None) }
     {
         if arena as usize >= self.parts.tree().len() {
-            return 0;
+            return unbegun(limit);
         }
         let chain = self.parts.tree().chain(arena);
         let number = cpu.number();
         let mut running = Running::new(&self.parts, rt, &OpenGate, number, &mut cpu.caches);
         match reap_arena(&mut running, chain, limit) {
-            Ok(reaping) => reaping.units,
+            Ok(reaping) => reaping,
             Err(ReapFault { reaping, cause }) => {
                 match cause {
                     EmptyingFault::Stuck(segment) => cpu.hold(segment),
                     EmptyingFault::Stopped(Some(segment)) => cpu.hold(segment),
                     EmptyingFault::Stopped(None) => {}
                 }
-                reaping.units
+                reaping
             }
         }
+    }
+}
+
+/// So many looks may be taken, and none was.
+fn unbegun(limit: u64) -> Reaping
+    ensures { result ≡ unbegun limit }
+{
+    Reaping {
+        left: limit,
+        units: 0,
     }
 }

@@ -357,7 +357,7 @@ fn placed_first<N: Name, R: Abort + Wait + AllocGlobal>(rt: &R, ground: Ground, 
     ask(rt, &system, &mut one, "hello 1 2", "welcome 1 2");
     assert_eq!(rt; one.units(), 0);
     stop(rt, &system, &mut one, "lease 1 2 1 d 48", 2, 48);
-    assert_eq!(rt; system.reap(rt, &mut one, 0, 1024), 16);
+    assert_eq!(rt; system.reap(rt, &mut one, 0, 1024).units, 16);
     assert_eq!(rt; one.units(), 0);
     ask(
         rt,

@@ -79,12 +79,12 @@ fn reaped<N: Name, R: Abort + Wait + AllocGlobal>(rt: &R, ground: Ground, setup:
     for (text, wanted) in &rows {
         ask(rt, &system, &mut one, text, wanted);
         system.tick(rt);
-        assert!(rt; system.reap(rt, &mut two, 0, 1024) == 0);
+        assert!(rt; system.reap(rt, &mut two, 0, 1024).units == 0);
     }
     assert!(rt; one.units() > 0);
     retire(rt, &system, one);
     system.tick(rt);
-    assert!(rt; system.reap(rt, &mut two, 0, 1024) == 16);
+    assert!(rt; system.reap(rt, &mut two, 0, 1024).units == 16);
     assert!(rt; two.units() == 0);
     ask(
         rt,
@@ -160,11 +160,11 @@ fn second_reaped<N: Name, R: Abort + Wait + AllocGlobal>(rt: &R, ground: Ground,
     }
     assert!(rt; one.units() == 8);
     retire(rt, &system, one);
-    assert!(rt; system.reap(rt, &mut two, 1, 1024) == 0);
-    assert!(rt; system.reap(rt, &mut two, 1, 1024) == 0);
+    assert!(rt; system.reap(rt, &mut two, 1, 1024).units == 0);
+    assert!(rt; system.reap(rt, &mut two, 1, 1024).units == 0);
     system.tick(rt);
-    assert!(rt; system.reap(rt, &mut two, 0, 1024) == 0);
-    assert!(rt; system.reap(rt, &mut two, 1, 1024) == 16);
+    assert!(rt; system.reap(rt, &mut two, 0, 1024).units == 0);
+    assert!(rt; system.reap(rt, &mut two, 1, 1024).units == 16);
     ask(
         rt,
         &system,
