@@ -7,18 +7,24 @@ use Rattle.lease_proto.specs.declared.replies.Reply.{Reply}
 use Rattle.lease_proto.specs.declared.replies.Reply.TheVariants.{Granted, Released}
 use Rattle.lease_threads.specs.Replying.{IsAnswerTo, IsAgain}
 use Rattle.lease_threads.specs.Systems.{CpuState}
+use Rattle.locked_parts.specs.Kinds.{AreForSame}
 
 -- the arenas that its system was set up with, and its CPU
 pub record SystemWorkerState : Type 0 where
   pub arenas : List TreeArena
   pub cpu : CpuState
 
+-- it is the CPU that it was: its number, and what its magazines are for
+pub record StaysCpu (old new : CpuState) : Type 0 where
+  pub number : new.number ≡ old.number
+  pub magazines : AreForSame old.caches new.caches
+
 -- a CPU that connections share, and whether it moved units lately
 pub record SeatState : Type 0 where
   pub cpu : CpuState
   pub has_moved : Bool
 
--- units went through a CPU for this reply
+-- units go through a CPU where a line is settled by this reply
 abbrev pub moves_units : Reply → Bool
 moves_units (Granted grant) = true
 moves_units (Released id) = true
@@ -29,11 +35,16 @@ abbrev pub IsAnswer : List TreeArena → Line → Reply → Type 0
 IsAnswer arenas line reply =
     (receipt : Option ReceiptState) × IsAnswerTo arenas line reply receipt
 
--- The system may answer the line so. The arenas stay; where the CPU's hand can't be placed the
--- reply is `again`.
+-- The system may answer the line so. The arenas and the CPU stay; where the CPU's hand can't be
+-- placed the reply is `again`.
 abbrev pub MayReply : SystemWorkerState → Line → Reply → SystemWorkerState → Type 0
 MayReply old line reply new = IsAnswer old.arenas line reply
     × IfSome new.cpu.hand (λ _. IsAgain reply) × (new.arenas ≡ old.arenas)
+    × StaysCpu old.cpu new.cpu
+
+-- the arenas and the CPU stay
+abbrev pub MayTidy : SystemWorkerState → SystemWorkerState → Type 0
+MayTidy old new = (new.arenas ≡ old.arenas) × StaysCpu old.cpu new.cpu
 
 -- The same of a worker that shares its CPUs, of which its arenas are seen: whichever CPU does it.
 abbrev pub MayShareReply : List TreeArena → Line → Reply → List TreeArena → Type 0

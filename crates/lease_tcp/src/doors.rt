@@ -2,7 +2,8 @@
 
 use crate::pacing::Pace;
 use crate::rolls::Roll;
-use std::net::TcpListener;
+use std::io;
+use std::net::{TcpListener, TcpStream};
 use std::sync::atomic::{AtomicBool, Ordering};
 
 /// What workers take connections from, and how they wait for their peers.
@@ -18,6 +19,12 @@ pub struct Door<'a> {
 }
 
 impl Door<'_> {
+    /// Waits for a connection.
+    pub(crate) fn accept(&self) -> io::Result<TcpStream> {
+        let (stream, _) = self.listener.accept()?;
+        Ok(stream)
+    }
+
     /// Whether no further connection is to be served.
     pub(crate) fn is_closed(&self) -> bool {
         self.stop.load(Ordering::SeqCst)

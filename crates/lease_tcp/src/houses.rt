@@ -1,7 +1,9 @@
 //! What the threads of a server share whose connections have a thread each.
+ghost use Rattle.std.specs.Prelude.{◌<◌, length};
 
 use crate::doors::Door;
 use crate::seats::Seat;
+use crate::shared_cpus::SharedCpus;
 use deed_table::Name;
 use lease_threads::System;
 use std::sync::Mutex;
@@ -11,14 +13,23 @@ use std::sync::atomic::{AtomicBool, Ordering};
 #[derive(Drop)]
 pub struct House<'a, N: Name> {
     pub door: Door<'a>,
-    pub system: &'a System<N>,
-    /// The CPUs of the system, by which lines are answered.
-    pub seats: &'a [Mutex<Seat<N>>],
+    pub cpus: SharedCpus<'a, N>,
     /// Raised once all connections have ended, and none comes any more.
     pub over: AtomicBool,
 }
 
-impl<N: Name> House<'_, N> {
+impl<'a, N: Name> House<'a, N> {
+    /// A house whose lines are answered by these seats of the system.
+    pub fn new(door: Door<'a>, system: &'a System<N>, seats: &'a [Mutex<Seat<N>>]) -> House<'a, N>
+        requires { 0 < length seats.now }
+    {
+        House {
+            door,
+            cpus: SharedCpus::new(system, seats),
+            over: AtomicBool::new(false),
+        }
+    }
+
     /// Whether all connections have ended.
     pub(crate) fn is_over(&self) -> bool {
         self.over.load(Ordering::SeqCst)

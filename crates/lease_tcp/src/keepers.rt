@@ -2,7 +2,7 @@
 //! for ever.
 
 use crate::houses::House;
-use crate::seats::take_seat;
+use crate::shared_cpus::SharedCpus;
 use deed_table::Name;
 use std::sync::Wait;
 use std::thread;
@@ -14,7 +14,7 @@ const KEEPER_TURN: u64 = 20;
 /// After how many milliseconds it goes round again.
 const ROUND: u64 = 1000;
 
-/// How often each arena is reaped in a round, by `REAP_LIMIT` looks at most each time.
+/// How often each arena is reaped in a round at most, by `REAP_LIMIT` looks at most each time.
 const REAPS: u32 = 64;
 
 /// Goes round each second, until all connections have ended.
@@ -26,7 +26,7 @@ pub fn keep<N: Name, R: Wait + Clock>(rt: &R, house: &House<'_, N>) {
         }
         thread::sleep(rt, Duration::from_millis(KEEPER_TURN));
         if is_due(rt, round) {
-            go_round(rt, house);
+            go_round(rt, &house.cpus);
             round = Instant::now(rt).ok();
         }
     }
@@ -45,30 +45,29 @@ fn is_due<C: Clock>(clock: &C, round: Option<Instant>) -> bool {
 
 /// Drains each CPU that moved nothing since the last round, reaps each arena, and ticks each
 /// depot. It has one seat at a time, and none for longer than one drain or reap takes.
-pub fn go_round<N: Name, R: Wait>(rt: &R, house: &House<'_, N>) {
-    for seat in house.seats {
+pub fn go_round<N: Name, R: Wait>(rt: &R, cpus: &SharedCpus<'_, N>) {
+    for seat in cpus.seats {
         let mut guard = seat.lock(rt);
         if guard.rests() {
-            guard.drain(rt, house.system);
+            guard.drain(rt, cpus.system);
         }
     }
-    reap_by_turns(rt, house);
-    house.system.tick(rt);
+    reap_by_turns(rt, cpus);
+    cpus.system.tick(rt);
 }
 
 /// Reaps each arena. Children come before their sources: what they hand back can be reaped there.
-fn reap_by_turns<N: Name, R: Wait>(rt: &R, house: &House<'_, N>) {
-    for arena in (0..house.system.tree().len() as u32).rev() {
-        reap_often(rt, house, arena);
+fn reap_by_turns<N: Name, R: Wait>(rt: &R, cpus: &SharedCpus<'_, N>) {
+    for arena in (0..cpus.system.tree().len() as u32).rev() {
+        reap_often(rt, cpus, arena);
     }
 }
 
-/// Reaps an arena so many times, each by a seat that is free then.
-fn reap_often<N: Name, R: Wait>(rt: &R, house: &House<'_, N>, arena: u32) {
-    if house.seats.is_empty() {
-        return;
-    }
+/// Reaps an arena, each time by a seat that is free then, until a reap ends before its limit.
+fn reap_often<N: Name, R: Wait>(rt: &R, cpus: &SharedCpus<'_, N>, arena: u32) {
     for _ in 0..REAPS {
-        take_seat(rt, house.seats, 0).reap(rt, house.system, arena);
+        if cpus.take(rt, 0).reap(rt, cpus.system, arena).left > 0 {
+            return;
+        }
     }
 }

@@ -12,9 +12,10 @@
 //!
 //! `serve_talks` (talks) gives each connection of a `House` (houses) a thread, up to as many as its
 //! roll takes; one more is told so. Each has a `SharedWorker` (shared_workers), which for each line
-//! takes a `Seat` (seats): one of the system's CPUs, under a lock. `keep` (keepers) tidies such a
-//! system by time. An `Overseer` (shortages) is told what there was none of for a connection. A
-//! thread holds one seat at a time, and takes no seat while it holds a part's lock.
+//! takes a `Seat` (seats) of the `SharedCpus` (shared_cpus): one of the system's CPUs, under a
+//! lock. `keep` (keepers) tidies such a system by time. An `Overseer` (shortages) is told what
+//! there was none of for a connection. A thread holds one seat at a time, and takes no seat while
+//! it holds a part's lock.
 //!
 //! What a line may be answered is stated in specs/Replying.antt, and what a connection leaves in
 //! specs/Connections.antt. Of a socket no contract can say what it gives or takes, and of a clock
@@ -39,6 +40,7 @@ mod pacing;
 mod replying;
 mod rolls;
 mod seats;
+mod shared_cpus;
 mod shared_workers;
 mod shortages;
 mod system_workers;
@@ -51,10 +53,11 @@ pub use houses::House;
 pub use keepers::{go_round, keep};
 pub use links::Link;
 pub use loops::{ACCEPT_PAUSE, worker_loop};
-pub use pacing::{Limited, Pace, PacedReader, PacedWriter};
+pub use pacing::{Limited, Pace, PacedReader, PacedWriter, Side};
 pub use replying::ClientLines;
 pub use rolls::{NotEntered, Roll, SharedStream};
 pub use seats::{Seat, new_seats};
+pub use shared_cpus::SharedCpus;
 pub use shared_workers::SharedWorker;
 pub use shortages::{Overseer, Shortage};
 pub use system_workers::{REAP_LIMIT, SystemWorker, accept_loop};

@@ -8,22 +8,25 @@ use std::io::{ErrorKind, Read, Write};
 use std::net::TcpStream;
 use std::time::{Clock, Duration, Instant};
 
+/// A side of a stream.
+#[derive(Clone, Copy, Debug, PartialEq, Eq)]
+pub enum Side {
+    Reads,
+    Writes,
+}
+
 /// A stream each of whose reads and writes waits no longer than is set.
 pub trait Limited {
-    /// Sets how long a read may wait.
-    fn limit_reads(&self, limit: Duration) -> io::Result<()>;
-
-    /// Sets how long a write may wait.
-    fn limit_writes(&self, limit: Duration) -> io::Result<()>;
+    /// Sets how long a call of this side may wait.
+    fn limit(&self, side: Side, limit: Duration) -> io::Result<()>;
 }
 
 impl Limited for &TcpStream {
-    fn limit_reads(&self, limit: Duration) -> io::Result<()> {
-        self.set_read_timeout(Some(limit))
-    }
-
-    fn limit_writes(&self, limit: Duration) -> io::Result<()> {
-        self.set_write_timeout(Some(limit))
+    fn limit(&self, side: Side, limit: Duration) -> io::Result<()> {
+        match side {
+            Side::Reads => self.set_read_timeout(Some(limit)),
+            Side::Writes => self.set_write_timeout(Some(limit)),
+        }
     }
 }
 
@@ -83,10 +86,7 @@ impl<S: Read + Limited, C: Clock> Read for PacedReader<'_, S, C> {
             Awaited::Rest(since) => left_of(self.clock, since, self.pace.line)?,
             Awaited::Nothing => return Err(io::Error::from(ErrorKind::TimedOut)),
         };
-        if self.limit != Some(limit) {
-            self.stream.limit_reads(limit)?;
-            self.limit = Some(limit);
-        }
+        set_limit(&self.stream, Side::Reads, &mut self.limit, limit)?;
         let count = self.stream.read(buf)?;
         if count > 0 {
             self.awaited = awaited_after(self.clock, self.awaited, &buf[..count]);
@@ -150,10 +150,7 @@ impl<S: Write + Limited, C: Clock> Write for PacedWriter<'_, S, C> {
             }
             Some(since) => left_of(self.clock, since, self.pace.line)?,
         };
-        if self.limit != Some(limit) {
-            self.stream.limit_writes(limit)?;
-            self.limit = Some(limit);
-        }
+        set_limit(&self.stream, Side::Writes, &mut self.limit, limit)?;
         self.stream.write(buf)
     }
 
@@ -161,6 +158,20 @@ impl<S: Write + Limited, C: Clock> Write for PacedWriter<'_, S, C> {
         self.begun = None;
         self.stream.flush()
     }
+}
+
+/// Sets a limit of a side of a stream, where another is set.
+fn set_limit<S: Limited>(
+    stream: &S,
+    side: Side,
+    is: &mut Option<Duration>,
+    limit: Duration,
+) -> io::Result<()> {
+    if *is != Some(limit) {
+        stream.limit(side, limit)?;
+        *is = Some(limit);
+    }
+    Ok(())
 }
 
 /// What is left of a limit; an error where nothing is.

@@ -1,5 +1,5 @@
 //! The connections that are served now, so that an end can reach each of them.
-ghost use Rattle.std.specs.Prelude.{◌≡◌, ◌+◌, ◌≤◌, ◌↔◌, true, false, OnOk, OnErr, IsErrOf};
+ghost use Rattle.std.specs.Prelude.{◌≡◌, ◌+◌, ◌<◌, ◌≤◌, ◌↔◌, true, false, OnOk, OnErr, IsErrOf};
 ghost use Rattle.std.specs.Prelude.{None, IfOk};
 ghost use Rattle.slab.specs.Slab.{ContainsKey, Updates, get, slab_len};
 
@@ -46,8 +46,10 @@ pub struct Roll {
 }
 
 impl Roll {
-    /// No connection is served yet.
-    pub fn new(alloc: Global, most: usize) -> Roll {
+    /// No connection is served yet. A roll for none would refuse each.
+    pub fn new(alloc: Global, most: usize) -> Roll
+        requires { 0 < most }
+    {
         let rows = Rows {
             streams: Slab::new(alloc),
             most,

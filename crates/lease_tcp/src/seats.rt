@@ -1,18 +1,23 @@
 //! The CPUs of a system, each under a lock, by which connections are served that share them.
-ghost use Rattle.std.specs.Prelude.{◌≡◌, ◌<◌, ◌↔◌, ◌||◌, false, length, IfSome, IsTrue};
-ghost use Rattle.lease_threads.specs.Replying.{IsAgain};
-ghost use Rattle.lease_tcp.specs.Workers.{IsAnswer, moves_units};
+ghost use Rattle.std.specs.Prelude.{◌≡◌, ◌+◌, ◌⊎◌, ◌<◌, ◌≤◌, ◌↔◌, ◌||◌, ◌&&◌, false, true, length};
+ghost use Rattle.std.specs.Prelude.{IfSome, IsTrue, OnOk};
+ghost use Rattle.lease_proto.specs.declared.limits.TheConstants.{MOST_CPUS};
+ghost use Rattle.lease_threads.specs.Reaping.{KeepsHand, ReapsSoundly};
+ghost use Rattle.lease_threads.specs.Replying.{IsAgain, IsAnswerTo};
+ghost use Rattle.lease_threads.specs.Settling.{IsSettledAsAsked};
+ghost use Rattle.lease_tcp.specs.Workers.{StaysCpu, moves_units};
+ghost use Rattle.lease_tcp.specs.declared.system_workers.TheConstants.{REAP_LIMIT};
 
 use crate::system_workers::REAP_LIMIT;
 use deed_table::Name;
 use lease_proto::{Line, Reply};
-use lease_threads::{Cpu, OpenGate, System};
+use lease_threads::{Cpu, OpenGate, Reaping, System, Told};
 use std::alloc::{AllocError, Global};
 use std::marker::Model;
-use std::sync::{Mutex, MutexGuard, Wait};
+use std::sync::{Mutex, Wait};
 
-/// A CPU, and whether it granted or released anything lately. It lies under a lock. It isn't to be
-/// dropped: `into_cpu` ends it. A contract sees both.
+/// A CPU, and whether anything new was granted or released by it lately. It lies under a lock. It
+/// isn't to be dropped: `into_cpu` ends it. A contract sees both.
 pub struct Seat<N: Name> {
     cpu: Cpu<N>,
     has_moved: bool,
@@ -45,16 +50,21 @@ impl<N: Name> Seat<N> {
         cpu
     }
 
-    /// Answers a line by the system. Where its CPU's hand can't be placed the reply is `again`.
-    pub fn answer<R: Wait>(&mut self, rt: &R, system: &System<N>, line: &Line) -> Reply
-        ensures answer { IsAnswer system.now.arenas line.now result }
-        ensures held { IfSome self.new.cpu.hand (λ _. IsAgain result) }
-        ensures noted { self.new.has_moved ≡ (self.old.has_moved || moves_units result) }
+    /// Answers a line by the system, as that does. Where its CPU's hand can't be placed the reply is
+    /// `again`.
+    pub fn answer<R: Wait>(&mut self, rt: &R, system: &System<N>, line: &Line) -> Told<N>
+        ensures answers { IsAnswerTo system.now.arenas line.now result.reply result.receipt }
+        ensures new { result.is_new ≡ true
+            → IsSettledAsAsked system.now.arenas line.now result.receipt }
+        ensures held { IfSome self.new.cpu.hand (λ _. IsAgain result.reply) }
+        ensures stays { StaysCpu self.old.cpu self.new.cpu }
+        ensures noted { self.new.has_moved
+            ≡ (self.old.has_moved || (result.is_new && moves_units result.reply)) }
     {
-        match system.request(rt, &mut self.cpu, &OpenGate, line) {
-            Ok((reply, _)) => {
-                self.has_moved = self.has_moved || moves_units(&reply);
-                reply
+        match system.answer(rt, &mut self.cpu, &OpenGate, line) {
+            Ok(told) => {
+                self.has_moved = self.has_moved || told.is_new && moves_units(&told.reply);
+                told
             }
             Err(_) => unreachable!(),
         }
@@ -72,21 +82,25 @@ impl<N: Name> Seat<N> {
 
     /// Gives back what its CPU's hand and magazines hold, as far as that goes.
     pub fn drain<R: Wait>(&mut self, rt: &R, system: &System<N>)
-        ensures { self.new.has_moved ≡ self.old.has_moved }
+        ensures stays { StaysCpu self.old.cpu self.new.cpu }
+        ensures noted { self.new.has_moved ≡ self.old.has_moved }
     {
         system.drain(rt, &mut self.cpu);
     }
 
-    /// Reaps an arena by its CPU, in `REAP_LIMIT` steps at most.
-    pub fn reap<R: Wait>(&mut self, rt: &R, system: &System<N>, arena: u32)
-        ensures { self.new.has_moved ≡ self.old.has_moved }
+    /// Reaps an arena by its CPU, in `REAP_LIMIT` looks at most.
+    pub fn reap<R: Wait>(&mut self, rt: &R, system: &System<N>, arena: u32) -> Reaping
+        ensures reaped { arena < length system.now.arenas
+            → KeepsHand self.old.cpu.hand self.new.cpu.hand REAP_LIMIT result
+            ⊎ ReapsSoundly system.now.arenas arena REAP_LIMIT result self.new.cpu.hand }
+        ensures stays { StaysCpu self.old.cpu self.new.cpu }
+        ensures noted { self.new.has_moved ≡ self.old.has_moved }
     {
-        let _ = system.reap(rt, &mut self.cpu, arena, REAP_LIMIT);
+        system.reap(rt, &mut self.cpu, arena, REAP_LIMIT)
     }
 }
 
-/// Whether units went through a CPU for this reply. A grant or a release that is told once more
-/// counts as well.
+/// Whether units go through a CPU for a line that is settled by this reply.
 fn moves_units(reply: &Reply) -> bool
     ensures { result ≡ moves_units reply.now }
 {
@@ -100,29 +114,16 @@ pub fn new_seats<N: Name>(
     system: &System<N>,
     count: u32,
     seats: &mut Vec<Mutex<Seat<N>>>,
-) -> Result<(), AllocError> {
+) -> Result<(), AllocError>
+    requires { count ≤ MOST_CPUS }
+    ensures { OnOk result (length seats.new.items ≡ length seats.old.items + count) }
+{
     for number in 0..count {
         seats.reserve(1)?;
-        if let Some(cpu) = Cpu::new(alloc, system, number)? {
-            seats.push_reserved(Mutex::new(Seat::new(cpu)));
+        match Cpu::new(alloc, system, number)? {
+            Some(cpu) => seats.push_reserved(Mutex::new(Seat::new(cpu))),
+            None => unreachable!(),
         }
     }
     Ok(())
-}
-
-/// Takes the first seat from this place on that no one has, else waits for the one of this place.
-pub(crate) fn take_seat<'a, N: Name, R: Wait>(
-    rt: &R,
-    seats: &'a [Mutex<Seat<N>>],
-    place: usize,
-) -> MutexGuard<'a, Seat<N>>
-    requires { 0 < length seats.now }
-{
-    let count = seats.len();
-    for turn in 0..count {
-        if let Some(guard) = seats[place.wrapping_add(turn) % count].try_lock() {
-            return guard;
-        }
-    }
-    seats[place % count].lock(rt)
 }

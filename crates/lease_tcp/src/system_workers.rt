@@ -1,5 +1,6 @@
 //! A worker of a running system.
 ghost use Rattle.std.specs.Prelude.{◌≡◌};
+ghost use Rattle.lease_tcp.specs.Workers.{StaysCpu};
 
 use crate::doors::Door;
 use crate::loops::worker_loop;
@@ -54,12 +55,11 @@ impl<'a, N: Name, R: Wait> SystemWorker<'a, N, R> {
 }
 
 impl<N: Name, R: Wait> Worker for SystemWorker<'_, N, R> {
-    ghost use Rattle.std.specs.Prelude.{◌≡◌};
-    ghost use Rattle.lease_tcp.specs.Workers.{MayReply};
+    ghost use Rattle.lease_tcp.specs.Workers.{MayReply, MayTidy};
 
     ghost may_reply = { MayReply };
 
-    ghost may_tidy = { λ old new. new.arenas ≡ old.arenas };
+    ghost may_tidy = { MayTidy };
 
     fn reply(&mut self, line: &Line) -> Reply {
         match self.system.request(self.rt, &mut self.cpu, &OpenGate, line) {
@@ -75,8 +75,10 @@ impl<N: Name, R: Wait> Worker for SystemWorker<'_, N, R> {
     }
 }
 
-// Reaps each arena. Children come before their sources: what they hand back can be reaped there.
-fn reap_each<N: Name, R: Wait>(rt: &R, system: &System<N>, cpu: &mut Cpu<N>) {
+/// Reaps each arena. Children come before their sources: what they hand back can be reaped there.
+fn reap_each<N: Name, R: Wait>(rt: &R, system: &System<N>, cpu: &mut Cpu<N>)
+    ensures { StaysCpu cpu.old cpu.new }
+{
     for arena in (0..system.tree().len() as u32).rev() {
         let _ = system.reap(rt, cpu, arena, REAP_LIMIT);
     }

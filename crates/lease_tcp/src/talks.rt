@@ -54,12 +54,12 @@ fn accept_talks<
     O: Overseer,
 >(rt: &'s R, scope: &Scope<'s, E>, house: &'s House<'s, N>, overseer: &O) {
     for _ in rt.forever() {
-        let accepted = house.door.listener.accept();
+        let accepted = house.door.accept();
         if house.door.is_closed() {
             break;
         }
         match accepted {
-            Ok((stream, _)) => admit(rt, scope, house, overseer, stream),
+            Ok(stream) => admit(rt, scope, house, overseer, stream),
             Err(error) => {
                 if is_short(&error) {
                     overseer.lacks(Shortage::Descriptor);
@@ -135,10 +135,8 @@ fn talk<N: Name, R: Wait + Clock + AllocGlobal>(
     stream: SharedStream,
     key: usize,
 ) {
-    if let Some(worker) = SharedWorker::new(rt, house.system, house.seats, key) {
-        let mut lines = ClientLines::new(worker);
-        serve_stream(rt, rt.alloc(), &stream, &mut lines, house.door.pace);
-        drop(lines.into_worker());
-    }
+    let mut lines = ClientLines::new(SharedWorker::new(rt, &house.cpus, key));
+    serve_stream(rt, rt.alloc(), &stream, &mut lines, house.door.pace);
+    drop(lines.into_worker());
     house.door.roll.leave(rt, key);
 }

@@ -1,7 +1,7 @@
 //! Slow peers, by a clock of their own: how long a paced reader and a paced writer wait for them.
 
 use lease_server::{ServeFault, Watched, deliver};
-use lease_tcp::{Limited, Pace, PacedReader, PacedWriter};
+use lease_tcp::{Limited, Pace, PacedReader, PacedWriter, Side};
 use std::cell::Cell;
 use std::io;
 use std::io::{ErrorKind, Read, Write};
@@ -97,12 +97,10 @@ struct Taker<'a> {
 }
 
 impl Limited for Taker<'_> {
-    fn limit_reads(&self, _limit: Duration) -> io::Result<()> {
-        Ok(())
-    }
-
-    fn limit_writes(&self, limit: Duration) -> io::Result<()> {
-        self.wire.set(limit);
+    fn limit(&self, side: Side, limit: Duration) -> io::Result<()> {
+        if side == Side::Writes {
+            self.wire.set(limit);
+        }
         Ok(())
     }
 }
@@ -225,12 +223,10 @@ struct Speaker<'a> {
 }
 
 impl Limited for Speaker<'_> {
-    fn limit_reads(&self, limit: Duration) -> io::Result<()> {
-        self.wire.set(limit);
-        Ok(())
-    }
-
-    fn limit_writes(&self, _limit: Duration) -> io::Result<()> {
+    fn limit(&self, side: Side, limit: Duration) -> io::Result<()> {
+        if side == Side::Reads {
+            self.wire.set(limit);
+        }
         Ok(())
     }
 }

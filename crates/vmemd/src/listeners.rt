@@ -76,7 +76,7 @@ impl Listener {
     }
 }
 
-// A socket by another descriptor, taken for a stream.
+/// A socket by another descriptor, taken for a stream.
 fn same_socket(socket: &TcpListener) -> io::Result<TcpStream> {
     Ok(TcpStream::from(OwnedFd::from(socket.try_clone()?)))
 }

@@ -25,7 +25,7 @@
 //! most `MOST_CONNECTIONS`, and costs what its system does for each line.
 #![tactic(auto)]
 
-ghost use Rattle.std.specs.Prelude.{◌≤◌, IfOk};
+ghost use Rattle.std.specs.Prelude.{◌≤◌, ◌≢◌, Some, IfOk};
 ghost use Rattle.lease_threads.specs.Openings.{OneSpanEach};
 ghost use Rattle.vmemd.specs.declared.commands.TheConstants.{MOST_WORKERS};
 
@@ -142,7 +142,8 @@ fn serve<
         + Sync
         + AllocGlobal,
 >(rt: &R, asked: &ServeWords<'_>) -> ExitCode
-    requires { (1 ≤ asked.now.workers) × (asked.now.workers ≤ MOST_WORKERS) }
+    requires workers { (1 ≤ asked.now.workers) × (asked.now.workers ≤ MOST_WORKERS) }
+    requires connections { asked.now.connections ≢ Some 0 }
 {
     let setup = match setup_of(rt, asked.config) {
         Ok(setup) => setup,

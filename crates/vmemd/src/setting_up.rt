@@ -41,7 +41,7 @@ pub trait SetupBuilder {
 /// Takes the setup lines that the input begins with, and gives what was read and not taken: the
 /// lines after them. At a refused line the setup is what the lines before it made. A setup line
 /// that is too long is refused as soon as that shows.
-pub fn take_setup<R: Read, S: SetupBuilder>(
+pub(crate) fn take_setup<R: Read, S: SetupBuilder>(
     reader: &mut Watched<R>,
     setup: &mut S,
 ) -> Result<Intake, ScriptFault>

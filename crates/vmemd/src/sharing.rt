@@ -1,15 +1,15 @@
 //! A server with a thread for each connection, which share its CPUs.
+ghost use Rattle.std.specs.Prelude.{◌≤◌};
 ghost use Rattle.vmemd.specs.Running.{Attends, console_streams};
+ghost use Rattle.vmemd.specs.declared.commands.TheConstants.{MOST_WORKERS};
 
 use crate::endings::tell_fault;
-use crate::listeners::Listener;
-use crate::running::{Attended, Console, Plan, RunFault, attend, retire, stop};
+use crate::running::{Attended, Console, RunFault, Site, attend, retire, stop};
 use crate::signals::Signals;
 use deed_table::Name;
-use lease_tcp::{Door, House, Overseer, Seat, Shortage, keep, new_seats, serve_talks};
+use lease_tcp::{House, Overseer, Seat, Shortage, keep, new_seats, serve_talks};
 use lease_threads::System;
 use std::io::{Read, Write};
-use std::sync::atomic::AtomicBool;
 use std::sync::{Mutex, Wait};
 use std::thread;
 use std::thread::Threads;
@@ -39,35 +39,24 @@ pub(crate) fn serve_shared<
     R: Threads + Wait + Clock + Eprint + Sync + AllocGlobal,
     I: Read + Drop,
     W: Write + Drop,
->(
-    rt: &R,
-    listener: &Listener,
-    door: &Door<'_>,
-    system: &System<N>,
-    signals: &Signals,
-    plan: Plan,
-    console: Console<I, W>,
-) -> Attended<I, W>
+>(rt: &R, site: &Site<'_, N>, console: Console<I, W>) -> Attended<I, W>
+    requires { (1 ≤ site.now.plan.workers) × (site.now.plan.workers ≤ MOST_WORKERS) }
     ensures { Attends (console_streams I.remaining W.contents console)
         (console_streams I.remaining W.contents result.console) result.ended }
 {
+    let system: &System<N> = &*site.system;
     let mut seats: Vec<Mutex<Seat<N>>> = Vec::new(rt.alloc());
-    let ran = match new_seats(rt.alloc(), system, plan.workers, &mut seats) {
+    let ran = match new_seats(rt.alloc(), system, site.plan.workers, &mut seats) {
         Ok(()) => {
-            let house = House {
-                door: *door,
-                system,
-                seats: seats.as_slice(),
-                over: AtomicBool::new(false),
-            };
-            serve_house(rt, listener, &house, signals, plan.grace, console)
+            let house = House::new(site.door, system, seats.as_slice());
+            serve_house(rt, site, &house, console)
         }
         Err(_) => Attended {
             ended: Err(RunFault::Memory),
             console,
         },
     };
-    retire_seats(rt, system, signals, seats);
+    retire_seats(rt, site.system, site.signals, seats);
     ran
 }
 
@@ -77,18 +66,14 @@ fn serve_house<
     R: Threads + Wait + Clock + Eprint + Sync + AllocGlobal,
     I: Read + Drop,
     W: Write + Drop,
->(
-    rt: &R,
-    listener: &Listener,
-    house: &House<'_, N>,
-    signals: &Signals,
-    grace: Option<u32>,
-    console: Console<I, W>,
-) -> Attended<I, W>
+>(rt: &R, site: &Site<'_, N>, house: &House<'_, N>, console: Console<I, W>) -> Attended<I, W>
     ensures { Attends (console_streams I.remaining W.contents console)
         (console_streams I.remaining W.contents result.console) result.ended }
 {
-    let teller = Teller { rt, signals };
+    let teller = Teller {
+        rt,
+        signals: site.signals,
+    };
     let overseer = &teller;
     thread::scope(
         thread::scope_env(),
@@ -102,14 +87,14 @@ fn serve_house<
                 .is_ok()
                 && scope.spawn(move || keep(rt, house)).is_ok();
             let ran = if all {
-                attend(rt, listener.line(), console)
+                attend(rt, site.listener.line(), console)
             } else {
                 Attended {
                     ended: Err(RunFault::Memory),
                     console,
                 }
             };
-            stop(rt, listener, &house.door, signals, grace);
+            stop(rt, site);
             ran
         },
     )

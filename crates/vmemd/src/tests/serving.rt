@@ -104,6 +104,7 @@ fn run_server<
         + AllocGlobal,
 >(rt: &R, config: &'static [u8], workers: u32, connections: Option<u32>, console: &TcpStream) {
     assert!(rt; 1 <= workers && workers <= MOST_WORKERS);
+    assert!(rt; connections != Some(0));
     let mut reader = Watched::new(Pieces {
         rest: config,
         size: 4096,
