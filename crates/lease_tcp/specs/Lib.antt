@@ -1,3 +1,4 @@
 pub mod Replying
 pub mod Connections
 pub mod Workers
+pub mod Arrivals

@@ -4,10 +4,11 @@
 //! A `Worker` (workers) answers a client's line by a reply, and tidies after each connection.
 //! `ClientLines` (replying) makes a responder of one, which reads lines and writes replies, so that
 //! the line server can serve any stream by it. `serve_connection` (connections) serves one, over
-//! any reader, writer and `Link` (links), by which its peer is told where the answers end;
-//! `worker_loop` (loops) those of a `Door` (doors), one after another, each through a reader and a
-//! writer that wait for its peer no longer than a `Pace` allows (pacing), and while it stands on a
-//! `Roll` (rolls), by which all can be ended.
+//! any reader, writer and `Link` (links), by which its peer is told where the answers end.
+//! `serve_each` (arrivals) serves whatever connections come, one after another. `worker_loop`
+//! (loops) does so for a worker with those of a `Door` (doors), each through a reader and a writer
+//! that wait for its peer no longer than a `Pace` allows (pacing), and while it stands on a `Roll`
+//! (rolls), by which all can be ended.
 //! `SystemWorker` (system_workers) is a worker of a running system, and `accept_loop` its loop.
 //!
 //! `serve_talks` (talks) gives each connection of a `House` (houses) a thread, up to as many as its
@@ -17,9 +18,10 @@
 //! there was none of for a connection. A thread holds one seat at a time, and takes no seat while
 //! it holds a part's lock.
 //!
-//! What a line may be answered is stated in specs/Replying.antt, and what a connection leaves in
-//! specs/Connections.antt. Of a socket no contract can say what it gives or takes, and of a clock
-//! none what it tells.
+//! What a line may be answered is stated in specs/Replying.antt, what a connection leaves in
+//! specs/Connections.antt, and what becomes of connections one after another in
+//! specs/Arrivals.antt. Of a socket no contract can say what it gives or takes, and of a clock none
+//! what it tells.
 //!
 //! Each byte is looked at a few times, and a line costs what its worker does. A `SystemWorker` does
 //! a request of its system for each; after a connection it drains its CPU, reaps each arena, by at
@@ -30,6 +32,7 @@
 //! for each read that ends within a line.
 #![tactic(auto)]
 
+mod arrivals;
 mod connections;
 mod doors;
 mod houses;
@@ -47,6 +50,7 @@ mod system_workers;
 mod talks;
 mod workers;
 
+pub use arrivals::{Arrivals, serve_each};
 pub use connections::serve_connection;
 pub use doors::Door;
 pub use houses::House;

@@ -1,5 +1,6 @@
-//! The connections of a listener, one after another.
+//! The connections of a door, which a worker serves one after another.
 
+use crate::arrivals::{Arrivals, serve_each};
 use crate::connections::serve_connection;
 use crate::doors::Door;
 use crate::pacing::{Pace, PacedReader, PacedWriter};
@@ -9,33 +10,77 @@ use lease_server::Watched;
 use std::alloc::Global;
 use std::net::TcpStream;
 use std::sync::{Arc, Wait};
-use std::thread;
 use std::time::{Clock, Duration};
+use std::{io, thread};
 
 /// How long, in milliseconds, a worker waits after a connection that couldn't be accepted, as where
 /// the system has no descriptor left.
 pub const ACCEPT_PAUSE: u64 = 20;
 
-/// Serves one connection after another, and gives the worker back once the door is closed and the
-/// connection that it serves has ended: it looks at the door after each accepted connection, and
-/// serves none that it accepted later. A connection's fault ends that connection alone.
+/// A worker at a door.
+struct AtDoor<'a, R, K> {
+    rt: &'a R,
+    alloc: Global,
+    door: Door<'a>,
+    lines: ClientLines<K>,
+}
+
+impl<R: Wait + Clock, K: Worker> Arrivals for AtDoor<'_, R, K> {
+    ghost use Rattle.std.specs.Prelude.{⊤};
+
+    type Connection = TcpStream;
+
+    type Fault = io::Error;
+
+    // (of a socket no contract can say what it gives or takes, nor of a flag what threads make it)
+    ghost may_accept = { λ _ _ _. ⊤ };
+
+    ghost may_find = { λ _ _. ⊤ };
+
+    ghost may_serve = { λ _ _ _. ⊤ };
+
+    ghost may_miss = { λ _ _ _. ⊤ };
+
+    fn accept(&mut self) -> io::Result<TcpStream> {
+        self.door.accept()
+    }
+
+    fn is_closed(&self) -> bool {
+        self.door.is_closed()
+    }
+
+    fn serve(&mut self, stream: TcpStream) {
+        serve_entered(self.rt, self.alloc, stream, &mut self.lines, self.door);
+    }
+
+    fn miss(&mut self, _fault: io::Error) {
+        pause(self.rt);
+    }
+}
+
+/// Serves one connection after another, as `serve_each` does, and gives the worker back once the
+/// door is closed and the connection that it serves has ended. A connection's fault ends that
+/// connection alone.
 pub fn worker_loop<R: Wait + Clock, K: Worker>(
     rt: &R,
     alloc: Global,
     door: Door<'_>,
     worker: K,
 ) -> K {
-    let mut lines = ClientLines::new(worker);
-    for _ in rt.forever() {
-        let accepted = door.listener.accept();
-        if door.is_closed() {
-            break;
-        }
-        match accepted {
-            Ok((stream, _)) => serve_entered(rt, alloc, stream, &mut lines, door),
-            Err(_) => pause(rt),
-        }
-    }
+    let lines = ClientLines::new(worker);
+    let mut at_door = AtDoor {
+        rt,
+        alloc,
+        door,
+        lines,
+    };
+    serve_each(rt, &mut at_door);
+    let AtDoor {
+        rt: _,
+        alloc: _,
+        door: _,
+        lines,
+    } = at_door;
     lines.into_worker()
 }
 

@@ -1,0 +1,25 @@
+-- Connections that come, one after another, and what becomes of each.
+use Rattle.std.specs.Prelude.{◌≡◌, Bool, true, false, List, [], ◌∷◌, Result, Ok, Err}
+
+-- By what may come, what may be found of the door, and what may become of a connection, or of what
+-- couldn't be accepted.
+module _ {A C F : Type 0} (may_accept : A → Result C F → A → Type 0)
+    (may_find : A → Bool → Type 0) (may_serve : A → C → A → Type 0) (may_miss : A → F → A → Type 0)
+  where
+    -- what came is served; where it couldn't be accepted, it is missed
+    abbrev pub Meets : A → Result C F → A → Type 0
+    Meets old (Ok connection) new = may_serve old connection new
+    Meets old (Err fault) new = may_miss old fault new
+
+    -- these came one after another, and of each the door was found open, and it was met, before the
+    -- next came
+    abbrev pub MeetsEach : A → List (Result C F) → A → Type 0
+    MeetsEach old [] new = new ≡ old
+    MeetsEach old (came ∷ more) new = (here : A) × (met : A)
+        × may_accept old came here × may_find here false × Meets here came met
+        × MeetsEach met more new
+
+    -- so it went up to the first of which the door was found closed, and nothing more was done
+    abbrev pub ServesEach : A → A → Type 0
+    ServesEach old new = (all : List (Result C F)) × (last : Result C F) × (mid : A)
+        × MeetsEach old all mid × may_accept mid last new × may_find new true
