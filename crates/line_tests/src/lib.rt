@@ -4,7 +4,7 @@
 //! `lines` has lines, replies and streams of the protocol, `desk` what a desk answers over roots,
 //! `desk_caches` over imports and caches, `desk_limits` at its limits and out of memory, by
 //! `asking`; `serving` has streams of lines, failing ones too, and `connections` those of a worker,
-//! one after another; `pacing` has slow peers.
+//! one after another; `pacing` has slow peers, and `rounds` what becomes of CPUs at rest.
 #![tactic(auto)]
 
 #[cfg(test)]
@@ -21,5 +21,7 @@ mod desk_limits;
 mod lines;
 #[cfg(test)]
 mod pacing;
+#[cfg(test)]
+mod rounds;
 #[cfg(test)]
 mod serving;
