@@ -8,7 +8,7 @@ ghost use Rattle.deed_core.specs.Request.{Fits};
 ghost use Rattle.lease_terms.specs.Requests.{IsRequestId};
 ghost use Rattle.lease_terms.specs.declared.values.TheConstants.{LAST_CLIENT};
 ghost use Rattle.lease_book.specs.Receipts.{Kept};
-ghost use Rattle.lease_book.specs.Entry.{Entry, Hello, kept_settlement};
+ghost use Rattle.lease_book.specs.Entry.{Entry, Hello};
 ghost use Rattle.lease_book.specs.Account.{is_lease, is_older};
 ghost use Rattle.lease_book.specs.History.{account, clients_of};
 ghost use Rattle.lease_book.specs.BookState.{BookState, IsHistory, HasHistory, Enters, account_in};
@@ -16,20 +16,21 @@ ghost use Rattle.lease_book.specs.BookState.{leased_segments, leased_in, units_o
 ghost use Rattle.lease_book.specs.Reports.{report_of};
 ghost use Rattle.lease_book.specs.declared.books.TheConstants.{MOST_LEASES};
 
-use crate::accounts::{Accounts, Standing};
+use crate::accounts::Accounts;
 use crate::answers::{Answer, HelloFault, Look, NotLeased};
 use crate::leases::{Held, Which};
 use crate::receipts::{Kept, KeptReply, Receipt, Terms};
 use crate::reports::ClientReport;
+use crate::standings::Standing;
 use deed_core::{Deed, Request, Segment};
-use lease_terms::{ClientId, Ordinal, Quantity, Refusal, RequestId};
+use lease_terms::{ClientId, Ordinal, Protocol, Quantity, Refusal, RequestId};
 use std::alloc::Global;
 use std::marker::Model;
 
 /// As many leases a client may have, those of older incarnations among them. (Our own choice.)
 pub const MOST_LEASES: usize = 1024;
 
-/// Which client holds which segment, and the last number and the kept reply of each client's
+/// Which client holds which segment, and the settled numbers and the kept replies of each client's
 /// current incarnation.
 pub struct Book<D: Deed> {
     mark: D,
@@ -89,39 +90,52 @@ impl<D: Deed> Book<D> {
         Ok(mark)
     }
 
-    /// Takes a client's hello with an incarnation. Room for the reply that is kept of the client is
-    /// made by its first hello, so that a later one is never out of memory.
-    pub fn hello(&mut self, client: ClientId, incarnation: Ordinal) -> Result<(), HelloFault>
-        ensures taken { OnOk result (Enters (Hello client incarnation) self.old self.new) }
+    /// Takes a client's hello with an incarnation, and gives the protocol that stands for it: that
+    /// of its first hello. Room for all replies that are kept is made by that one, so that a later
+    /// one is never out of memory; nor is one that begins an incarnation with the first protocol,
+    /// where the client is known.
+    pub fn hello(
+        &mut self,
+        client: ClientId,
+        incarnation: Ordinal,
+        protocol: Protocol,
+    ) -> Result<Protocol, HelloFault>
+        ensures taken { OnOk result
+            (Enters (Hello client incarnation protocol) self.old self.new) }
+        ensures standing { IfOk result (λ p. p ≡ (account_in client self.new).protocol) }
         ensures known { incarnation ≡ (account_in client self.old).incarnation
             → self.new ≡ self.old }
         ensures leases { leased_segments self.new ≡ leased_segments self.old }
         ensures current { OnOk result ((account_in client self.old).incarnation ≤ incarnation) }
         ensures refused { IfErr result
-            (IsHelloFault (account_in client self.old).incarnation incarnation) }
+            (IsHelloFault (account_in client self.old).incarnation incarnation protocol) }
         ensures unchanged { OnErr result (self.new ≡ self.old) }
     {
         // For their clauses: the numbers are in their ranges.
         let _ = client.get();
         let _ = incarnation.get();
-        let fresh = Standing {
-            incarnation,
-            kept: None,
-        };
+        let alloc = self.accounts.allocator();
         let Some((index, standing)) = self.account(client) else {
+            let Ok(fresh) = Standing::new(alloc, incarnation, protocol) else {
+                return Err(HelloFault::NoMemory);
+            };
             let Ok(()) = self.accounts.open(client, fresh) else {
                 return Err(HelloFault::NoMemory);
             };
-            return Ok(());
+            return Ok(protocol);
         };
-        if incarnation.get() < standing.incarnation.get() {
-            return Err(HelloFault::Old(standing.incarnation.quantity()));
+        let current = standing.incarnation();
+        if incarnation.get() < current.get() {
+            return Err(HelloFault::Old(current.quantity()));
         }
-        if incarnation.get() == standing.incarnation.get() {
-            return Ok(());
+        if incarnation.get() == current.get() {
+            return Ok(standing.protocol());
         }
+        let Ok(fresh) = Standing::new(alloc, incarnation, protocol) else {
+            return Err(HelloFault::NoMemory);
+        };
         self.accounts.write(index, fresh);
-        Ok(())
+        Ok(protocol)
     }
 
     /// Goes to a client. It is for speed alone: the calls for the client that follow need no search
@@ -256,7 +270,9 @@ impl<D: Deed> Book<D> {
         let Some((index, standing)) = self.account(client) else {
             return false;
         };
-        self.accounts.leases(index).has_older(standing.incarnation)
+        self.accounts
+            .leases(index)
+            .has_older(standing.incarnation())
     }
 
     /// Ends a lease of an older incarnation of the client, and gives it with the request that was
@@ -269,7 +285,7 @@ impl<D: Deed> Book<D> {
         ensures unchanged { IfNone result (self.new ≡ self.old) }
     {
         let (index, standing) = self.account(client)?;
-        let older = Which::Before(standing.incarnation);
+        let older = Which::Before(standing.incarnation());
         let held = self.accounts.take(index, older)?;
         Some(held.ended(client))
     }
@@ -349,20 +365,22 @@ impl<D: Deed> Book<D> {
         requires known { ¬ IsNew (account_in id.client self.now) id }
         ensures { IsLook self.now (account_in id.client self.now) id result }
     {
-        if id.incarnation.get() != standing.incarnation.get() {
-            return Look::Old(standing.incarnation.quantity());
+        let current = standing.incarnation();
+        if id.incarnation.get() != current.get() {
+            return Look::Old(current.quantity());
         }
         let last = standing.last();
-        let number = id.number.get();
-        if number < last.get() {
+        if id.number.get() + standing.protocol().window() <= last.get() {
             return Look::Stale(last);
         }
-        if number > last.get() {
-            return Look::Gap(last);
-        }
-        match standing.kept {
-            Some(kept) => Look::Kept(self.receipt(id, kept)),
-            None => unreachable!(),
+        match standing.at(id.number) {
+            Some(kept) => {
+                let receipt = self.receipt(id, kept);
+                // For its clause: a grant meets its terms.
+                let _ = receipt.reply();
+                Look::Kept(receipt)
+            }
+            None => Look::Gap(standing.low()),
         }
     }
 
@@ -381,7 +399,7 @@ impl<D: Deed> Book<D> {
         ensures none { IfNone result (¬ IsNew (account_in id.client self.now) id) }
     {
         let (index, standing) = self.account(id.client)?;
-        if standing.is_next(id) {
+        if standing.incarnation().get() == id.incarnation.get() && standing.is_open(id.number) {
             Some(index)
         } else {
             None

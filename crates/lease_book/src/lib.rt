@@ -37,7 +37,11 @@ mod lease_list;
 mod leases;
 mod places;
 mod receipts;
+mod recent;
 mod reports;
+mod standings;
+#[cfg(test)]
+mod tests;
 mod totals;
 
 pub use answers::{Answer, HelloFault, Look, NotLeased};
