@@ -12,9 +12,9 @@ use Rattle.lease_book.specs.Account.{Lease, is_lease, without_first, leases_afte
 use Rattle.lease_book.specs.History.{incarnation, last_in, outcome_of, leases_of}
 use Rattle.lease_book.proofs.LawProofs.{settled_for_incarnation}
 use Rattle.lease_client.specs.declared.held.HeldSegment.{HeldSegment}
-use Rattle.lease_client.specs.ClientState.{ClientState, line_at}
+use Rattle.lease_client.specs.ClientState.{ClientState, line_at, AreOwn}
 use Rattle.lease_client.specs.Runs.{MayBeSent}
-use Rattle.lease_history.specs.Known.{weight_in, one_at, weight_left, IsKnown}
+use Rattle.lease_history.specs.Known.{weight_in, one_at, ending_at, weight_left, IsKnown}
 use Rattle.lease_history.specs.Laws.{HellosKeepKnown, SweepsKeepKnown, SettlementsKeepKnown}
 use Rattle.lease_history.proofs.Sums.{sum_push, sum_le, without_keeps}
 use Rattle.lease_history.proofs.PlaceLemmas.{in_other, left_most, left_more, lease_keys}
@@ -97,7 +97,10 @@ other_settled names es c id s know other = record {
     after : List Entry
     after = Settled id s ∷ es
 
+    own : AreOwn c.id c.incarnation c.next c.is_open c.outstanding
     own = know.sound.outstanding
+
+    ends : (arena : List ℕ) (base : ℕ) → ending_at after arena base c.outstanding ≡ ending_at es arena base c.outstanding
     ends = ending_others es id s c.id c.incarnation c.next c.is_open c.outstanding other own
 
     last : last_in c.id c.incarnation after ≡ last_in c.id c.incarnation es

@@ -86,14 +86,22 @@ held_alone names es c arena base know holds = record {
   ];
 }
   where
+    left : ℕ
+    left = sum_by (weight_left names c.incarnation es c.outstanding (one_at arena base)) (leases_of c.id es)
+
+    here : 1 ≤ sum_by (one_at arena base) c.held
     here = held_here arena base c.held holds
+
+    held : sum_by (one_at arena base) c.held + sum_by (weight_due names (one_at arena base) es) c.outstanding ≤ left
     held = know.held (one_at arena base)
+
+    most : left ≤ leased_at names c.incarnation arena base (leases_of c.id es)
     most = leased_most names c.incarnation es c.outstanding arena base (leases_of c.id es)
 
 segment_elsewhere : (arena : List ℕ) (base : ℕ) (f : HeldSegment → ℕ) (s : HeldSegment) → one_at arena base s ≡ 0 → f s ≤ elsewhere arena base f s
 segment_elsewhere arena base f s none = by (is_at arena base s) none
   where
-    by : (z : Bool) → cond z 1 0 ≡ 0 → f s ≤ cond z 0 (f s)
+    by : (z : Bool) → ◌≡◌ {A = ℕ} (cond z 1 0) 0 → f s ≤ cond z 0 (f s)
     by true never = absurd (omega (arith, never))
     by false none = omega arith
 
@@ -124,8 +132,8 @@ left_elsewhere names i es ls id r f l = by (is_at r.arena r.base s) refl
     new : Line
     new = lines.Request id (ops.Release r)
 
-    none : is_at r.arena r.base s ≡ false → one_ending es s.arena s.base new ≡ 0
-    none is = elim (none_or_some (one_ending es s.arena s.base new)) as (λ _. one_ending es s.arena s.base new ≡ 0) [
+    ends_none : is_at r.arena r.base s ≡ false → one_ending es s.arena s.base new ≡ 0
+    ends_none is = elim (none_or_some (one_ending es s.arena s.base new)) as (λ _. one_ending es s.arena s.base new ≡ 0) [
       | inl none ↦ none
       | inr some ↦ absurd (let place = ending_place es s.arena s.base id r some in both_ways (is_at r.arena r.base s) is (at_place r.arena r.base s (sym place.0) (sym place.1)))
     ]
@@ -133,7 +141,7 @@ left_elsewhere names i es ls id r f l = by (is_at r.arena r.base s) refl
     by : (z : Bool) → is_at r.arena r.base s ≡ z → weight_left names i es ls (elsewhere r.arena r.base f) l ≤ weight_left names i es (ls ++ new ∷ []) f l
     by true is = omega (arith, left_most names i es ls (elsewhere r.arena r.base f) l, in_most names i (elsewhere r.arena r.base f) l, cond-true (is_at r.arena r.base s) 0 (f s) is)
     by false is = left_more names i es es ls (ls ++ new ∷ []) (elsewhere r.arena r.base f) f l
-        (omega (arith, sum_push (one_ending es s.arena s.base) ls new, none is)) (omega (arith, cond-false (is_at r.arena r.base s) 0 (f s) is))
+        (omega (arith, sum_push (one_ending es s.arena s.base) ls new, ends_none is)) (omega (arith, cond-false (is_at r.arena r.base s) 0 (f s) is))
 
 -- What is sent.
 
@@ -162,7 +170,10 @@ module _ (names : ℕ → List ℕ) (es : List Entry) (c : ClientState) (know : 
       new : Line
       new = next_request (ops.Release r) c
 
+      push : ending_at es arena base (c.outstanding ++ new ∷ []) ≡ ending_at es arena base c.outstanding + one_ending es arena base new
       push = sum_push (one_ending es arena base) c.outstanding new
+
+      alone : IsAlone names es c r.arena r.base
       alone = held_alone names es c r.arena r.base know holds
 
   held_sent : (op : Op) → is_of_held op c.held ≡ true → outcome_of (next_id c) es ≡ None → (f : HeldSegment → ℕ)
@@ -195,6 +206,7 @@ module _ (names : ℕ → List ℕ) (es : List Entry) (c : ClientState) (know : 
       new : Line
       new = next_request (ops.Release r) c
 
+      alone : IsAlone names es c r.arena r.base
       alone = held_alone names es c r.arena r.base know holds
 
 known_sent : (names : ℕ → List ℕ) (es : List Entry) (c : ClientState) (op : Op) → IsKnown names es c

@@ -1,5 +1,5 @@
 -- What stands, and what ends, at one base of one arena.
-use Rattle.std.proofs.Common.{◌≡◌, ℕ, zero, suc, ◌+◌, ◌≤◌, ◌==◌, ◌&&◌, Bool, true, false, not, cond, List, [], ◌∷◌, ◌++◌, filter, Option, Some, None, is_none, sum_by, refl, sym, ap, ◌∙◌, arith, eq-eqb}
+use Rattle.std.proofs.Common.{◌≡◌, inl, inr, ℕ, ◌+◌, ◌≤◌, ◌==◌, ◌&&◌, Bool, true, false, not, cond, List, [], ◌∷◌, ◌++◌, filter, Option, Some, None, is_none, sum_by, refl, sym, ap, ◌∙◌, arith, eq-eqb}
 use Rattle.std.specs.Str.{bytes_eq}
 use Rattle.std.proofs.lemmas.Slice.Eq.{bytes_eq-Decides}
 use Rattle.std.proofs.lemmas.Bool.{false≢true, and_parts, and_from, eqb-true, ne_eqb, cond-true, cond-false}
@@ -16,7 +16,7 @@ use Rattle.lease_book.specs.History.{outcome_of}
 use Rattle.lease_client.specs.declared.held.HeldSegment.{HeldSegment}
 use Rattle.lease_client.specs.ClientState.{is_at, holds_at}
 use Rattle.lease_history.specs.Known.{told_segment, weight_in, one_at, leased_at, one_ending, ending_at, weight_left}
-use Rattle.lease_history.proofs.Sums.{sum_le, filter_gives}
+use Rattle.lease_history.proofs.Sums.{sum_le, filter_gives, none_or_some}
 
 -- a place is of one arena, at one base
 pub same_place : (arena : List ℕ) (base : ℕ) (s : HeldSegment) → is_at arena base s ≡ true → (s.arena ≡ arena) × (s.base ≡ base)
@@ -47,6 +47,7 @@ pub held_elsewhere : (arena : List ℕ) (base : ℕ) (f : HeldSegment → ℕ) (
 held_elsewhere arena base f [] = refl
 held_elsewhere arena base f (s ∷ held) = by (is_at arena base s) refl (held_elsewhere arena base f held)
   where
+    others : List HeldSegment
     others = filter (λ s. not (is_at arena base s)) held
 
     by : (b : Bool) → is_at arena base s ≡ b → sum_by f others ≡ sum_by (elsewhere arena base f) held
@@ -130,16 +131,14 @@ module _ (names : ℕ → List ℕ) (i : ℕ) where
   -- with no more releases, as much is left
   pub left_more : (es fs : List Entry) (ls ms : List Line) (f g : HeldSegment → ℕ) (l : Lease) → ending_of fs ms l ≤ ending_of es ls l
       → f (told_segment names l.segment) ≤ g (told_segment names l.segment) → weight_left names i es ls f l ≤ weight_left names i fs ms g l
-  left_more es fs ls ms f g l fewer more = by (ending_of es ls l) (ending_of fs ms l) fewer
+  left_more es fs ls ms f g l fewer more = elim (none_or_some (ending_of es ls l)) as (λ _. weight_left names i es ls f l ≤ weight_left names i fs ms g l) [
+    | inl none ↦ omega (arith, left_whole es ls f l none, left_whole fs ms g l (omega (arith, none, fewer)), weighs (i == l.incarnation))
+    | inr some ↦ omega (arith, left_ended es ls f l some)
+  ]
     where
       weighs : (z : Bool) → cond z (f (told_segment names l.segment)) 0 ≤ cond z (g (told_segment names l.segment)) 0
       weighs true = more
       weighs false = omega arith
-
-      by : (m n : ℕ) → n ≤ m → cond (m == 0) (weight_in names i f l) 0 ≤ cond (n == 0) (weight_in names i g l) 0
-      by zero zero fewer = weighs (i == l.incarnation)
-      by zero (suc n) fewer = absurd (omega (arith, fewer))
-      by (suc m) n fewer = omega arith
 
   -- a lease at the place that releases wait for
   pub ending_there : (es : List Entry) (ls : List Line) (arena : List ℕ) (base : ℕ) (l : Lease) → is_at arena base (told_segment names l.segment) ≡ true

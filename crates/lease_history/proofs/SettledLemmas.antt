@@ -131,6 +131,8 @@ module _ (names : ℕ → List ℕ) (es : List Entry) (c : ClientState) (id : Re
     | inr away ↦ omega (arith, push, know.once a b, weighs (one_at a b), none_here a b (told_segment names t) away)
   ]
     where
+      push : leased_at names c.incarnation a b (leases_of c.id es ++ lease_of id t ∷ [])
+          ≡ leased_at names c.incarnation a b (leases_of c.id es) + weight_in names c.incarnation (one_at a b) (lease_of id t)
       push = sum_push (weight_in names c.incarnation (one_at a b)) (leases_of c.id es) (lease_of id t)
 
   granted_ending : (a : List ℕ) (b : ℕ) → ending_at granted_es a b c.outstanding ≤ leased_at names c.incarnation a b (leases_of c.id es ++ lease_of id t ∷ [])

@@ -82,11 +82,10 @@ pub filter_keeps : {X : Type 0} (f : X → ℕ) (test : X → Bool) (xs : List X
 filter_keeps f test [] none = refl
 filter_keeps f test (x ∷ xs) none = by (test x) refl (filter_keeps f test xs none)
   where
-    others = filter (λ x. not (test x)) xs
-
-    by : (b : Bool) → test x ≡ b → sum_by f others ≡ sum_by f xs → sum_by f (cond (not b) (x ∷ others) others) ≡ sum_by f (x ∷ xs)
+    by : (b : Bool) → test x ≡ b → sum_by f (filter (λ y. not (test y)) xs) ≡ sum_by f xs
+        → sum_by f (cond (not b) (x ∷ filter (λ y. not (test y)) xs) (filter (λ y. not (test y)) xs)) ≡ sum_by f (x ∷ xs)
     by true is rest = omega (arith, rest, none x is, sum_by-cons f x xs)
-    by false is rest = omega (arith, rest, sum_by-cons f x xs, sum_by-cons f x others)
+    by false is rest = omega (arith, rest, sum_by-cons f x xs, sum_by-cons f x (filter (λ y. not (test y)) xs))
 
 -- at least one is taken out that weighs this
 pub filter_gives : {X : Type 0} (f : X → ℕ) (weight : ℕ) (test : X → Bool) (xs : List X) → ((x : X) → test x ≡ true → f x ≡ weight)
@@ -94,12 +93,10 @@ pub filter_gives : {X : Type 0} (f : X → ℕ) (weight : ℕ) (test : X → Boo
 filter_gives f weight test [] weighs any = absurd (false≢true any)
 filter_gives f weight test (x ∷ xs) weighs any = by (test x) refl any (filter_gives f weight test xs weighs)
   where
-    others = filter (λ x. not (test x)) xs
-
-    by : (b : Bool) → test x ≡ b → (b || list_any test xs) ≡ true → (list_any test xs ≡ true → sum_by f others + weight ≤ sum_by f xs)
-        → sum_by f (cond (not b) (x ∷ others) others) + weight ≤ sum_by f (x ∷ xs)
+    by : (b : Bool) → test x ≡ b → (b || list_any test xs) ≡ true → (list_any test xs ≡ true → sum_by f (filter (λ y. not (test y)) xs) + weight ≤ sum_by f xs)
+        → sum_by f (cond (not b) (x ∷ filter (λ y. not (test y)) xs) (filter (λ y. not (test y)) xs)) + weight ≤ sum_by f (x ∷ xs)
     by true is any rest = omega (arith, weighs x is, filter_le f (λ x. not (test x)) xs, sum_by-cons f x xs)
-    by false is any rest = omega (arith, rest any, sum_by-cons f x xs, sum_by-cons f x others)
+    by false is any rest = omega (arith, rest any, sum_by-cons f x xs, sum_by-cons f x (filter (λ y. not (test y)) xs))
 
 -- What is found.
 
