@@ -81,13 +81,13 @@ other_settled names es c id s know other = record {
   sound = know.sound;
   behind = know.behind;
   before = omega (arith, know.before, last);
-  waits = λ mine client incarnation from below none. know.waits mine client incarnation from below (sym (outcome_others es id s c.id c.incarnation c.next c.is_open c.outstanding other own mine client incarnation) ∙ none);
+  waits = λ mine client incarnation from below none. know.waits mine client incarnation from below (sym (outcome_others es id s c.id c.incarnation c.protocol c.next c.is_open c.outstanding other own mine client incarnation) ∙ none);
   once = λ arena base. omega (arith, know.once arena base, leased (one_at arena base));
   ending = λ arena base. omega (arith, know.ending arena base, ends arena base, leased (one_at arena base));
   held = λ f. omega (
       arith,
       know.held f,
-      due_others es id s c.id c.incarnation c.next c.is_open c.outstanding other own names f,
+      due_others es id s c.id c.incarnation c.protocol c.next c.is_open c.outstanding other own names f,
       same (weight_left names c.incarnation after c.outstanding f) (left_other names c after f),
       sum_le (weight_left names c.incarnation es c.outstanding f) (weight_left names c.incarnation after c.outstanding f)
       (λ l. left_more names c.incarnation es after c.outstanding c.outstanding f f l (omega (arith, ends (names l.segment.arena) l.segment.holding.range.base)) (omega arith)) (leases_of c.id es),
@@ -97,11 +97,11 @@ other_settled names es c id s know other = record {
     after : List Entry
     after = Settled id s ∷ es
 
-    own : AreOwn c.id c.incarnation c.next c.is_open c.outstanding
+    own : AreOwn c.id c.incarnation c.protocol c.next c.is_open c.outstanding
     own = know.sound.outstanding
 
     ends : (arena : List ℕ) (base : ℕ) → ending_at after arena base c.outstanding ≡ ending_at es arena base c.outstanding
-    ends = ending_others es id s c.id c.incarnation c.next c.is_open c.outstanding other own
+    ends = ending_others es id s c.id c.incarnation c.protocol c.next c.is_open c.outstanding other own
 
     last : last_in c.id c.incarnation after ≡ last_in c.id c.incarnation es
     last = ap greatest (settled_for_incarnation.others es id s c.id c.incarnation other)

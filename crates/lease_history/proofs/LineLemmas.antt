@@ -3,6 +3,7 @@ use Rattle.std.proofs.Common.{◌≡◌, ◌≢◌, ℕ, ◌+◌, ◌<◌, ◌�
 use Rattle.std.proofs.lemmas.Bool.{eqb-true, eqb-false, ne_eqb}
 use Rattle.std.proofs.lemmas.List.Sums.{sum_by-cons}
 use Rattle.lease_terms.specs.Requests.{RequestId}
+use Rattle.lease_terms.specs.declared.protocols.Protocol.{Protocol}
 use Rattle.lease_proto.specs.declared.lines.Line.{Line}
 use Rattle.lease_proto.specs.declared.lines.Line.TheVariants as lines
 use Rattle.lease_proto.specs.declared.lines.HelloLine.{HelloLine}
@@ -18,13 +19,13 @@ use Rattle.lease_history.proofs.Sums.{sum_one}
 use Rattle.lease_history.proofs.PlaceLemmas.{ending_same}
 
 -- where a request waits, all that wait are requests
-pub requests_of : (c i next n : ℕ) (o : Bool) (ls : List Line) (id : RequestId) (op : Op) → AreOwn c i next o ls
+pub requests_of : (c i : ℕ) (p : Protocol) (next n : ℕ) (o : Bool) (ls : List Line) (id : RequestId) (op : Op) → AreOwn c i p next o ls
     → line_at n ls ≡ Some (lines.Request id op) → AreRequests c i 1 next ls
-requests_of c i next n o [] id op own waits = tt
-requests_of c i next n o (lines.Hello h ∷ ls) id op own waits =
+requests_of c i p next n o [] id op own waits = tt
+requests_of c i p next n o (lines.Hello h ∷ ls) id op own waits =
     let never : None ≡ Some (lines.Request id op) = sym (ap (line_at n) own.5) ∙ waits in
     absurd cc
-requests_of c i next n o (lines.Request first asks ∷ ls) id op own waits = own.1
+requests_of c i p next n o (lines.Request first asks ∷ ls) id op own waits = own.1
 
 -- the next number waits nowhere
 pub none_next : (c i from next n : ℕ) (ls : List Line) → next ≤ n → AreRequests c i from next ls → line_at n ls ≡ None
@@ -90,11 +91,11 @@ module _ (g h : Line → ℕ) where
   )
 
   -- and two that agree at all that a client may send
-  pub own_same : (c i next : ℕ) (o : Bool) (ls : List Line) → AreOwn c i next o ls → ((x : HelloLine) → g (lines.Hello x) ≡ h (lines.Hello x))
+  pub own_same : (c i : ℕ) (p : Protocol) (next : ℕ) (o : Bool) (ls : List Line) → AreOwn c i p next o ls → ((x : HelloLine) → g (lines.Hello x) ≡ h (lines.Hello x))
       → ((id : RequestId) (op : Op) → id.client ≡ c → id.incarnation ≡ i → g (lines.Request id op) ≡ h (lines.Request id op))
       → sum_by g ls ≡ sum_by h ls
-  own_same c i next o [] own hellos same = refl
-  own_same c i next o (lines.Hello x ∷ ls) own hellos same = omega (
+  own_same c i p next o [] own hellos same = refl
+  own_same c i p next o (lines.Hello x ∷ ls) own hellos same = omega (
     arith,
     hellos x,
     ap (λ (more : List Line). sum_by g (lines.Hello x ∷ more)) own.5,
@@ -102,7 +103,7 @@ module _ (g h : Line → ℕ) where
     sum_one g (lines.Hello x),
     sum_one h (lines.Hello x),
   )
-  own_same c i next o (lines.Request id op ∷ ls) own hellos same = requests_same c i 1 next (lines.Request id op ∷ ls) own.1 same
+  own_same c i p next o (lines.Request id op ∷ ls) own hellos same = requests_same c i 1 next (lines.Request id op ∷ ls) own.1 same
 
 -- What is due, and what ends, after a request was settled.
 
@@ -122,17 +123,17 @@ module _ (es : List Entry) (id : RequestId) (s : Settlement) where
   after = Settled id s ∷ es
 
   -- the others' requests stand as they did
-  module _ (c i next : ℕ) (o : Bool) (ls : List Line) (other : (c ≡ id.client) × (i ≡ id.incarnation) → ⊥) (own : AreOwn c i next o ls) where
+  module _ (c i : ℕ) (p : Protocol) (next : ℕ) (o : Bool) (ls : List Line) (other : (c ≡ id.client) × (i ≡ id.incarnation) → ⊥) (own : AreOwn c i p next o ls) where
     pub outcome_others : (mine : RequestId) → mine.client ≡ c → mine.incarnation ≡ i → outcome_of mine after ≡ outcome_of mine es
     outcome_others mine client incarnation = outcomes_stay.others es id s mine
         (λ same. other (sym client ∙ ap (λ (x : RequestId). x.client) same, sym incarnation ∙ ap (λ (x : RequestId). x.incarnation) same))
 
     pub due_others : (names : ℕ → List ℕ) (f : HeldSegment → ℕ) → sum_by (weight_due names f after) ls ≡ sum_by (weight_due names f es) ls
-    due_others names f = own_same (weight_due names f after) (weight_due names f es) c i next o ls own (λ x. refl)
+    due_others names f = own_same (weight_due names f after) (weight_due names f es) c i p next o ls own (λ x. refl)
         (λ mine op client incarnation. due_same names f es after mine op (outcome_others mine client incarnation))
 
     pub ending_others : (arena : List ℕ) (base : ℕ) → ending_at after arena base ls ≡ ending_at es arena base ls
-    ending_others arena base = own_same (one_ending after arena base) (one_ending es arena base) c i next o ls own (λ x. refl)
+    ending_others arena base = own_same (one_ending after arena base) (one_ending es arena base) c i p next o ls own (λ x. refl)
         (λ mine op client incarnation. ending_same es after arena base mine op (outcome_others mine client incarnation))
 
   -- of the client's own only this one changes

@@ -216,7 +216,7 @@ known_sent names es c op know may =
     let before : last_in c.id c.incarnation es < c.next = know.before in
     let none : outcome_of (next_id c) es ≡ None = numbers_settled_once.unsettled es (next_id c) before in
     let holds : is_of_held op c.held ≡ true = of_held c.is_open (is_full (window_of c.protocol) c.next c.outstanding) (is_of_held op c.held) _ _ _ _ _ may in
-    let are = own_requests c.id c.incarnation c.next c.is_open c.outstanding turn.0 know.sound.outstanding in
+    let are = own_requests c.id c.incarnation c.protocol c.next c.is_open c.outstanding turn.0 know.sound.outstanding in
     record {
       sound = moves_keep_sound (Send op) c (after_send op c) know.sound (may, refl);
       behind = know.behind;

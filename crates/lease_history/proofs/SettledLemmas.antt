@@ -35,7 +35,7 @@ module _ (names : ℕ → List ℕ) (es : List Entry) (c : ClientState) (id : Re
   leases = leases_of c.id es
 
   are : AreRequests c.id c.incarnation 1 c.next c.outstanding
-  are = requests_of c.id c.incarnation c.next id.number c.is_open c.outstanding id op know.sound.outstanding waits
+  are = requests_of c.id c.incarnation c.protocol c.next id.number c.is_open c.outstanding id op know.sound.outstanding waits
 
   settled : outcome_of id after ≡ Some (kept_settlement id.number s)
   settled = outcomes_stay.own es id s
