@@ -85,13 +85,13 @@ other_settled names es c id s know other = record {
   once = λ arena base. omega (arith, know.once arena base, leased (one_at arena base));
   ending = λ arena base. omega (arith, know.ending arena base, ends arena base, leased (one_at arena base));
   held = λ f. omega (
-      arith,
-      know.held f,
-      due_others es id s c.id c.incarnation c.protocol c.next c.is_open c.outstanding other own names f,
-      same (weight_left names c.incarnation after c.outstanding f) (left_other names c after f),
-      sum_le (weight_left names c.incarnation es c.outstanding f) (weight_left names c.incarnation after c.outstanding f)
-      (λ l. left_more names c.incarnation es after c.outstanding c.outstanding f f l (omega (arith, ends (names l.segment.arena) l.segment.holding.range.base)) (omega arith)) (leases_of c.id es),
-    );
+    arith,
+    know.held f,
+    due_others es id s c.id c.incarnation c.protocol c.next c.is_open c.outstanding other own names f,
+    same (weight_left names c.incarnation after c.outstanding f) (left_other names c after f),
+    sum_le (weight_left names c.incarnation es c.outstanding f) (weight_left names c.incarnation after c.outstanding f)
+        (λ l. left_more names c.incarnation es after c.outstanding c.outstanding f f l (omega (arith, ends (names l.segment.arena) l.segment.holding.range.base)) (omega arith)) (leases_of c.id es),
+  );
 }
   where
     after : List Entry

@@ -160,11 +160,11 @@ module _ (names : ℕ → List ℕ) (es : List Entry) (c : ClientState) (know : 
   ending_sent (ops.Release r) holds arena base = elim (none_or_some (one_ending es arena base new)) as (λ _. ending_at es arena base (c.outstanding ++ new ∷ []) ≤ leased_at names c.incarnation arena base (leases_of c.id es)) [
     | inl none ↦ omega (arith, know.ending arena base, push, none)
     | inr some ↦ (let place = ending_place es arena base (next_id c) r some in
-      let ends : ending_at es arena base c.outstanding ≡ ending_at es r.arena r.base c.outstanding
-      = ap (λ (a : List ℕ). ending_at es a base c.outstanding) (sym place.0) ∙ ap (λ (b : ℕ). ending_at es r.arena b c.outstanding) (sym place.1) in
-      let stands : leased_at names c.incarnation arena base (leases_of c.id es) ≡ leased_at names c.incarnation r.arena r.base (leases_of c.id es)
-      = ap (λ (a : List ℕ). leased_at names c.incarnation a base (leases_of c.id es)) (sym place.0) ∙ ap (λ (b : ℕ). leased_at names c.incarnation r.arena b (leases_of c.id es)) (sym place.1) in
-      omega (arith, push, ends, stands, alone.leased, alone.ending, ending_most es arena base new))
+        let ends : ending_at es arena base c.outstanding ≡ ending_at es r.arena r.base c.outstanding
+        = ap (λ (a : List ℕ). ending_at es a base c.outstanding) (sym place.0) ∙ ap (λ (b : ℕ). ending_at es r.arena b c.outstanding) (sym place.1) in
+        let stands : leased_at names c.incarnation arena base (leases_of c.id es) ≡ leased_at names c.incarnation r.arena r.base (leases_of c.id es)
+        = ap (λ (a : List ℕ). leased_at names c.incarnation a base (leases_of c.id es)) (sym place.0) ∙ ap (λ (b : ℕ). leased_at names c.incarnation r.arena b (leases_of c.id es)) (sym place.1) in
+        omega (arith, push, ends, stands, alone.leased, alone.ending, ending_most es arena base new))
   ]
     where
       new : Line
@@ -200,7 +200,7 @@ module _ (names : ℕ → List ℕ) (es : List Entry) (c : ClientState) (know : 
     sum_push (weight_due names f es) c.outstanding new,
     sum_where (weight_due names (one_at r.arena r.base) es) (weight_due names f es) (weight_due names (elsewhere r.arena r.base f) es) (due_elsewhere names f es r.arena r.base) c.outstanding alone.due,
     sum_le (weight_left names c.incarnation es c.outstanding (elsewhere r.arena r.base f)) (weight_left names c.incarnation es (c.outstanding ++ new ∷ []) f)
-    (left_elsewhere names c.incarnation es c.outstanding (next_id c) r f) (leases_of c.id es),
+        (left_elsewhere names c.incarnation es c.outstanding (next_id c) r f) (leases_of c.id es),
   )
     where
       new : Line

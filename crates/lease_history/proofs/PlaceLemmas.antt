@@ -1,8 +1,9 @@
 -- What stands, and what ends, at one base of one arena.
 use Rattle.std.proofs.Common.{◌≡◌, inl, inr, ℕ, ◌+◌, ◌≤◌, ◌==◌, ◌&&◌, Bool, true, false, not, cond, List, [], ◌∷◌, ◌++◌, filter, Option, Some, None, is_none, sum_by, refl, sym, ap, ◌∙◌, arith, eq-eqb}
 use Rattle.std.specs.Str.{bytes_eq}
+use Rattle.std.specs.List.{All}
 use Rattle.std.proofs.lemmas.Slice.Eq.{bytes_eq-Decides}
-use Rattle.std.proofs.lemmas.Bool.{false≢true, and_parts, and_from, eqb-true, ne_eqb, cond-true, cond-false}
+use Rattle.std.proofs.lemmas.Bool.{false≢true, and_parts, and_from, eqb-true, ne_eqb, cases_Bool, cond-true, cond-false}
 use Rattle.std.proofs.lemmas.List.Sums.{sum_by-cons}
 use Rattle.lease_terms.specs.Requests.{RequestId}
 use Rattle.lease_proto.specs.declared.lines.Line.{Line}
@@ -16,7 +17,7 @@ use Rattle.lease_book.specs.History.{outcome_of}
 use Rattle.lease_client.specs.declared.held.HeldSegment.{HeldSegment}
 use Rattle.lease_client.specs.ClientState.{is_at, holds_at}
 use Rattle.lease_history.specs.Known.{told_segment, weight_in, one_at, leased_at, one_ending, ending_at, weight_left}
-use Rattle.lease_history.proofs.Sums.{sum_le, filter_gives, none_or_some}
+use Rattle.lease_history.proofs.Sums.{sum_le, sum_none, filter_gives, none_or_some}
 
 -- a place is of one arena, at one base
 pub same_place : (arena : List ℕ) (base : ℕ) (s : HeldSegment) → is_at arena base s ≡ true → (s.arena ≡ arena) × (s.base ≡ base)
@@ -159,6 +160,18 @@ module _ (names : ℕ → List ℕ) (i : ℕ) where
   pub leased_most : (es : List Entry) (ls : List Line) (arena : List ℕ) (base : ℕ) (leases : List Lease)
       → sum_by (weight_left names i es ls (one_at arena base)) leases ≤ leased_at names i arena base leases
   leased_most es ls arena base leases = sum_le (weight_left names i es ls (one_at arena base)) (weight_in names i (one_at arena base)) (left_most es ls (one_at arena base)) leases
+
+-- where no lease of the list is of this arena and base, none stands there
+pub none_leased : (names : ℕ → List ℕ) (i : ℕ) (arena : List ℕ) (base : ℕ) (leases : List Lease)
+    → All (λ (l : Lease). names l.segment.arena ≡ arena → l.segment.holding.range.base ≡ base → ⊥) leases → leased_at names i arena base leases ≡ 0
+none_leased names i arena base leases all = sum_none (λ (l : Lease). names l.segment.arena ≡ arena → l.segment.holding.range.base ≡ base → ⊥)
+    (weight_in names i (one_at arena base)) (λ l apart. none l apart) leases all
+  where
+    none : (l : Lease) → (names l.segment.arena ≡ arena → l.segment.holding.range.base ≡ base → ⊥) → weight_in names i (one_at arena base) l ≡ 0
+    none l apart = elim (cases_Bool (is_at arena base (told_segment names l.segment))) as (λ _. weight_in names i (one_at arena base) l ≡ 0) [
+      | inl here ↦ absurd (let place = same_place arena base (told_segment names l.segment) here in apart place.0 place.1)
+      | inr away ↦ omega (arith, in_most names i (one_at arena base) l, none_here arena base (told_segment names l.segment) away)
+    ]
 
 -- the keys of a lease
 pub lease_keys : (i a b : ℕ) (l : Lease) → is_lease i a b l ≡ true

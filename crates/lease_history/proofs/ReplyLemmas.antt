@@ -91,12 +91,12 @@ known_ends names es c reply opened held know sound settled le = record {
   once = know.once;
   ending = λ arena base. omega (arith, know.ending arena base, ends arena base);
   held = λ f. omega (
-      arith,
-      know.held f,
-      le f,
-      sum_le (weight_left names c.incarnation es c.outstanding f) (weight_left names c.incarnation es (unanswered reply c.outstanding) f)
-      (λ l. left_more names c.incarnation es es c.outstanding (unanswered reply c.outstanding) f f l (omega (arith, ends (names l.segment.arena) l.segment.holding.range.base)) (omega arith)) (leases_of c.id es),
-    );
+    arith,
+    know.held f,
+    le f,
+    sum_le (weight_left names c.incarnation es c.outstanding f) (weight_left names c.incarnation es (unanswered reply c.outstanding) f)
+        (λ l. left_more names c.incarnation es es c.outstanding (unanswered reply c.outstanding) f f l (omega (arith, ends (names l.segment.arena) l.segment.holding.range.base)) (omega arith)) (leases_of c.id es),
+  );
 }
   where
     ends : (arena : List ℕ) (base : ℕ) → ending_at es arena base (unanswered reply c.outstanding) ≡ ending_at es arena base c.outstanding

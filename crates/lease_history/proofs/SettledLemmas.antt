@@ -125,9 +125,9 @@ module _ (names : ℕ → List ℕ) (es : List Entry) (c : ClientState) (id : Re
   granted_once : (a : List ℕ) (b : ℕ) → leased_at names c.incarnation a b (leases_of c.id es ++ lease_of id t ∷ []) ≤ 1
   granted_once a b = elim (cases_Bool (is_at a b (told_segment names t))) as (λ _. leased_at names c.incarnation a b (leases_of c.id es ++ lease_of id t ∷ []) ≤ 1) [
     | inl here ↦ (let place = same_place a b (told_segment names t) here in
-      let there : leased_at names c.incarnation a b (leases_of c.id es) ≡ leased_at names c.incarnation (names t.arena) base (leases_of c.id es)
-      = ap (λ (n : List ℕ). leased_at names c.incarnation n b (leases_of c.id es)) (sym place.0) ∙ ap (λ (n : ℕ). leased_at names c.incarnation (names t.arena) n (leases_of c.id es)) (sym place.1) in
-      omega (arith, push, there, standing, weighs (one_at a b), one_here a b (told_segment names t) here))
+        let there : leased_at names c.incarnation a b (leases_of c.id es) ≡ leased_at names c.incarnation (names t.arena) base (leases_of c.id es)
+        = ap (λ (n : List ℕ). leased_at names c.incarnation n b (leases_of c.id es)) (sym place.0) ∙ ap (λ (n : ℕ). leased_at names c.incarnation (names t.arena) n (leases_of c.id es)) (sym place.1) in
+        omega (arith, push, there, standing, weighs (one_at a b), one_here a b (told_segment names t) here))
     | inr away ↦ omega (arith, push, know.once a b, weighs (one_at a b), none_here a b (told_segment names t) away)
   ]
     where
@@ -229,11 +229,11 @@ module _ (names : ℕ → List ℕ) (es : List Entry) (c : ClientState) (id : Re
       → weight_in names c.incarnation (one_at x y) lease ≤ one_ending es x y (lines.Request id (ops.Release r))
   taken_most x y lease is = elim (cases_Bool (is_at x y segment)) as (λ _. weight_in names c.incarnation (one_at x y) lease ≤ one_ending es x y (lines.Request id (ops.Release r))) [
     | inl here ↦ (let place = same_place x y segment here in
-      let stood = taken_at lease is in
-      let counts : one_ending es x y (lines.Request id (ops.Release r)) ≡ 1
-      = ap (λ (n : List ℕ). one_ending es n y (lines.Request id (ops.Release r))) (sym place.0 ∙ stood.0)
-      ∙ (ap (λ (n : ℕ). one_ending es r.arena n (lines.Request id (ops.Release r))) (sym place.1 ∙ stood.1) ∙ ending_here es id r open_yet) in
-      omega (arith, in_most names c.incarnation (one_at x y) lease, one_here x y segment here, counts))
+        let stood = taken_at lease is in
+        let counts : one_ending es x y (lines.Request id (ops.Release r)) ≡ 1
+        = ap (λ (n : List ℕ). one_ending es n y (lines.Request id (ops.Release r))) (sym place.0 ∙ stood.0)
+        ∙ (ap (λ (n : ℕ). one_ending es r.arena n (lines.Request id (ops.Release r))) (sym place.1 ∙ stood.1) ∙ ending_here es id r open_yet) in
+        omega (arith, in_most names c.incarnation (one_at x y) lease, one_here x y segment here, counts))
     | inr away ↦ omega (arith, in_most names c.incarnation (one_at x y) lease, none_here x y segment away)
   ]
     where
