@@ -131,6 +131,12 @@ settlements_keep_known names es c id op s know orderly is sent apart = by (cases
   where
     by : (c.id ≡ id.client) ⊎ (c.id ≡ id.client → ⊥) → (c.incarnation ≡ id.incarnation) ⊎ (c.incarnation ≡ id.incarnation → ⊥)
         → IsKnown names (Settled id s ∷ es) c
-    by (inl client) (inl inc) = own_settled names es c id op s know orderly.2 is client inc (waits_now names es c id op know (sent (sym client)) client inc orderly.0.0.number.0 orderly.2) apart
+    by (inl client) (inl inc) = own_settled names es c id op s (record {
+      known = know;
+      unsettled = orderly.2;
+      client = client;
+      incarnation = inc;
+      waits = waits_now names es c id op know (sent (sym client)) client inc orderly.0.0.number.0 orderly.2;
+    }) is apart
     by (inl client) (inr other) = other_settled names es c id s know (λ both. other both.1)
     by (inr other) inc = other_settled names es c id s know (λ both. other both.0)

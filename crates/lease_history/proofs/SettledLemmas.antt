@@ -24,10 +24,16 @@ use Rattle.lease_history.proofs.Sums.{sum_push, sum_le, without_keeps, without_l
 use Rattle.lease_history.proofs.PlaceLemmas.{same_place, at_place, one_here, none_here, ending_here, settled_ends, in_most, in_own, left_whole, left_more, ending_there, left_ended, lease_keys}
 use Rattle.lease_history.proofs.LineLemmas.{requests_of, due_none, due_own, ending_own}
 
--- A client, one of its requests that waits and isn't settled, and how it is settled.
-module _ (names : ℕ → List ℕ) (es : List Entry) (c : ClientState) (id : RequestId) (op : Op) (s : Settlement) (know : IsKnown names es c)
-    (open_yet : outcome_of id es ≡ None) (client : c.id ≡ id.client) (inc : c.incarnation ≡ id.incarnation)
-    (waits : line_at id.number c.outstanding ≡ Some (lines.Request id op)) where
+-- a known client, and one of its requests that waits and isn't settled
+pub record IsOpenRequest (names : ℕ → List ℕ) (es : List Entry) (c : ClientState) (id : RequestId) (op : Op) : Type 0 where
+  pub known : IsKnown names es c
+  pub unsettled : outcome_of id es ≡ None
+  pub client : c.id ≡ id.client
+  pub incarnation : c.incarnation ≡ id.incarnation
+  pub waits : line_at id.number c.outstanding ≡ Some (lines.Request id op)
+
+module _ (names : ℕ → List ℕ) (es : List Entry) (c : ClientState) (id : RequestId) (op : Op) (s : Settlement)
+    (request : IsOpenRequest names es c id op) where
   abbrev after : List Entry
   after = Settled id s ∷ es
 
@@ -35,7 +41,7 @@ module _ (names : ℕ → List ℕ) (es : List Entry) (c : ClientState) (id : Re
   leases = leases_of c.id es
 
   are : AreRequests c.id c.incarnation 1 c.next c.outstanding
-  are = requests_of c.id c.incarnation c.protocol c.next id.number c.is_open c.outstanding id op know.sound.outstanding waits
+  are = requests_of c.id c.incarnation c.protocol c.next id.number c.is_open c.outstanding id op request.known.sound.outstanding request.waits
 
   settled : outcome_of id after ≡ Some (kept_settlement id.number s)
   settled = outcomes_stay.own es id s
@@ -44,7 +50,7 @@ module _ (names : ℕ → List ℕ) (es : List Entry) (c : ClientState) (id : Re
   ends : (arena : List ℕ) (base : ℕ) → ending_at after arena base c.outstanding + one_ending es arena base (lines.Request id op) ≡ ending_at es arena base c.outstanding
   ends arena base = omega (
     arith,
-    ending_own es id s c.id c.incarnation c.next c.outstanding op are waits arena base,
+    ending_own es id s c.id c.incarnation c.next c.outstanding op are request.waits arena base,
     settled_ends after arena base id op (kept_settlement id.number s) settled,
   )
 
@@ -61,23 +67,23 @@ module _ (names : ℕ → List ℕ) (es : List Entry) (c : ClientState) (id : Re
   -- what is due for it is due first now
   due_after : (f : HeldSegment → ℕ) → sum_by (weight_due names f after) c.outstanding
       ≡ sum_by (weight_due names f es) c.outstanding + weight_due names f after (lines.Request id op)
-  due_after f = omega (arith, due_own es id s c.id c.incarnation c.next c.outstanding op are waits names f, due_none names f es id op open_yet)
+  due_after f = omega (arith, due_own es id s c.id c.incarnation c.next c.outstanding op are request.waits names f, due_none names f es id op request.unsettled)
 
   before_after : last_in c.id c.incarnation after < c.next
   before_after =
-      let own = found_own c.id c.incarnation 1 c.next id.number c.outstanding id op are waits in
+      let own = found_own c.id c.incarnation 1 c.next id.number c.outstanding id op are request.waits in
       let same : last_in id.client id.incarnation es ≡ last_in c.id c.incarnation es
-      = ap (λ (n : ℕ). last_in n id.incarnation es) (sym client) ∙ ap (λ (n : ℕ). last_in c.id n es) (sym inc) in
+      = ap (λ (n : ℕ). last_in n id.incarnation es) (sym request.client) ∙ ap (λ (n : ℕ). last_in c.id n es) (sym request.incarnation) in
       let last : last_in id.client id.incarnation after ≡ larger id.number (last_in id.client id.incarnation es)
       = ap greatest (settled_for_incarnation.own es id s) in
       let moved : last_in c.id c.incarnation after ≡ last_in id.client id.incarnation after
-      = ap (λ (n : ℕ). last_in n c.incarnation after) client ∙ ap (λ (n : ℕ). last_in id.client n after) inc in
-      omega (arith, moved, last, larger_below id.number (last_in id.client id.incarnation es) c.next own.3 (omega (arith, know.before, same)))
+      = ap (λ (n : ℕ). last_in n c.incarnation after) request.client ∙ ap (λ (n : ℕ). last_in id.client n after) request.incarnation in
+      omega (arith, moved, last, larger_below id.number (last_in id.client id.incarnation es) c.next own.3 (omega (arith, request.known.before, same)))
 
   -- the others that wait aren't settled as they weren't
   waits_after : (mine : RequestId) → mine.client ≡ c.id → mine.incarnation ≡ c.incarnation → 1 ≤ mine.number → mine.number < c.next
       → outcome_of mine after ≡ None → (asked : Op) × (line_at mine.number c.outstanding ≡ Some (lines.Request mine asked))
-  waits_after mine own now from below none = know.waits mine own now from below (sym (outcomes_stay.others es id s mine differs) ∙ none)
+  waits_after mine own now from below none = request.known.waits mine own now from below (sym (outcomes_stay.others es id s mine differs) ∙ none)
     where
       differs : mine ≢ id
       differs same =
@@ -90,8 +96,8 @@ module _ (names : ℕ → List ℕ) (es : List Entry) (c : ClientState) (id : Re
       → ((f : HeldSegment → ℕ) → sum_by f c.held + sum_by (weight_due names f after) c.outstanding ≤ sum_by (weight_left names c.incarnation after c.outstanding f) now)
       → IsKnown names after c
   known_after now is once ending held = record {
-    sound = know.sound;
-    behind = know.behind;
+    sound = request.known.sound;
+    behind = request.known.behind;
     before = before_after;
     waits = waits_after;
     once = λ arena base. subst (λ (ls : List Lease). leased_at names c.incarnation arena base ls ≤ 1) (sym is) (once arena base);
@@ -100,14 +106,12 @@ module _ (names : ℕ → List ℕ) (es : List Entry) (c : ClientState) (id : Re
   }
 
   leases_now : leases_of c.id after ≡ leases_after id s leases
-  leases_now = cond-true (c.id == id.client) (leases_after id s leases) leases (eq-eqb c.id id.client client)
+  leases_now = cond-true (c.id == id.client) (leases_after id s leases) leases (eq-eqb c.id id.client request.client)
 
 -- A lease is granted.
 
-module _ (names : ℕ → List ℕ) (es : List Entry) (c : ClientState) (id : RequestId) (l : _) (t : Tag) (terms : Terms) (know : IsKnown names es c)
-    (open_yet : outcome_of id es ≡ None) (client : c.id ≡ id.client) (inc : c.incarnation ≡ id.incarnation)
-    (waits : line_at id.number c.outstanding ≡ Some (lines.Request id (ops.Lease l)))
-    (apart : IsApart names id (leases_of id.client es) (Grant t terms)) where
+module _ (names : ℕ → List ℕ) (es : List Entry) (c : ClientState) (id : RequestId) (l : _) (t : Tag) (terms : Terms)
+    (request : IsOpenRequest names es c id (ops.Lease l)) (apart : IsApart names id (leases_of id.client es) (Grant t terms)) where
   abbrev granted_es : List Entry
   granted_es = Settled id (Grant t terms) ∷ es
 
@@ -116,11 +120,11 @@ module _ (names : ℕ → List ℕ) (es : List Entry) (c : ClientState) (id : Re
 
   -- none stands there
   standing : leased_at names c.incarnation (names t.arena) base (leases_of c.id es) ≡ 0
-  standing = ap (λ (n : ℕ). leased_at names n (names t.arena) base (leases_of c.id es)) inc
-      ∙ (ap (λ (n : ℕ). leased_at names id.incarnation (names t.arena) base (leases_of n es)) client ∙ apart)
+  standing = ap (λ (n : ℕ). leased_at names n (names t.arena) base (leases_of c.id es)) request.incarnation
+      ∙ (ap (λ (n : ℕ). leased_at names id.incarnation (names t.arena) base (leases_of n es)) request.client ∙ apart)
 
   weighs : (f : HeldSegment → ℕ) → weight_in names c.incarnation f (lease_of id t) ≡ f (told_segment names t)
-  weighs f = in_own names c.incarnation f (lease_of id t) inc
+  weighs f = in_own names c.incarnation f (lease_of id t) request.incarnation
 
   granted_once : (a : List ℕ) (b : ℕ) → leased_at names c.incarnation a b (leases_of c.id es ++ lease_of id t ∷ []) ≤ 1
   granted_once a b = elim (cases_Bool (is_at a b (told_segment names t))) as (λ _. leased_at names c.incarnation a b (leases_of c.id es ++ lease_of id t ∷ []) ≤ 1) [
@@ -128,7 +132,7 @@ module _ (names : ℕ → List ℕ) (es : List Entry) (c : ClientState) (id : Re
         let there : leased_at names c.incarnation a b (leases_of c.id es) ≡ leased_at names c.incarnation (names t.arena) base (leases_of c.id es)
         = ap (λ (n : List ℕ). leased_at names c.incarnation n b (leases_of c.id es)) (sym place.0) ∙ ap (λ (n : ℕ). leased_at names c.incarnation (names t.arena) n (leases_of c.id es)) (sym place.1) in
         omega (arith, push, there, standing, weighs (one_at a b), one_here a b (told_segment names t) here))
-    | inr away ↦ omega (arith, push, know.once a b, weighs (one_at a b), none_here a b (told_segment names t) away)
+    | inr away ↦ omega (arith, push, request.known.once a b, weighs (one_at a b), none_here a b (told_segment names t) away)
   ]
     where
       push : leased_at names c.incarnation a b (leases_of c.id es ++ lease_of id t ∷ [])
@@ -138,8 +142,8 @@ module _ (names : ℕ → List ℕ) (es : List Entry) (c : ClientState) (id : Re
   granted_ending : (a : List ℕ) (b : ℕ) → ending_at granted_es a b c.outstanding ≤ leased_at names c.incarnation a b (leases_of c.id es ++ lease_of id t ∷ [])
   granted_ending a b = omega (
     arith,
-    ends names es c id (ops.Lease l) (Grant t terms) know open_yet client inc waits a b,
-    know.ending a b,
+    ends names es c id (ops.Lease l) (Grant t terms) request a b,
+    request.known.ending a b,
     sum_push (weight_in names c.incarnation (one_at a b)) (leases_of c.id es) (lease_of id t),
   )
 
@@ -147,34 +151,33 @@ module _ (names : ℕ → List ℕ) (es : List Entry) (c : ClientState) (id : Re
       ≤ sum_by (weight_left names c.incarnation granted_es c.outstanding f) (leases_of c.id es ++ lease_of id t ∷ [])
   granted_held f =
       let due : weight_due names f granted_es (lines.Request id (ops.Lease l)) ≡ f (told_segment names t)
-      = ap (weight_kept names f) (settled names es c id (ops.Lease l) (Grant t terms) know open_yet client inc waits) in
+      = ap (weight_kept names f) (settled names es c id (ops.Lease l) (Grant t terms) request) in
       let none : ending_at granted_es (names t.arena) base c.outstanding ≡ 0 = omega (
         arith,
-        ends names es c id (ops.Lease l) (Grant t terms) know open_yet client inc waits (names t.arena) base,
-        know.ending (names t.arena) base,
+        ends names es c id (ops.Lease l) (Grant t terms) request (names t.arena) base,
+        request.known.ending (names t.arena) base,
         standing,
       ) in
       let whole = left_whole names c.incarnation granted_es c.outstanding f (lease_of id t) none in
       omega (
         arith,
-        know.held f,
-        due_after names es c id (ops.Lease l) (Grant t terms) know open_yet client inc waits f,
+        request.known.held f,
+        due_after names es c id (ops.Lease l) (Grant t terms) request f,
         due,
-        left_after names es c id (ops.Lease l) (Grant t terms) know open_yet client inc waits f (leases_of c.id es),
+        left_after names es c id (ops.Lease l) (Grant t terms) request f (leases_of c.id es),
         sum_push (weight_left names c.incarnation granted_es c.outstanding f) (leases_of c.id es) (lease_of id t),
         whole,
         weighs f,
       )
 
   own_granted : IsKnown names granted_es c
-  own_granted = known_after names es c id (ops.Lease l) (Grant t terms) know open_yet client inc waits (leases_of c.id es ++ lease_of id t ∷ [])
-      (leases_now names es c id (ops.Lease l) (Grant t terms) know open_yet client inc waits) granted_once granted_ending granted_held
+  own_granted = known_after names es c id (ops.Lease l) (Grant t terms) request (leases_of c.id es ++ lease_of id t ∷ [])
+      (leases_now names es c id (ops.Lease l) (Grant t terms) request) granted_once granted_ending granted_held
 
 -- It is refused.
 
-module _ (names : ℕ → List ℕ) (es : List Entry) (c : ClientState) (id : RequestId) (op : Op) (why : Refusal) (know : IsKnown names es c)
-    (open_yet : outcome_of id es ≡ None) (client : c.id ≡ id.client) (inc : c.incarnation ≡ id.incarnation)
-    (waits : line_at id.number c.outstanding ≡ Some (lines.Request id op)) where
+module _ (names : ℕ → List ℕ) (es : List Entry) (c : ClientState) (id : RequestId) (op : Op) (why : Refusal)
+    (request : IsOpenRequest names es c id op) where
   abbrev refused_es : List Entry
   refused_es = Settled id (Refuse why) ∷ es
 
@@ -184,24 +187,22 @@ module _ (names : ℕ → List ℕ) (es : List Entry) (c : ClientState) (id : Re
   refused_due f (ops.Release r) is = refl
 
   own_refused : IsKnown names refused_es c
-  own_refused = known_after names es c id op (Refuse why) know open_yet client inc waits (leases_of c.id es)
-      (leases_now names es c id op (Refuse why) know open_yet client inc waits)
-      know.once
-      (λ a b. omega (arith, ends names es c id op (Refuse why) know open_yet client inc waits a b, know.ending a b))
+  own_refused = known_after names es c id op (Refuse why) request (leases_of c.id es)
+      (leases_now names es c id op (Refuse why) request)
+      request.known.once
+      (λ a b. omega (arith, ends names es c id op (Refuse why) request a b, request.known.ending a b))
       (λ f. omega (
         arith,
-        know.held f,
-        due_after names es c id op (Refuse why) know open_yet client inc waits f,
-        refused_due f op (settled names es c id op (Refuse why) know open_yet client inc waits),
-        left_after names es c id op (Refuse why) know open_yet client inc waits f (leases_of c.id es),
+        request.known.held f,
+        due_after names es c id op (Refuse why) request f,
+        refused_due f op (settled names es c id op (Refuse why) request),
+        left_after names es c id op (Refuse why) request f (leases_of c.id es),
       ))
 
 -- A lease is given back.
 
-module _ (names : ℕ → List ℕ) (es : List Entry) (c : ClientState) (id : RequestId) (r : _) (a b : ℕ) (know : IsKnown names es c)
-    (open_yet : outcome_of id es ≡ None) (client : c.id ≡ id.client) (inc : c.incarnation ≡ id.incarnation)
-    (waits : line_at id.number c.outstanding ≡ Some (lines.Request id (ops.Release r)))
-    (home : names a ≡ r.arena) (at : b ≡ r.base) where
+module _ (names : ℕ → List ℕ) (es : List Entry) (c : ClientState) (id : RequestId) (r : _) (a b : ℕ)
+    (request : IsOpenRequest names es c id (ops.Release r)) (home : names a ≡ r.arena) (at : b ≡ r.base) where
   abbrev returned_es : List Entry
   returned_es = Settled id (Return a b) ∷ es
 
@@ -220,8 +221,8 @@ module _ (names : ℕ → List ℕ) (es : List Entry) (c : ClientState) (id : Re
       left_ended names c.incarnation es c.outstanding f x (omega (
         arith,
         there,
-        ends names es c id (ops.Release r) (Return a b) know open_yet client inc waits r.arena r.base,
-        ending_here es id r open_yet,
+        ends names es c id (ops.Release r) (Return a b) request r.arena r.base,
+        ending_here es id r request.unsettled,
       ))
 
   -- it counted at the release's place only
@@ -232,7 +233,7 @@ module _ (names : ℕ → List ℕ) (es : List Entry) (c : ClientState) (id : Re
         let stood = taken_at lease is in
         let counts : one_ending es x y (lines.Request id (ops.Release r)) ≡ 1
         = ap (λ (n : List ℕ). one_ending es n y (lines.Request id (ops.Release r))) (sym place.0 ∙ stood.0)
-        ∙ (ap (λ (n : ℕ). one_ending es r.arena n (lines.Request id (ops.Release r))) (sym place.1 ∙ stood.1) ∙ ending_here es id r open_yet) in
+        ∙ (ap (λ (n : ℕ). one_ending es r.arena n (lines.Request id (ops.Release r))) (sym place.1 ∙ stood.1) ∙ ending_here es id r request.unsettled) in
         omega (arith, in_most names c.incarnation (one_at x y) lease, one_here x y segment here, counts))
     | inr away ↦ omega (arith, in_most names c.incarnation (one_at x y) lease, none_here x y segment away)
   ]
@@ -241,29 +242,28 @@ module _ (names : ℕ → List ℕ) (es : List Entry) (c : ClientState) (id : Re
       segment = told_segment names lease.segment
 
   own_returned : IsKnown names returned_es c
-  own_returned = known_after names es c id (ops.Release r) (Return a b) know open_yet client inc waits others
-      (leases_now names es c id (ops.Release r) (Return a b) know open_yet client inc waits)
-      (λ x y. omega (arith, know.once x y, without_less (weight_in names c.incarnation (one_at x y)) (is_lease id.incarnation a b) (leases_of c.id es)))
+  own_returned = known_after names es c id (ops.Release r) (Return a b) request others
+      (leases_now names es c id (ops.Release r) (Return a b) request)
+      (λ x y. omega (arith, request.known.once x y, without_less (weight_in names c.incarnation (one_at x y)) (is_lease id.incarnation a b) (leases_of c.id es)))
       (λ x y. omega (
         arith,
-        ends names es c id (ops.Release r) (Return a b) know open_yet client inc waits x y,
-        know.ending x y,
+        ends names es c id (ops.Release r) (Return a b) request x y,
+        request.known.ending x y,
         without_most (weight_in names c.incarnation (one_at x y)) (one_ending es x y (lines.Request id (ops.Release r))) (is_lease id.incarnation a b) (leases_of c.id es) (taken_most x y),
       ))
       (λ f. omega (
         arith,
-        know.held f,
-        due_after names es c id (ops.Release r) (Return a b) know open_yet client inc waits f,
+        request.known.held f,
+        due_after names es c id (ops.Release r) (Return a b) request f,
         without_keeps (weight_left names c.incarnation es c.outstanding f) (is_lease id.incarnation a b) (leases_of c.id es) (taken_none f),
-        left_after names es c id (ops.Release r) (Return a b) know open_yet client inc waits f others,
+        left_after names es c id (ops.Release r) (Return a b) request f others,
       ))
 
-pub own_settled : (names : ℕ → List ℕ) (es : List Entry) (c : ClientState) (id : RequestId) (op : Op) (s : Settlement) → IsKnown names es c
-    → outcome_of id es ≡ None → IsFor names op s → c.id ≡ id.client → c.incarnation ≡ id.incarnation
-    → line_at id.number c.outstanding ≡ Some (lines.Request id op) → IsApart names id (leases_of id.client es) s → IsKnown names (Settled id s ∷ es) c
-own_settled names es c id (ops.Lease l) (Grant t terms) know none is client inc waits apart = own_granted names es c id l t terms know none client inc waits apart
-own_settled names es c id (ops.Lease l) (Return a b) know none is client inc waits apart = absurd is
-own_settled names es c id (ops.Lease l) (Refuse why) know none is client inc waits apart = own_refused names es c id (ops.Lease l) why know none client inc waits
-own_settled names es c id (ops.Release r) (Grant t terms) know none is client inc waits apart = absurd is
-own_settled names es c id (ops.Release r) (Return a b) know none is client inc waits apart = own_returned names es c id r a b know none client inc waits is.0 is.1
-own_settled names es c id (ops.Release r) (Refuse why) know none is client inc waits apart = own_refused names es c id (ops.Release r) why know none client inc waits
+pub own_settled : (names : ℕ → List ℕ) (es : List Entry) (c : ClientState) (id : RequestId) (op : Op) (s : Settlement) → IsOpenRequest names es c id op
+    → IsFor names op s → IsApart names id (leases_of id.client es) s → IsKnown names (Settled id s ∷ es) c
+own_settled names es c id (ops.Lease l) (Grant t terms) request is apart = own_granted names es c id l t terms request apart
+own_settled names es c id (ops.Lease l) (Return a b) request is apart = absurd is
+own_settled names es c id (ops.Lease l) (Refuse why) request is apart = own_refused names es c id (ops.Lease l) why request
+own_settled names es c id (ops.Release r) (Grant t terms) request is apart = absurd is
+own_settled names es c id (ops.Release r) (Return a b) request is apart = own_returned names es c id r a b request is.0 is.1
+own_settled names es c id (ops.Release r) (Refuse why) request is apart = own_refused names es c id (ops.Release r) why request
