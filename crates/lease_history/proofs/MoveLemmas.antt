@@ -1,6 +1,6 @@
 -- What a client sends keeps it known.
 use Rattle.std.proofs.Common.{◌≡◌, inl, inr, ℕ, ◌+◌, ◌<◌, ◌≤◌, Bool, true, false, not, cond, List, [], ◌∷◌, ◌++◌, Option, Some, None, sum_by, refl, sym, ap, ◌∙◌, arith, eq-eqb}
-use Rattle.std.proofs.lemmas.Bool.{both_ways, cases_lt, cond-true, cond-false}
+use Rattle.std.proofs.lemmas.Bool.{false≢true, both_ways, cases_lt, cond-true, cond-false}
 use Rattle.lease_terms.specs.Requests.{RequestId}
 use Rattle.lease_terms.specs.Protocols.{window_of}
 use Rattle.lease_terms.specs.declared.protocols.Protocol.{Protocol}
@@ -39,6 +39,7 @@ known_restarted names es c i p orderly know may =
       sound = moves_keep_sound (Restart i p) c (after_restart i p c) know.sound (may, refl);
       behind = omega arith;
       before = omega arith;
+      protocol = λ never. absurd (false≢true never);
       waits = λ id client own from below unsettled. absurd (omega (arith, from, below));
       once = λ arena base.
           let leased = sum_none (λ (l : Lease). l.incarnation ≤ incarnation c.id es) (weight_in names i (one_at arena base))
@@ -220,6 +221,7 @@ known_sent names es c op know may =
       sound = moves_keep_sound (Send op) c (after_send op c) know.sound (may, refl);
       behind = know.behind;
       before = omega arith;
+      protocol = know.protocol;
       waits = waits_sent names es c op know are;
       once = know.once;
       ending = ending_sent names es c know op holds;

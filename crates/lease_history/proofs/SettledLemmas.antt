@@ -97,6 +97,7 @@ module _ (names : ℕ → List ℕ) (es : List Entry) (c : ClientState) (id : Re
     sound = request.known.sound;
     behind = request.known.behind;
     before = before_after;
+    protocol = request.known.protocol;
     waits = waits_after;
     once = λ arena base. subst (λ (ls : List Lease). leased_at names c.incarnation arena base ls ≤ 1) (sym is) (once arena base);
     ending = λ arena base. subst (λ (ls : List Lease). ending_at after arena base c.outstanding ≤ leased_at names c.incarnation arena base ls) (sym is) (ending arena base);
