@@ -1,5 +1,5 @@
 -- What an open client and the book agree on.
-use Rattle.std.proofs.Common.{◌≡◌, ◌⊎◌, inl, inr, ℕ, suc, ◌+◌, ◌<◌, ◌≤◌, Bool, true, false, List, Option, Some, None, refl, sym, ap, subst, ◌∙◌, arith}
+use Rattle.std.proofs.Common.{◌≡◌, ◌⊎◌, inl, inr, ℕ, suc, ◌+◌, ◌<◌, ◌≤◌, List, Option, Some, None, refl, sym, ap, ◌∙◌, arith}
 use Rattle.std.proofs.lemmas.Bool.{cases_lt}
 use Rattle.lease_terms.specs.Requests.{RequestId}
 use Rattle.lease_terms.specs.Protocols.{window_of}
@@ -12,7 +12,7 @@ use Rattle.lease_book.specs.Replies.{kept_at, greatest, recent}
 use Rattle.lease_book.specs.Entry.{Entry}
 use Rattle.lease_book.specs.Account.{Account, last_number, window_in}
 use Rattle.lease_book.specs.Answers.{IsNew}
-use Rattle.lease_book.specs.History.{incarnation, settled_in, last_in, low_in, first_protocol, or_else, protocol_in, reach_in, outcome_of, kept_of, account, AreOrderly}
+use Rattle.lease_book.specs.History.{incarnation, settled_in, last_in, low_in, first_protocol, or_else, protocol_in, reach_in, outcome_of, account, AreOrderly}
 use Rattle.lease_book.proofs.LawProofs.{kept_outcomes, numbers_settled_once, greatest_recent}
 use Rattle.lease_client.specs.ClientState.{ClientState, line_at}
 use Rattle.lease_history.specs.Known.{IsKnown, IsAnswerable}

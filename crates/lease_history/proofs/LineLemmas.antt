@@ -15,7 +15,7 @@ use Rattle.lease_book.specs.History.{outcome_of}
 use Rattle.lease_book.proofs.LawProofs.{outcomes_stay}
 use Rattle.lease_client.specs.declared.held.HeldSegment.{HeldSegment}
 use Rattle.lease_client.specs.ClientState.{ClientState, IsSoundClient, is_numbered, line_at, AreRequests, AreOwn}
-use Rattle.lease_client.proofs.WaitingLemmas.{found_own}
+use Rattle.lease_client.proofs.LawProofs.{found_own}
 use Rattle.lease_history.specs.Known.{weight_kept, weight_due, one_ending, ending_at}
 use Rattle.lease_history.proofs.Sums.{sum_one}
 use Rattle.lease_history.proofs.PlaceLemmas.{ending_same}

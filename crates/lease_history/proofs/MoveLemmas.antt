@@ -20,8 +20,7 @@ use Rattle.lease_client.specs.declared.held.HeldSegment.{HeldSegment}
 use Rattle.lease_client.specs.ClientState.{ClientState, is_at, holds_at, is_numbered, line_at, AreRequests}
 use Rattle.lease_client.specs.Calls.{may_restart, after_restart, is_of_held, is_full, refusal, after_send, next_id, next_request, held_after}
 use Rattle.lease_client.specs.Runs.{Restart, Send}
-use Rattle.lease_client.proofs.LawProofs.{moves_keep_sound, moves_in_turn}
-use Rattle.lease_client.proofs.WaitingLemmas.{own_requests, found_push}
+use Rattle.lease_client.proofs.LawProofs.{moves_keep_sound, moves_in_turn, own_requests, found_push}
 use Rattle.lease_history.specs.Known.{told_segment, weight_in, weight_told, weight_kept, weight_due, one_at, leased_at, one_ending, ending_at, weight_left, IsKnown}
 use Rattle.lease_history.specs.Laws.{MovesKeepKnown}
 use Rattle.lease_history.proofs.Sums.{sum_push, sum_le, sum_where, sum_zero, sum_none, none_or_some, find_last}
@@ -212,7 +211,7 @@ module _ (names : ℕ → List ℕ) (es : List Entry) (c : ClientState) (know : 
 known_sent : (names : ℕ → List ℕ) (es : List Entry) (c : ClientState) (op : Op) → IsKnown names es c
     → refusal op c ≡ None → IsKnown names es (after_send op c)
 known_sent names es c op know may =
-    let turn = moves_in_turn.send op c may in
+    let turn = moves_in_turn.send op c know.sound may in
     let before : last_in c.id c.incarnation es < c.next = know.before in
     let none : outcome_of (next_id c) es ≡ None = numbers_settled_once.unsettled es (next_id c) before in
     let holds : is_of_held op c.held ≡ true = of_held c.is_open (is_full (window_of c.protocol) c.next c.outstanding) (is_of_held op c.held) _ _ _ _ _ may in
