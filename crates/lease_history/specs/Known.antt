@@ -1,6 +1,6 @@
 -- What the entries of a book and a client know of each other.
-use Rattle.std.specs.Prelude.{◌≡◌, ◌⊎◌, ℕ, ◌+◌, ◌<◌, ◌≤◌, ◌==◌, ◌&&◌, true, List, Option, Some, None}
-use Rattle.std.specs.Prelude.{is_none, if◌then◌else◌, sum_by}
+use Rattle.std.specs.Prelude.{◌≡◌, ◌⊎◌, ℕ, ◌+◌, ◌<◌, ◌≤◌, ◌==◌, ◌&&◌, true, List, Option, Some}
+use Rattle.std.specs.Prelude.{None, is_none, if◌then◌else◌, sum_by}
 use Rattle.std.specs.Str.{bytes_eq}
 use Rattle.deed_core.specs.Tag.{Tag}
 use Rattle.lease_terms.specs.Requests.{RequestId}

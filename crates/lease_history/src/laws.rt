@@ -27,8 +27,8 @@ pub fn reply_laws()
     ensures got { RepliesKeepKnown }
 {}
 
-/// What a known client holds is leased to it. While it is open, the book has its incarnation and its
-/// protocol. What it waits for is new to the book, or its reply is kept.
+/// What a known client holds is leased to it. While it is open, the book has its incarnation and
+/// its protocol. What it waits for is new to the book, or its reply is kept.
 pub fn held_laws()
     ensures held { HeldIsLeased }
     ensures agree { OpenClientsAgree }
