@@ -337,6 +337,7 @@ impl<D: Deed> Book<D> {
         self.accounts.report(index)
     }
 
+    /// Where the account of the client stands, and what is kept there, the leases apart.
     fn account(&self, client: ClientId) -> Option<(usize, &Standing)>
         ensures found { IfSome result (λ r. IsFound self.now client r.0) }
         ensures standing { IfSome result
@@ -384,6 +385,7 @@ impl<D: Deed> Book<D> {
         }
     }
 
+    /// The receipt of this book for a request that was settled with this.
     fn receipt(&self, id: RequestId, kept: Kept) -> Receipt<D>
         ensures { result ≡ receipt self.now id kept }
     {
