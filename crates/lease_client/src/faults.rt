@@ -20,7 +20,8 @@ pub enum SendFault {
     /// No `welcome` has come yet to the client's hello, or an `old` came after it.
     #[error("not open")]
     NotOpen(Op),
-    /// The last request waits for its reply.
+    /// As many requests wait for their replies as the protocol allows, counted from the least number
+    /// that waits.
     #[error("busy")]
     Busy(Op),
     /// A release of what the client doesn't hold.
@@ -29,7 +30,7 @@ pub enum SendFault {
     /// The number `LARGEST` was sent: the client has to restart.
     #[error("no number is left")]
     Exhausted(Op),
-    /// Out of memory: there is no room for the segment that a lease may be granted.
+    /// Out of memory: there is no room for a lease, or for the segment that it may be granted.
     #[error("out of memory")]
     NoMemory(Op),
 }

@@ -31,6 +31,7 @@ impl Worker for Counted {
             Line::Hello(hello) => Reply::Welcome(Welcome {
                 client: hello.client,
                 incarnation: hello.incarnation,
+                protocol: hello.protocol,
             }),
             Line::Request(id, _) => Reply::Released(*id),
         }
