@@ -40,8 +40,9 @@ reply_to_answer names id (answer.Kept v) = reply_to names id v.reply
 reply_to_answer names id (answer.Refused v) = reply_to names id v.reply
 reply_to_answer names id (answer.Old current) =
     replies.Old (record { client = id.client; current = current })
-reply_to_answer names id (answer.Stale last) = replies.Stale (record { id = id; last = last })
-reply_to_answer names id (answer.Gap last) = replies.Gap (record { id = id; last = last })
+reply_to_answer names id (answer.Stale greatest) =
+    replies.Stale (record { id = id; last = greatest })
+reply_to_answer names id (answer.Gap low) = replies.Gap (record { id = id; last = low })
 reply_to_answer names id answer.Again = again_of id
 
 -- the reply to a number that is settled already
