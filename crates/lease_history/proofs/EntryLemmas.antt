@@ -1,13 +1,11 @@
 -- Each entry keeps its clients known.
-use Rattle.std.proofs.Common.{◌≡◌, ◌⊎◌, inl, inr, ℕ, ◌+◌, ◌<◌, ◌≤◌, ◌==◌, Bool, true, false, cond, List, [], ◌∷◌, Option, Some, None, sum_by, refl, sym, ap, ◌∙◌, arith}
+use Rattle.std.proofs.Common.{◌≡◌, ◌⊎◌, inl, inr, ℕ, ◌≤◌, ◌==◌, Bool, true, false, cond, List, ◌∷◌, Some, None, sum_by, refl, sym, ap, ◌∙◌, arith}
 use Rattle.std.proofs.lemmas.Bool.{eqb-true, cases_eq}
 use Rattle.lease_terms.specs.Requests.{RequestId}
-use Rattle.lease_terms.specs.declared.protocols.Protocol.{Protocol}
 use Rattle.lease_proto.specs.declared.lines.Line.TheVariants as lines
 use Rattle.lease_proto.specs.declared.lines.Op.{Op}
-use Rattle.lease_book.specs.Receipts.{Kept}
 use Rattle.lease_book.specs.Replies.{greatest}
-use Rattle.lease_book.specs.Entry.{Entry, Settlement, Hello, Settled, Swept, Grant, Return, Refuse}
+use Rattle.lease_book.specs.Entry.{Entry, Settlement, Settled, Swept, Grant, Return, Refuse}
 use Rattle.lease_book.specs.Account.{Lease, is_lease, without_first, leases_after, lease_of}
 use Rattle.lease_book.specs.History.{incarnation, last_in, outcome_of, leases_of}
 use Rattle.lease_book.proofs.LawProofs.{settled_for_incarnation}

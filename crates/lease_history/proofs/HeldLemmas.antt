@@ -1,5 +1,5 @@
 -- What a client begins with, and what it holds.
-use Rattle.std.proofs.Common.{◌≡◌, ℕ, ◌≤◌, sum_by, refl, arith}
+use Rattle.std.proofs.Common.{refl, arith}
 use Rattle.std.proofs.lemmas.Bool.{false≢true}
 use Rattle.lease_book.specs.History.{leases_of}
 use Rattle.lease_history.specs.Known.{weight_in, weight_left}

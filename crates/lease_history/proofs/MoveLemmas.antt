@@ -1,10 +1,9 @@
 -- What a client sends keeps it known.
-use Rattle.std.proofs.Common.{◌≡◌, ◌⊎◌, inl, inr, ℕ, ◌+◌, ◌<◌, ◌≤◌, Bool, true, false, not, cond, List, [], ◌∷◌, ◌++◌, filter, Option, Some, None, sum_by, refl, sym, ap, ◌∙◌, arith, eq-eqb}
-use Rattle.std.proofs.lemmas.Bool.{false≢true, both_ways, cases_lt, cond-true, cond-false}
+use Rattle.std.proofs.Common.{◌≡◌, inl, inr, ℕ, ◌+◌, ◌<◌, ◌≤◌, Bool, true, false, not, cond, List, [], ◌∷◌, ◌++◌, Option, Some, None, sum_by, refl, sym, ap, ◌∙◌, arith, eq-eqb}
+use Rattle.std.proofs.lemmas.Bool.{both_ways, cases_lt, cond-true, cond-false}
 use Rattle.lease_terms.specs.Requests.{RequestId}
 use Rattle.lease_terms.specs.Protocols.{window_of}
 use Rattle.lease_terms.specs.declared.protocols.Protocol.{Protocol}
-use Rattle.lease_terms.specs.declared.values.TheConstants.{LARGEST}
 use Rattle.lease_proto.specs.declared.lines.Op.{Op}
 use Rattle.lease_proto.specs.declared.lines.Op.TheVariants as ops
 use Rattle.lease_proto.specs.declared.lines.Line.{Line}
