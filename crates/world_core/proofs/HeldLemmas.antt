@@ -238,19 +238,28 @@ at_weighs a base h some = by (bytes_eq h.arena a) (h.base == base) refl refl
 pub hand_is_apart : (w : WorldState) (cpu : ℕ) (id : RequestId) (t : Tag) → IsWorld w → slice_get w.hands cpu ≡ Some (Some t) → t.arena < length w.names → 0 < t.holding.range.len
     → leased_at (arena_name w.names) id.incarnation (arena_name w.names t.arena) t.holding.range.base (leases_of id.client w.entries) ≡ 0
 hand_is_apart w cpu id t is holds within some =
-    omega (arith, leased, client_weighs w is id.client g, one_out w is (tops.0 t.arena) base told told here here, mine, hand_set g w.hands cpu (Some t) None holds, sum_by-cons g t [],
-      sum_by-append g (in_hands w.hands) (leased_segments w.book ++ all_own_rounds w.caches), sum_by-append g (leased_segments w.book) (all_own_rounds w.caches))
+    omega (
+      arith,
+      leased,
+      client_weighs w is id.client g,
+      one_out w is (tops.0 t.arena) base told told here here,
+      mine,
+      hand_set g w.hands cpu (Some t) None holds,
+      sum_by-cons g t [],
+      sum_by-append g (in_hands w.hands) (leased_segments w.book ++ all_own_rounds w.caches),
+      sum_by-append g (leased_segments w.book) (all_own_rounds w.caches),
+    )
   where
-    abbrev names : ℕ → List ℕ
+    names : ℕ → List ℕ
     names = arena_name w.names
 
-    abbrev base : ℕ
+    base : ℕ
     base = t.holding.range.base
 
-    abbrev told : HeldSegment
+    told : HeldSegment
     told = told_segment names t
 
-    abbrev g : Tag → ℕ
+    g : Tag → ℕ
     g x = weight (names t.arena) (names t.arena) base (told_segment names x)
 
     tops : (top : ℕ → ℕ) × AreTops w.stock top

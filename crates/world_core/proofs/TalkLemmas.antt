@@ -54,7 +54,7 @@ request_found c i from next n [] line are at = absurd (let e : None ≡ Some lin
 request_found c i from next n (lines.Hello h ∷ ls) line are at = absurd are
 request_found c i from next n (lines.Request own asks ∷ ls) line are at = by (nat_eq n own.number) refl at (request_found c i (own.number + 1) next n ls line are.4)
   where
-    abbrev Found : Type 0
+    Found : Type 0
     Found = (id : RequestId) × (op : Op) × (line ≡ lines.Request id op) × (id.client ≡ c) × (n ≡ id.number)
 
     by : (b : Bool) → nat_eq n own.number ≡ b → cond b (Some (lines.Request own asks)) (line_at n ls) ≡ Some line → (line_at n ls ≡ Some line → Found) → Found

@@ -25,12 +25,7 @@ fn sent_again(client: &Client, number: Option<u64>) -> Option<Line>
 
 impl<D: Deed> WorldParts<D> {
     /// A client begins a greater incarnation by this protocol.
-    pub(crate) fn restart(
-        &mut self,
-        client: usize,
-        incarnation: u64,
-        protocol: Protocol,
-    ) -> Outcome
+    pub(crate) fn restart(&mut self, client: usize, incarnation: u64, protocol: Protocol) -> Outcome
         ensures { EndsAs (WorldEvent.Restarts client incarnation protocol)
             result self.old self.new }
     {
@@ -59,7 +54,7 @@ impl<D: Deed> WorldParts<D> {
             → IsEnabled (WorldEvent.Restarts client incarnation p) self.now) }
         ensures off { OnFalse result ((p : Protocol)
             → RefusesEvent (WorldEvent.Restarts client incarnation p)
-                EventFault.NotGreater self.now) }
+            EventFault.NotGreater self.now) }
     {
         self.clients[client].may_restart(incarnation)
     }

@@ -85,12 +85,7 @@ fn sends_eight<R: Abort + AllocGlobal>(rt: &R, world: &mut World<PlainDeed>) {
 }
 
 /// A CPU serves the lease in this line.
-fn served<R: Abort + AllocGlobal>(
-    rt: &R,
-    world: &mut World<PlainDeed>,
-    cpu: usize,
-    which: usize,
-) {
+fn served<R: Abort + AllocGlobal>(rt: &R, world: &mut World<PlainDeed>, cpu: usize, which: usize) {
     let events = [
         WorldEvent::Looks { cpu, which },
         carves(cpu, 0, 1),
