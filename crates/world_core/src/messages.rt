@@ -1,7 +1,7 @@
 //! What clients say and hear.
-ghost use Rattle.std.specs.Prelude.{◌≡◌, ◌<◌, length, IfSome, IfNone};
-ghost use Rattle.std.specs.Bool.{OnTrue, OnFalse};
-ghost use Rattle.lease_terms.specs.declared.protocols.Protocol.{Protocol};
+ghost use Rattle.std.specs.Prelude.{◌≡◌, ◌<◌, length, slice_get, Some, IfSome, IfNone};
+ghost use Rattle.lease_client.specs.ClientState.{ClientState};
+ghost use Rattle.lease_client.specs.Calls.{may_restart};
 ghost use Rattle.world_core.specs.Events.{EndsAs, IsEnabled, RefusesEvent};
 ghost use Rattle.world_core.specs.Moves.{sent_again};
 
@@ -18,8 +18,14 @@ fn sent_again(client: &Client, number: Option<u64>) -> Option<Line>
     ensures { result ≡ sent_again number client.now }
 {
     match number {
-        Some(number) => client.resend_of(number).ok(),
-        None => client.resend().ok(),
+        Some(number) => match client.resend_of(number) {
+            Ok(line) => Some(line),
+            Err(_) => None,
+        },
+        None => match client.resend() {
+            Ok(line) => Some(line),
+            Err(_) => None,
+        },
     }
 }
 
@@ -50,11 +56,8 @@ impl<D: Deed> WorldParts<D> {
     /// Whether the client may begin this incarnation, by whatever protocol.
     fn may_restart(&self, client: usize, incarnation: u64) -> bool
         requires within { client < length self.now.clients }
-        ensures on { OnTrue result ((p : Protocol)
-            → IsEnabled (WorldEvent.Restarts client incarnation p) self.now) }
-        ensures off { OnFalse result ((p : Protocol)
-            → RefusesEvent (WorldEvent.Restarts client incarnation p)
-            EventFault.NotGreater self.now) }
+        ensures { (c : ClientState) × (slice_get self.now.clients client ≡ Some c)
+            × (may_restart incarnation c ≡ result) }
     {
         self.clients[client].may_restart(incarnation)
     }
