@@ -1,7 +1,6 @@
 -- A world is safe.
-use Rattle.std.proofs.Common.{◌≡◌, ℕ, zero, suc, ◌≤◌, ◌==◌, Bool, true, false, List, [], ◌∷◌, map, Some, None, refl, subst, ap, arith}
+use Rattle.std.proofs.Common.{◌≡◌, ℕ, zero, suc, ◌≤◌, ◌==◌, Bool, true, false, List, [], ◌∷◌, map, Some, None, subst, ap, arith}
 use Rattle.std.specs.Prelude.{slice_get, if◌then◌else◌, sum_by}
-use Rattle.std.proofs.lemmas.List.Sums.{sum_by-cons}
 use Rattle.deed_core.specs.Tag.{Tag}
 use Rattle.deed_core.specs.Request.{Fits}
 use Rattle.deed_core.proofs.LawProofs.{sum_by-map}

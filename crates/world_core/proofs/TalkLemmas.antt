@@ -16,7 +16,7 @@ use Rattle.lease_proto.specs.Requests.{client_of}
 use Rattle.lease_book.specs.Entry.{Entry, Settled, Hello, Swept, Grant, Return, Refuse}
 use Rattle.lease_client.specs.ClientState.{ClientState, IsSoundClient, line_at, AreRequests, AreOwn}
 use Rattle.lease_client.specs.Replies.{accepts, after_accept, after_reply}
-use Rattle.lease_client.specs.Calls.{IsRestarted, IsSent, first_of, next_id, next_request}
+use Rattle.lease_client.specs.Calls.{IsRestarted, IsSent, first_of, next_id}
 use Rattle.lease_client.specs.Runs.{Move, Restart, Send, Get, TakesMove}
 use Rattle.lease_client.proofs.LawProofs.{moves_in_turn, sent_stays_sent}
 use Rattle.lease_history.specs.Known.{IsKnown}

@@ -24,7 +24,6 @@ use Rattle.lease_proto.specs.declared.lines.Op.TheVariants as ops
 use Rattle.lease_proto.specs.declared.replies.Reply.{Reply}
 use Rattle.lease_proto.specs.declared.replies.Reply.TheVariants as replies
 use Rattle.lease_proto.specs.Requests.{demand_of, again_of}
-use Rattle.lease_book.specs.declared.receipts.KeptReply.TheVariants as kept
 use Rattle.lease_book.specs.Receipts.{ReceiptState}
 use Rattle.lease_book.specs.Entry.{Grant, Return, Refuse, Settled, Hello, Swept}
 use Rattle.lease_book.specs.BookState.{BookState, Enters, account_in, leased_segments}
