@@ -158,7 +158,7 @@ hello_taken_keeps which w v is m =
     let entry : Entry = Hello m.hello.client m.hello.incarnation m.hello.protocol in
     let now : IsHistory (entry ∷ w.entries) m.book = m.enters.history w.entries is.book in
     let told = subst (λ (a : Account). MayTell names (entry ∷ w.entries) (replies.Welcome (record { client = m.hello.client; incarnation = m.hello.incarnation; protocol = a.protocol })))
-        (sym (account_is (entry ∷ w.entries) m.book m.hello.client now)) (welcomes_may_be_told names w.entries m.hello.client m.hello.incarnation m.hello.protocol) in
+    (sym (account_is (entry ∷ w.entries) m.book m.hello.client now)) (welcomes_may_be_told names w.entries m.hello.client m.hello.incarnation m.hello.protocol) in
     subst IsWorld (sym m.after) (record {
       parts = subst (λ (leases : List Tag). IsAccountedFor w.stock (outside (in_hands w.hands) leases w.caches)) (sym m.leases) is.parts;
       named = is.named;
