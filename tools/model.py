@@ -23,7 +23,7 @@ SHAPES = {"hello": "ci", "lease": "cinaq", "release": "cinaq", "cpu": "p", "offl
           "root": "aqqqlq", "child": "aaqlqq", "span": "aqq"}
 SETUP = ("root", "child", "span")
 RANGES = {"c": range(1, 65537), "i": range(1, MOST + 1), "n": range(1, MOST + 1),
-          "q": range(MOST + 1), "p": range(64), "m": (3, 7, 15, 31)}
+          "q": range(MOST + 1), "p": range(64), "m": (3, 7, 15, 31), "v": (2,)}
 
 
 class Bad(Exception):
@@ -40,6 +40,8 @@ def read(line, is_setup=False):
     shape = SHAPES.get(words[0])
     if shape is None or is_setup != (words[0] in SETUP):
         raise Bad("word")
+    if words[0] == "hello" and len(words) == 4:
+        shape += "v"
     given, options = words[1:1 + len(shape)], words[1 + len(shape):]
     names = options[::2]
     order = [OPTIONS.index(it) for it in names if it in OPTIONS]
@@ -198,14 +200,17 @@ class Model:
     def only(self, answers, wanted):
         return None if answers == [wanted] else f"{answers} is answered, and not {wanted}"
 
-    def on_hello(self, answers, client, inc):
+    def on_hello(self, answers, client, inc, protocol=1):
         known = self.clients.get(client)
         if known and inc < known["inc"]:
             return self.only(answers, f"old {client} {known['inc']}")
         if not known or inc > known["inc"]:
             self.end_leases(client)
-            self.clients[client] = {"inc": inc, "last": 0, "kept": None}
-        return self.only(answers, f"welcome {client} {inc}")
+            # (`last` is the greatest settled number, and up to `low` all are settled)
+            known = {"inc": inc, "protocol": protocol, "last": 0, "low": 0, "settled": {}}
+            self.clients[client] = known
+        word = " 2" if known["protocol"] == 2 else ""
+        return self.only(answers, f"welcome {client} {inc}{word}")
 
     def end_leases(self, client):
         for arena in self.arenas.values():
@@ -216,14 +221,24 @@ class Model:
         known = self.clients.get(client, {"inc": 0})
         if inc != known["inc"]:
             return False, self.only(answers, f"old {client} {known['inc']}")
-        last = known["last"]
-        if number == last + 1:
-            known.update(last=number, kept=answers)
-            return True, None
-        if number == last:
-            return False, self.only(answers, known["kept"][0])
-        word = "gap" if number > last else "stale"
-        return False, self.only(answers, f"{word} {client} {inc} {number} {last}")
+        last, low, settled = known["last"], known["low"], known["settled"]
+        if number <= last - self.window(known):
+            return False, self.only(answers, f"stale {client} {inc} {number} {last}")
+        if number in settled:
+            return False, self.only(answers, settled[number][0])
+        if not self.is_new(known, number):
+            return False, self.only(answers, f"gap {client} {inc} {number} {low}")
+        settled[number] = answers
+        while low + 1 in settled:
+            low += 1
+        known.update(last=max(last, number), low=low)
+        return True, None
+
+    def window(self, known):
+        return 8 if known["protocol"] == 2 else 1
+
+    def is_new(self, known, number):
+        return number not in known["settled"] and number <= known["low"] + self.window(known)
 
     def on_lease(self, answers, client, inc, number, name, size, options):
         is_new, wrong = self.in_turn(answers, client, inc, number)

@@ -239,15 +239,16 @@ class Rules:
         found = getattr(self, "on_" + word)(*values)
         return found if isinstance(found, list) else [found]
 
-    def on_hello(self, client, inc):
-        it = self.clients.setdefault(client, {"inc": 0, "last": 0, "kept": "", "leases": []})
+    def on_hello(self, client, inc, protocol=1):
+        it = self.clients.setdefault(client, {"inc": 0, "leases": []})
         if inc < it["inc"]:
             return f"old {client} {it['inc']}"
         if inc > it["inc"]:
             for name, *segment in it["leases"]:
                 self.free(self.spaces[name], *segment)
-            it.update(inc=inc, last=0, kept="", leases=[])
-        return f"welcome {client} {inc}"
+            window = {1: 1, 2: 8}[protocol]
+            it.update(inc=inc, window=window, greatest=0, low=0, kept={}, leases=[])
+        return f"welcome {client} {inc}" + (" 2" if it["window"] == 8 else "")
 
     def on_lease(self, client, inc, number, name, size, options):
         work = lambda it, head: self.lease(it, head, name, size, options)
@@ -262,13 +263,24 @@ class Rules:
         if inc != it["inc"]:
             return f"old {client} {it['inc']}"
         head = f"{client} {inc} {number}"
-        if number == it["last"]:
-            return it["kept"]
-        if number != it["last"] + 1:
-            return f"{'gap' if number > it['last'] else 'stale'} {head} {it['last']}"
-        kept = work(it, head) if name in self.spaces else f"refused {head} noarena"
-        it.update(last=number, kept=kept)
-        return kept
+        if number + it["window"] <= it["greatest"]:
+            return f"stale {head} {it['greatest']}"
+        if number in it["kept"]:
+            return it["kept"][number]
+        if number > it["low"] + it["window"]:
+            return f"gap {head} {it['low']}"
+        reply = work(it, head) if name in self.spaces else f"refused {head} noarena"
+        self.settle(it, number, reply)
+        return reply
+
+    def settle(self, it, number, reply):
+        """Keeps a reply, and of the others those of the last numbers, as many as are in a window."""
+        it["kept"][number] = reply
+        it["greatest"] = max(it["greatest"], number)
+        while it["low"] + 1 in it["kept"]:
+            it["low"] += 1
+        last = it["greatest"] - it["window"]
+        it["kept"] = {n: kept for n, kept in it["kept"].items() if n > last}
 
     def lease(self, it, head, name, size, options):
         space = self.spaces[name]
@@ -353,7 +365,7 @@ class Rules:
                 f" exported {exported} leased {leased} hand 0")
 
     def on_clients(self):
-        return [f"client {client} {it['inc']} {it['last']} {len(it['leases'])}"
+        return [f"client {client} {it['inc']} {it['greatest']} {len(it['leases'])}"
                 for client, it in self.clients.items()]
 
 

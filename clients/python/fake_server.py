@@ -5,6 +5,7 @@ import socket
 import threading
 
 MOST_LEASES = 1024
+MOST = 1 << 62
 
 
 class Book:
@@ -19,28 +20,31 @@ class Book:
             self.again -= 1
             return f"again {words[1]} {words[2]} {words[3] if words[0] != 'hello' else 0}"
         if words[0] == "hello":
-            return self.hello(int(words[1]), int(words[2]))
+            return self.hello(*map(int, words[1:]))
         client, inc, number = map(int, words[1:4])
         it = self.clients.get(client, {"inc": 0})
         if inc != it["inc"]:
             return f"old {client} {it['inc']}"
-        if number > it["last"] + 1:
-            return f"gap {client} {inc} {number} {it['last']}"
-        if number < it["last"]:
+        window = 8 if it["protocol"] == 2 else 1
+        if number <= it["last"] - window:
             return f"stale {client} {inc} {number} {it['last']}"
-        if number == it["last"] + 1:
-            it["last"], self.settled = number, self.settled + 1
+        if number not in it["kept"]:
+            low = next(n for n in range(it["low"], MOST) if n + 1 not in it["kept"])
+            if number > low + window:
+                return f"gap {client} {inc} {number} {low}"
+            it["low"], it["last"], self.settled = low, max(it["last"], number), self.settled + 1
             word, rest = getattr(self, words[0])(it, words[4:])
-            it["kept"] = f"{word} {client} {inc} {number}{rest}"
-        return it["kept"]
+            it["kept"][number] = f"{word} {client} {inc} {number}{rest}"
+        return it["kept"][number]
 
-    def hello(self, client, inc):
+    def hello(self, client, inc, protocol=1):
         it = self.clients.get(client, {"inc": 0})
         if inc < it["inc"]:
             return f"old {client} {it['inc']}"
         if inc > it["inc"]:
-            self.clients[client] = {"inc": inc, "last": 0, "kept": None, "leases": {}}
-        return f"welcome {client} {inc}"
+            it = {"inc": inc, "protocol": protocol, "low": 0, "last": 0, "kept": {}, "leases": {}}
+            self.clients[client] = it
+        return f"welcome {client} {inc}" + (" 2" if it["protocol"] == 2 else "")
 
     def lease(self, it, words):
         name, size = words[0], int(words[1])
@@ -75,11 +79,13 @@ class FakeServer:
 
     Each cut is (direction, bytes): once so many bytes went in that direction ("in" or "out") since
     the cut before, the connection ends there. `lines` are those that were answered. The next `busy`
-    connections are told so, and not served."""
+    connections are told so, and not served. Answers to requests are held back until `hold` of them
+    are there."""
 
     def __init__(self, arenas, cuts=()):
         self.book, self.cuts, self.lines, self.gone = Book(arenas), list(cuts), [], 0
         self.connections, self.busy, self.replies, self.lock = 0, 0, None, threading.Lock()
+        self.hold = 1
         self.listener = socket.create_server(("127.0.0.1", 0))
         self.port = self.listener.getsockname()[1]
         threading.Thread(target=self.run, daemon=True).start()
@@ -115,7 +121,7 @@ class FakeServer:
                 pass
 
     def serve(self, link):
-        rest = b""
+        rest, held = b"", []
         with link:
             while True:
                 try:
@@ -128,9 +134,11 @@ class FakeServer:
                 if piece == b"\n":
                     line, rest = rest[:-1].decode("ascii"), b""
                     with self.lock:
-                        reply = self.answered(line)
-                    if not self.write(link, reply):
-                        return
+                        held.append(self.answered(line))
+                    if line.startswith("hello ") or len(held) >= self.hold:
+                        if not all(self.write(link, it) for it in held):
+                            return
+                        held.clear()
 
     def answered(self, line):
         assert re.fullmatch("[a-z0-9]+( [a-z0-9]+)*", line) and len(line) <= 255, line

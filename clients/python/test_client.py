@@ -194,6 +194,214 @@ class Cuts(unittest.TestCase):
             client.lease("m", 1)
 
 
+class Windows(unittest.TestCase):
+    """Clients by the second protocol, with up to eight requests outstanding."""
+
+    def bases(self, leases):
+        return [it.base for it in leases]
+
+    def test_many_leases_and_releases(self):
+        with FakeServer({"m": 64}) as server, client_of(server, window=8) as client:
+            leases = client.pool("m").lease_many([2] * 20, align=2)
+            self.assertEqual(self.bases(leases), list(range(0, 40, 2)))
+            self.assertEqual(client.held(), leases)
+            client.release_many(leases[3:])
+            self.assertEqual(client.held(), leases[:3])
+            self.assertEqual(server.lines[0], "hello 7 1 2")
+            self.assertEqual(server.lines[20:22], ["lease 7 1 20 m 2 align 2", "release 7 1 21 m 6"])
+            self.assertEqual((len(server.lines), server.book.settled), (38, 37))
+
+    def test_so_many_are_sent_before_the_first_is_answered(self):
+        for window in (1, 2, 5, 8):
+            with FakeServer({"m": 64}) as server:
+                server.hold = window
+                with client_of(server, window=window) as client:
+                    leases = client.lease_many("m", [1] * window)
+                    self.assertEqual(self.bases(leases), list(range(window)))
+                self.assertEqual(server.connections, 1)
+
+    def test_no_more_than_eight_are(self):
+        with FakeServer({"m": 64}) as server:
+            server.hold = 9
+            client = client_of(server, window=8, timeout=0.2, patience=0.1)
+            with self.assertRaises(vmemd.Unreachable):
+                client.lease_many("m", [1] * 20)
+            self.assertEqual(server.book.settled, 8)
+            self.assertNotIn("lease 7 1 9 m 1", server.lines)
+            client.disconnect()
+
+    def test_a_window_is_one_to_eight(self):
+        for window in (0, 9, -1, 1.5):
+            with self.assertRaises(ValueError):
+                vmemd.Client("127.0.0.1", 1, 7, window=window)
+
+    def test_where_one_is_refused_none_is_held(self):
+        for sizes, fault in (([8, 8, 65, 8, 8], vmemd.NoFit), ([8, 0], vmemd.BadRequest),
+                             ([8] * 20, vmemd.NoFit), ([0] * 20, vmemd.BadRequest)):
+            with FakeServer({"m": 64}) as server, client_of(server, window=8) as client:
+                kept = client.lease("m", 4)
+                with self.assertRaises(fault):
+                    client.lease_many("m", sizes)
+                self.assertEqual(client.held(), [kept])
+                self.assertEqual(server.book.clients[7]["leases"], {("m", 0): 4})
+                self.assertEqual(client.lease("m", 60), ("m", 4, 60))
+
+    def test_many_releases_of_which_one_is_refused(self):
+        with FakeServer({"m": 64}) as server, client_of(server, window=8) as client:
+            leases = client.lease_many("m", [1] * 12)
+            del server.book.clients[7]["leases"]["m", 2]
+            with self.assertRaises(vmemd.NotYours):
+                client.release_many(leases)
+            self.assertEqual((client.held(), server.book.clients[7]["leases"]), ([], {}))
+
+    def test_each_is_released_once(self):
+        with FakeServer({"m": 64}) as server, client_of(server, window=8) as client:
+            first, second = client.lease_many("m", [1, 1])
+            for leases in ([first, first], [first, vmemd.Lease("m", 5, 1)]):
+                with self.assertRaises(ValueError):
+                    client.release_many(leases)
+            self.assertEqual(client.held(), [first, second])
+            client.release_many([])
+            client.release_many([second, first])
+            with self.assertRaises(ValueError):
+                client.release_many([first])
+
+    def talk(self, server, **options):
+        with client_of(server, window=8, **options) as client:
+            leases = client.lease_many("m", [2] * 9)
+            self.assertEqual(self.bases(leases), list(range(0, 18, 2)))
+            client.release_many(leases[1:])
+            again = client.lease_many("m", [4, 1])
+            self.assertEqual(again, [("m", 2, 4), ("m", 6, 1)])
+            self.assertEqual(client.held(), [leases[0], *again])
+
+    def is_settled_once(self, server, told=None):
+        """22 requests: each was settled, and in the order of their numbers no unit is left."""
+        self.assertEqual(server.book.settled, 22, told)
+        self.assertEqual(sorted(server.book.clients[7]["kept"]), list(range(1, 23)), told)
+        self.assertEqual(server.book.clients[7]["leases"], {}, told)
+
+    def test_each_byte_with_eight_lines_in_flight_may_be_the_last(self):
+        with FakeServer({"m": 64}) as server:
+            self.talk(server)
+            self.is_settled_once(server)
+            counts = {"in": sum(len(it) + 1 for it in server.lines), "out": 380}
+        for direction, count in counts.items():
+            for at in range(0, count, 3):
+                with FakeServer({"m": 64}, [(direction, at)]) as server:
+                    self.talk(server)
+                    self.is_settled_once(server, (direction, at))
+
+    def test_many_cuts_with_eight_lines_in_flight(self):
+        for step in (1, 7, 19, 40, 90):
+            cuts = [("in", step), ("out", 2 * step), ("out", step)] * 2
+            with FakeServer({"m": 64}, cuts) as server:
+                self.talk(server, patience=20.0)
+                self.is_settled_once(server, step)
+
+    def test_again_and_busy_are_asked_again(self):
+        with FakeServer({"m": 64}) as server:
+            client = client_of(server, window=8)
+            client.restart()
+            server.book.again, server.busy = 5, 2
+            client.disconnect()
+            self.assertEqual(self.bases(client.lease_many("m", [1] * 8)), list(range(3, 8)) + [0, 1, 2])
+            client.release_all()
+            client.disconnect()
+            self.assertEqual(server.book.settled, 16)
+
+    def test_a_connection_whenever_none_waits(self):
+        with FakeServer({"m": 64}) as server:
+            server.hold = 3
+            with client_of(server, window=8, keep=False) as client:
+                client.lease_many("m", [1] * 3)
+                self.assertEqual(server.connections, 2)
+
+    def test_leases_that_nobody_was_told_of_are_given_back(self):
+        with FakeServer({"m": 64}) as server:
+            client = client_of(server, window=8, patience=0.05)
+            kept = client.lease("m", 8)
+            server.cuts = [("out", 50)] + [("out", 0)] * 100
+            with self.assertRaises(vmemd.Unreachable):
+                client.lease_many("m", [4] * 10)
+            self.assertEqual(client.held(), [kept])
+            server.cuts.clear()
+            self.assertEqual(client.lease("m", 56), ("m", 8, 56))
+            self.assertEqual(len(server.book.clients[7]["leases"]), 2)
+            client.release_all()
+            client.disconnect()
+
+    def test_releases_that_nobody_answered_are_sent_again(self):
+        with FakeServer({"m": 64}) as server:
+            client = client_of(server, window=8, patience=0.05)
+            leases = client.lease_many("m", [4] * 16)
+            server.cuts = [("in", 40)] + [("in", 3)] * 100
+            with self.assertRaises(vmemd.Unreachable):
+                client.release_many(leases)
+            self.assertEqual(client.held(), [])
+            server.cuts.clear()
+            self.assertEqual(client.lease("m", 64), ("m", 0, 64))
+            client.release_all()
+            client.disconnect()
+
+    def test_one_that_was_superseded_with_lines_in_flight(self):
+        with FakeServer({"m": 64}) as server, client_of(server, window=8) as first:
+            first.lease_many("m", [1] * 8)
+            with client_of(server, window=8, incarnation=2) as second:
+                taken = second.lease("m", 64)
+                with self.assertRaises(vmemd.Superseded):
+                    first.lease_many("m", [1] * 8)
+                self.assertEqual((first.held(), second.held()), ([], [taken]))
+            self.assertEqual(first.lease("m", 64), ("m", 0, 64))
+            self.assertEqual(first.incarnation, 3)
+
+    def test_one_that_is_superseded_when_it_gives_back(self):
+        with FakeServer({"m": 64}) as server:
+            client = client_of(server, window=8)
+            client.restart()
+            server.replies = ["granted 7 1 1 m 0 8", "granted 7 1 2 m 8 8", "refused 7 1 3 nofit",
+                              "old 7 5", "old 7 5"]
+            with self.assertRaises(vmemd.Superseded):
+                client.lease_many("m", [8, 8, 65])
+            self.assertEqual((client.held(), client.lease("m", 64)), ([], ("m", 0, 64)))
+            self.assertEqual(client.incarnation, 6)
+            client.disconnect()
+
+    def test_what_cannot_be_given_back_at_once_is_later(self):
+        with FakeServer({"m": 64}) as server:
+            client = client_of(server, window=8, patience=0.05)
+            client.restart()
+            server.cuts = [("out", 64)] + [("out", 0)] * 100
+            with self.assertRaises(vmemd.NoFit):
+                client.lease_many("m", [8, 8, 65])
+            server.cuts.clear()
+            self.assertEqual((client.held(), client.lease("m", 64)), ([], ("m", 0, 64)))
+            client.disconnect()
+
+    def test_a_server_of_the_first_protocol_alone(self):
+        with FakeServer({"m": 64}) as server:
+            client, server.replies = client_of(server, window=8), ["error badline"]
+            with self.assertRaises(vmemd.ProtocolError):
+                client.lease("m", 1)
+            server.replies = ["welcome 7 2"]
+            with self.assertRaises(vmemd.ProtocolError):
+                client.restart()
+            client.disconnect()
+
+    def test_answers_that_are_none_of_ours(self):
+        for wrong in ("granted 7 1 2 m 0 1", "released 7 1 1", "granted 7 1 9 m 0 1"):
+            with FakeServer({"m": 64}) as server:
+                client = client_of(server, window=8)
+                client.restart()
+                server.replies = [wrong]
+                with self.assertRaises(vmemd.ProtocolError, msg=wrong):
+                    client.lease_many("m", [1] * 8)
+                self.assertEqual(client.held(), [])
+                self.assertEqual(client.lease("m", 57).length, 57)
+                client.release_all()
+                client.disconnect()
+
+
 class Incarnations(unittest.TestCase):
     def test_the_file_keeps_the_last_one(self):
         with tempfile.TemporaryDirectory() as folder, FakeServer({"m": 64}) as server:

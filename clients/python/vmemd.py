@@ -11,22 +11,30 @@ A client is one number, 1 to 65,536, which no other process uses at the same tim
 is an incarnation, with a greater number than the one before; the server ends the leases of older
 incarnations when it takes its hello. With `incarnations` the last one stands in that file; without,
 or where there is no such file yet, the first is the clock in nanoseconds. The requests of an
-incarnation count 1, 2, 3, ..; one is outstanding at a time. Where a connection is cut, no answer
-comes in time, or the server is busy, the client connects again after a pause and sends the same
-line again, until `patience` is over: the server answers a line that it settled before by the same
-reply, so nothing is leased or released twice.
+incarnation count 1, 2, 3, .. Where a connection is cut, no answer comes in time, or the server is
+busy, the client connects again after a pause and sends the lines that aren't answered again, until
+`patience` is over: the server answers a line that it settled before by the same reply, so nothing
+is leased or released twice.
 
-Several threads may use a Client; their requests go one after another. A connection that stays open
-is one of those that the server has room for: `keep=False` closes it after each request.
+One request is outstanding at a time. With `window=8` up to eight are, so that many leases or
+releases take fewer journeys over the network:
+
+    with vmemd.Client("127.0.0.1", 7070, number=7, window=8) as client:
+        numbers = client.lease_many("m", [8] * 100)
+        client.release_many(numbers)
+
+Several threads may use a Client; their calls go one after another. A connection that stays open is
+one of those that the server has room for: `keep=False` closes it whenever no answer is waited for.
 """
 import os
 import socket
 import threading
 import time
-from collections import namedtuple
+from collections import deque, namedtuple
 
 MOST = 1 << 62
 MOST_CLIENTS = 65536
+WIDEST = 8
 LONGEST_REPLY = 255
 
 
@@ -137,25 +145,41 @@ class Pool:
         """Leases size units, rounded up to whole quanta; the options are `Client.lease`'s."""
         return self.client.lease(self.arena, size, **options)
 
+    def lease_many(self, sizes, **options):
+        """Leases units of each of the sizes, or nothing, as `Client.lease_many` does."""
+        return self.client.lease_many(self.arena, sizes, **options)
+
+
+class Ask:
+    """What a request asks for, and the outcomes, by number, to which its own goes: None once nobody
+    waits for it."""
+
+    def __init__(self, word, rest, arena, outcomes):
+        self.word, self.rest, self.arena, self.outcomes = word, rest, arena, outcomes
+        self.line = None
+
 
 class Client:
     """One client of a server; it says hello by the first request, or by `restart`.
 
     Times are seconds: `timeout` for connecting and for each answer, `patience` for a request with
-    all its repeats. `incarnation` is the least incarnation that is taken."""
+    all its repeats. `incarnation` is the least incarnation that is taken. `window` says how many
+    requests are outstanding at most, 1 to 8; a server has to know the second protocol for more than
+    one."""
 
     def __init__(self, host, port, number, *, incarnation=None, incarnations=None, timeout=5.0,
-                 patience=60.0, keep=True):
+                 patience=60.0, keep=True, window=1):
         if not 1 <= number <= MOST_CLIENTS:
             raise ValueError(f"a client's number is 1 to {MOST_CLIENTS}")
-        self.number, self.incarnation = number, 0
+        if window not in range(1, WIDEST + 1):
+            raise ValueError(f"a window is 1 to {WIDEST}")
+        self.number, self.incarnation, self.window = number, 0, window
         self.address, self.timeout, self.patience, self.keep = (host, port), timeout, patience, keep
         self._file, self._least = incarnations, incarnation
         self._link, self._lock = Link(self.address, timeout), threading.RLock()
         self._is_open, self._last, self._current, self._held = False, 0, 0, {}
-        # the line sent and not answered, and what it asks for; whether its caller was told that no
-        # answer came
-        self._outstanding = None
+        # what isn't sent yet, and what is sent and not answered, by its number in rising order
+        self._queue, self._outstanding = deque(), {}
 
     def __enter__(self):
         return self
@@ -177,47 +201,71 @@ class Client:
         """Begins a greater incarnation: the server ends all leases of the older ones."""
         with self._lock:
             self._forget()
-            deadline = time.monotonic() + self.patience
             while True:
                 self.incarnation = self._next_incarnation()
-                line = f"hello {self.number} {self.incarnation}"
-                words = self._settled(line, deadline)
-                if words == ["welcome", str(self.number), str(self.incarnation)]:
+                head = f"{self.number} {self.incarnation}{' 2' if self.window > 1 else ''}"
+                line = f"hello {head}"
+                words = self._patiently(lambda: self._asked(line, [line]))
+                if not self.keep:
+                    self._link.close()
+                if words == ["welcome", *head.split(" ")]:
                     self._is_open = True
                     return
                 self._current = self._current_of(line, words)
                 if self._current <= self.incarnation:
                     raise ProtocolError(f"{words} answers {line!r}")
 
-    def lease(self, arena, size, *, align=0, phase=0, nocross=0, min=0, max=MOST):
+    def lease(self, arena, size, **options):
         """Leases size units of an arena, rounded up to whole quanta, and returns the Lease.
 
-        Its base is `phase` above a multiple of `align`; no multiple of `nocross` lies inside it; it
-        begins at `min` or above and ends at `max` or below. Raises a Refused: NoFit, BadRequest,
-        NoArena, TooManyLeases."""
+        The options are align, phase, nocross, min and max. Its base is `phase` above a multiple of
+        `align`; no multiple of `nocross` lies inside it; it begins at `min` or above and ends at
+        `max` or below. Raises a Refused: NoFit, BadRequest, NoArena, TooManyLeases."""
+        return self.lease_many(arena, [size], **options)[0]
+
+    def lease_many(self, arena, sizes, *, align=0, phase=0, nocross=0, min=0, max=MOST):
+        """Leases units of each of the sizes, each with the options of `lease`, and returns the
+        Leases in this order. It raises where one of them is refused, or isn't answered: then none
+        is held, and what was granted is given back."""
         check_name(arena)
         options = (("align", align, 0), ("phase", phase, 0), ("nocross", nocross, 0),
                    ("min", min, 0), ("max", max, MOST))
         given = "".join(f" {word} {check_number(it)}" for word, it, no in options if it != no)
+        outcomes = {}
+        asks = [Ask("lease", f"{arena} {check_number(it)}{given}", arena, outcomes) for it in sizes]
         with self._lock:
-            return self._request("lease", f"{arena} {check_number(size)}{given}", arena)
+            try:
+                self._run(asks)
+                return self._leases(outcomes)
+            except BaseException:
+                self._give_up(outcomes)
+                raise
 
     def release(self, lease):
         """Gives a lease back. From this call on nothing may rely on it, also where it raises."""
+        self.release_many([lease])
+
+    def release_many(self, leases):
+        """Gives leases back. From this call on nothing may rely on them, also where it raises: what
+        isn't given back then, the next call gives back first. Raises the first refusal, once all
+        are answered."""
         with self._lock:
-            if self._held.get((lease.arena, lease.base)) is not lease:
-                raise ValueError(f"{lease} isn't held")
-            self._settle_outstanding()
-            del self._held[lease.arena, lease.base]
-            self._request("release", f"{lease.arena} {lease.base}", lease.arena)
+            leases = list(leases)
+            for it in leases:
+                if not self.holds(it):
+                    raise ValueError(f"{it} isn't held")
+            if len(set(map(id, leases))) < len(leases):
+                raise ValueError("one of the leases stands there twice")
+            outcomes = {}
+            self._queue.extend([self._taken_back(it, outcomes) for it in leases])
+            if self._is_open:
+                self._run([])
+                self._raise_refusal(outcomes)
 
     def release_all(self):
         """Gives all leases back."""
         with self._lock:
-            if self._is_open:
-                self._settle_outstanding()
-            for lease in self.held():
-                self.release(lease)
+            self.release_many(self.held())
 
     def held(self):
         """The leases held, in order of their grants."""
@@ -234,55 +282,158 @@ class Client:
         with self._lock:
             self._link.close()
 
-    # one request
+    # requests
 
-    def _request(self, word, rest, arena):
+    def _run(self, asks):
+        """Has the requests answered, and first what an earlier call left."""
         if not self._is_open:
             self.restart()
-        self._settle_outstanding()
-        if self._last == MOST:
-            raise VmemdError("all numbers of this incarnation are used; restart")
-        self._last += 1
-        line = f"{word} {self.number} {self.incarnation} {self._last} {rest}"
-        self._outstanding = line, arena
-        return self._settle()
+        try:
+            self._work()
+            self._queue.extend(asks)
+            self._work()
+        finally:
+            self._leave()
 
-    def _settle_outstanding(self):
-        """Ends a request whose caller was told that no answer came: nobody wants its lease."""
-        if self._outstanding is not None:
+    def _leave(self):
+        """Nobody waits for what isn't answered yet. A lease that wasn't sent won't be."""
+        self._queue = deque(it for it in self._queue if it.word == "release")
+        for it in (*self._queue, *self._outstanding.values()):
+            it.outcomes = None
+
+    def _leases(self, outcomes):
+        """The leases that were granted; where one was refused, all others go back at once."""
+        try:
+            self._raise_refusal(outcomes)
+        except Refused:
+            self._give_up(outcomes)
             try:
-                lease = self._settle()
-            except Refused:
-                return
-            if lease is not None:
-                self.release(lease)
+                self._run([])
+            except (Unreachable, OutOfMemory):
+                pass
+            raise
+        return [outcomes[it] for it in sorted(outcomes)]
 
-    def _settle(self):
-        line, arena = self._outstanding
-        words = self._settled(line, time.monotonic() + self.patience)
-        head = line.split(" ")[1:4]
+    def _raise_refusal(self, outcomes):
+        for number in sorted(outcomes):
+            if isinstance(outcomes[number], Refused):
+                raise outcomes[number]
+
+    def _give_up(self, outcomes):
+        """Has the next call give back what was granted, since nobody wants it."""
+        granted = [it for it in outcomes.values() if isinstance(it, Lease) and self.holds(it)]
+        self._queue.extend(self._taken_back(it, None) for it in granted)
+
+    def _taken_back(self, lease, outcomes):
+        del self._held[lease.arena, lease.base]
+        return Ask("release", f"{lease.arena} {lease.base}", lease.arena, outcomes)
+
+    def _work(self):
+        """Sends what is in the queue, as the window has room, until all is answered."""
+        while self._queue or self._outstanding:
+            self._patiently(self._step)
+
+    def _patiently(self, step):
+        """Takes a step until it tells no fault, or patience is over; returns what it gave."""
+        wait, deadline = 0.01, time.monotonic() + self.patience
+        while True:
+            given, fault = step()
+            if fault is None:
+                return given
+            if time.monotonic() + wait > deadline:
+                raise fault
+            time.sleep(wait)
+            wait = min(2 * wait, 1.0)
+
+    def _step(self):
+        """Sends what isn't sent over this connection, and takes one answer. Over a connection they
+        come in the order of the lines."""
+        self._number()
+        unsent = [it for it in self._outstanding if it not in self._link.waiting]
+        self._link.waiting.extend(unsent)
+        number = self._link.waiting[0]
+        line = self._outstanding[number].line
+        words, fault = self._asked(line, [self._outstanding[it].line for it in unsent])
+        if self._link.waiting:
+            self._link.waiting.popleft()
+        try:
+            if fault is None:
+                self._settle(number, words)
+        except ProtocolError:
+            self._link.close()
+            raise
+        finally:
+            if not self.keep and not self._link.waiting:
+                self._link.close()
+        return None, fault
+
+    def _asked(self, line, lines):
+        """Sends lines, and takes the answer to this line: its words, and the fault that it tells,
+        to be tried again, or None."""
+        words, fault = [], None
+        try:
+            self._link.send(lines)
+            words = self._link.receive().split(" ")
+            if words[0] == "again":
+                fault = OutOfMemory(f"out of memory for {line!r}")
+            elif words == ["error", "busy"]:
+                fault = Busy(f"the server is busy, for {line!r}")
+        except OSError:
+            fault = Unreachable(f"no answer to {line!r}")
+        except BaseException:
+            self._link.close()
+            raise
+        # (what comes over a connection after any of these is no answer to a further line)
+        if isinstance(fault, Unreachable):
+            self._link.close()
+        return words, fault
+
+    def _number(self):
+        """Gives numbers to what may be sent now: they are less than a window apart."""
+        while self._queue:
+            least = next(iter(self._outstanding), self._last + 1)
+            if self._last + 1 >= least + self.window:
+                return
+            if self._last == MOST:
+                raise VmemdError("all numbers of this incarnation are used; restart")
+            self._last += 1
+            it = self._queue.popleft()
+            it.line = f"{it.word} {self.number} {self.incarnation} {self._last} {it.rest}"
+            self._outstanding[self._last] = it
+
+    def _settle(self, number, words):
+        """Takes the answer to a number."""
+        it = self._outstanding[number]
         if words[0] == "old":
-            current = self._current_of(line, words)
+            current = self._current_of(it.line, words)
             self._forget()
             self._current = current
-            raise Superseded(line, current)
-        if words[1:4] != head:
-            raise ProtocolError(f"{words} answers {line!r}")
-        self._outstanding = None
-        if words[0] == "refused" and len(words) == 5 and words[4] in REFUSALS:
-            raise REFUSALS[words[4]](line)
-        if line.startswith("release ") and words[0] == "released" and len(words) == 4:
-            return None
-        if line.startswith("lease ") and words[0] == "granted" and len(words) == 7:
-            return self._hold(words, arena, line)
-        raise ProtocolError(f"{words} answers {line!r}")
+            raise Superseded(it.line, current)
+        if words[1:4] != it.line.split(" ")[1:4]:
+            raise ProtocolError(f"{words} answers {it.line!r}")
+        outcome = self._outcome(it, words)
+        del self._outstanding[number]
+        if isinstance(outcome, Lease):
+            self._held[it.arena, outcome.base] = outcome
+        if it.outcomes is not None:
+            it.outcomes[number] = outcome
+            if it.word == "lease" and isinstance(outcome, Refused):
+                self._queue = deque(x for x in self._queue if x.outcomes is not it.outcomes)
+        else:
+            self._give_up({number: outcome})
 
-    def _hold(self, words, arena, line):
-        if words[4] != arena or not (words[5] + words[6]).isdecimal():
-            raise ProtocolError(f"{words} answers {line!r}")
-        lease = Lease(arena, int(words[5]), int(words[6]))
+    def _outcome(self, it, words):
+        """The Lease, None for a release, or the Refused."""
+        if words[0] == "refused" and len(words) == 5 and words[4] in REFUSALS:
+            return REFUSALS[words[4]](it.line)
+        if it.word == "release" and words[0] == "released" and len(words) == 4:
+            return None
+        is_grant = (it.word == "lease" and words[0] == "granted" and len(words) == 7
+                    and words[4] == it.arena and (words[5] + words[6]).isdecimal())
+        if not is_grant:
+            raise ProtocolError(f"{words} answers {it.line!r}")
+        lease = Lease(it.arena, int(words[5]), int(words[6]))
         lease.client = self
-        self._held[arena, lease.base] = lease
         return lease
 
     def _current_of(self, line, words):
@@ -291,41 +442,14 @@ class Client:
             raise ProtocolError(f"{words} answers {line!r}")
         return int(words[2])
 
-    def _settled(self, line, deadline):
-        """Sends a line until its answer is no reason to send it again; returns the words."""
-        wait = 0.01
-        while True:
-            words, fault = self._asked(line)
-            if fault is None:
-                return words
-            if time.monotonic() + wait > deadline:
-                raise fault
-            time.sleep(wait)
-            wait = min(2 * wait, 1.0)
-
-    def _asked(self, line):
-        """Sends a line once: the words of its answer, and the fault that it tells, to be tried
-        again, or None."""
-        words, fault = [], None
-        try:
-            words = self._link.ask(line).split(" ")
-            if words[0] == "again":
-                fault = OutOfMemory(f"out of memory for {line!r}")
-            elif words == ["error", "busy"]:
-                fault = Busy(f"the server is busy, for {line!r}")
-        except OSError:
-            fault = Unreachable(f"no answer to {line!r}")
-        finally:
-            # (what comes over a connection after any of these is no answer to a further line)
-            if not self.keep or isinstance(fault, Unreachable):
-                self._link.close()
-        return words, fault
-
     # incarnations
 
     def _forget(self):
-        self._is_open, self._last, self._outstanding = False, 0, None
-        self._held.clear()
+        if self._link.waiting:
+            self._link.close()
+        self._is_open, self._last = False, 0
+        for it in (self._queue, self._outstanding, self._held):
+            it.clear()
 
     def _next_incarnation(self):
         """The least that is above each that is known; kept in the file before it is used."""
@@ -343,19 +467,25 @@ class Client:
 
 
 class Link:
-    """A connection that is made when it is needed, for one line and its answer at a time."""
+    """A connection that is made when it is needed. `waiting` are the numbers of the requests that
+    were sent over it and not answered, in order."""
 
     def __init__(self, address, timeout):
         self.address, self.timeout, self.socket, self.rest = address, timeout, None, b""
+        self.waiting = deque()
 
-    def ask(self, line):
-        """Sends a line and returns the answer, without line feeds; OSError where it was cut."""
+    def send(self, lines):
+        """Sends lines; OSError where the connection was cut."""
         if self.socket is None:
             self.socket, self.rest = socket.create_connection(self.address, self.timeout), b""
             self.socket.setsockopt(socket.IPPROTO_TCP, socket.TCP_NODELAY, 1)
-        deadline = time.monotonic() + self.timeout
         self.socket.settimeout(self.timeout)
-        self.socket.sendall(line.encode("ascii") + b"\n")
+        if lines:
+            self.socket.sendall("".join(f"{it}\n" for it in lines).encode("ascii"))
+
+    def receive(self):
+        """The next answer, without its line feed; OSError where the connection was cut."""
+        deadline = time.monotonic() + self.timeout
         while b"\n" not in self.rest:
             left = deadline - time.monotonic()
             if left <= 0:
@@ -365,13 +495,14 @@ class Link:
             if not piece:
                 raise ConnectionError("cut")
             self.rest += piece
-            if len(self.rest) > LONGEST_REPLY:
+            if b"\n" not in self.rest and len(self.rest) > LONGEST_REPLY:
                 raise ProtocolError("a reply is too long")
         reply, _, self.rest = self.rest.partition(b"\n")
         return reply.decode("ascii", "replace")
 
     def close(self):
         """Ends the connection, if there is one."""
+        self.waiting.clear()
         if self.socket is not None:
             self.socket.close()
             self.socket = None

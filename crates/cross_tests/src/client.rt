@@ -1,7 +1,9 @@
 //! What a client's core says to replies in and out of turn, and each of its refusals.
+mod orders;
+
 use lease_client::{Client, Got, NotGreater, Nothing, SendFault};
 use lease_proto::{Line, Op, Reply};
-use lease_terms::ClientId;
+use lease_terms::{ClientId, Protocol};
 use std::alloc::Global;
 use std::process::Abort;
 use std::test::Fail;
@@ -18,10 +20,11 @@ fn op(line: &str) -> Result<Op, Fail> {
 /// Sends what the line asks for. Out of memory leaves all as it was, and the same then succeeds.
 fn send(rt: &impl Abort, client: &mut Client, line: &str) -> Result<Result<Line, SendFault>, Fail> {
     let op = op(line)?;
+    let longest = client.resend();
     match client.send(op) {
         Err(SendFault::NoMemory(back)) => {
             assert_eq!(rt; back, op);
-            assert_eq!(rt; client.resend(), Err(Nothing));
+            assert_eq!(rt; client.resend(), longest);
             Ok(client.send(back))
         }
         answer => Ok(answer),
@@ -30,16 +33,15 @@ fn send(rt: &impl Abort, client: &mut Client, line: &str) -> Result<Result<Line,
 
 /// The client sends this very line.
 fn says(rt: &impl Abort, client: &mut Client, line: &str) -> Result<(), Fail> {
+    assert!(rt; client.may_send(op(line)?).is_ok(), "at {line}");
     let told = send(rt, client, line)?;
     assert_eq!(rt; told, Ok(Line::read(line.as_bytes())?), "at {line}");
     Ok(())
 }
 
-/// The client begins the incarnation with this hello.
+/// The client begins the incarnation with this hello, by the first protocol.
 fn greets(rt: &impl Abort, client: &mut Client, incarnation: u64, line: &str) -> Result<(), Fail> {
-    let told = client.restart(incarnation);
-    assert_eq!(rt; told, Ok(Line::read(line.as_bytes())?), "at {line}");
-    Ok(())
+    begins(rt, client, incarnation, Protocol::One, line)
 }
 
 fn is_taken(rt: &impl Abort, client: &mut Client, reply: &str, got: Got) -> Result<(), Fail> {
@@ -66,27 +68,199 @@ fn holds(rt: &impl Abort, client: &Client, segments: &[(&str, u64, u64)]) {
     }
 }
 
+/// A step of a client with what it must give.
+#[derive(Clone, Copy)]
+enum Step<'a> {
+    /// It begins an incarnation by a protocol, and its hello is this line.
+    Begins(u64, Protocol, &'a str),
+    /// It sends this very line.
+    Says(&'a str),
+    Accepts(&'a str),
+    Ignores(&'a str),
+    /// This isn't sent: too many wait.
+    IsBusy(&'a str),
+    /// The line that waits longest, and that with a number.
+    Repeats(&'a str, u64, &'a str),
+    /// No request with this number waits.
+    WaitsNotFor(u64),
+    /// It holds units of `m` of these bases, four of each, in this order.
+    Holds(&'a [u64]),
+}
+
+/// The client holds four units of `m` at each of these bases, in this order.
+fn holds_fours(rt: &impl Abort, client: &Client, bases: &[u64]) {
+    let held = client.held();
+    assert_eq!(rt; held.len(), bases.len());
+    for (segment, base) in held.iter().zip(bases) {
+        assert_eq!(rt; segment.arena.as_slice(), b"m".as_slice());
+        assert_eq!(rt; (segment.base.get(), segment.len.get()), (*base, 4));
+    }
+}
+
+fn begins(
+    rt: &impl Abort,
+    client: &mut Client,
+    incarnation: u64,
+    protocol: Protocol,
+    line: &str,
+) -> Result<(), Fail> {
+    assert!(rt; client.may_restart(incarnation));
+    let told = client.restart(incarnation, protocol);
+    assert_eq!(rt; told, Ok(Line::read(line.as_bytes())?), "at {line}");
+    assert!(rt; !client.may_restart(incarnation));
+    Ok(())
+}
+
+fn is_busy(rt: &impl Abort, client: &mut Client, line: &str) -> Result<(), Fail> {
+    let may = client.may_send(op(line)?);
+    assert_eq!(rt; may, Err(SendFault::Busy(op(line)?)), "at {line}");
+    let told = client.send(op(line)?);
+    assert_eq!(rt; told, Err(SendFault::Busy(op(line)?)), "at {line}");
+    Ok(())
+}
+
+fn repeats(
+    rt: &impl Abort,
+    client: &Client,
+    longest: &str,
+    number: u64,
+    line: &str,
+) -> Result<(), Fail> {
+    assert_eq!(rt; client.resend(), Ok(Line::read(longest.as_bytes())?));
+    assert_eq!(rt; client.resend_of(number), Ok(Line::read(line.as_bytes())?));
+    Ok(())
+}
+
+fn take_step(rt: &impl Abort, client: &mut Client, step: Step<'_>) -> Result<(), Fail> {
+    match step {
+        Step::Begins(incarnation, protocol, line) => {
+            begins(rt, client, incarnation, protocol, line)
+        }
+        Step::Says(line) => says(rt, client, line),
+        Step::Accepts(reply) => accepts(rt, client, reply),
+        Step::Ignores(reply) => ignores(rt, client, reply),
+        Step::IsBusy(line) => is_busy(rt, client, line),
+        Step::Repeats(longest, number, line) => repeats(rt, client, longest, number, line),
+        Step::WaitsNotFor(number) => {
+            assert_eq!(rt; client.resend_of(number), Err(Nothing));
+            Ok(())
+        }
+        Step::Holds(bases) => {
+            holds_fours(rt, client, bases);
+            Ok(())
+        }
+    }
+}
+
+fn take_steps(rt: &impl Abort, client: &mut Client, steps: &[Step<'_>]) -> Result<(), Fail> {
+    for step in steps {
+        take_step(rt, client, *step)?;
+    }
+    Ok(())
+}
+
+/// The beginning of each story, by one protocol and by the other.
+const BY_ONE: [Step<'static>; 5] = [
+    Step::Begins(1, Protocol::One, "hello 1 1"),
+    Step::Ignores("welcome 1 2"),
+    Step::Ignores("welcome 2 1"),
+    Step::Ignores("welcome 1 1 2"),
+    Step::Accepts("welcome 1 1"),
+];
+
+const BY_TWO: [Step<'static>; 5] = [
+    Step::Begins(1, Protocol::Two, "hello 1 1 2"),
+    Step::Ignores("welcome 1 2 2"),
+    Step::Ignores("welcome 2 1 2"),
+    Step::Ignores("welcome 1 1"),
+    Step::Accepts("welcome 1 1 2"),
+];
+
+/// A lease and its release, with replies that come late, twice or to another line.
+const STORY: [Step<'static>; 15] = [
+    Step::Says("lease 1 1 1 m 4"),
+    Step::Holds(&[]),
+    Step::Accepts("granted 1 1 1 m 0 4"),
+    Step::Holds(&[0]),
+    Step::Ignores("granted 1 1 1 m 0 4"),
+    Step::Holds(&[0]),
+    Step::Says("release 1 1 2 m 0"),
+    Step::Holds(&[]),
+    Step::Repeats("release 1 1 2 m 0", 2, "release 1 1 2 m 0"),
+    Step::Ignores("granted 1 1 1 m 0 4"),
+    Step::Ignores("granted 1 1 2 m 0 4"),
+    Step::Accepts("released 1 1 2"),
+    Step::Ignores("released 1 1 2"),
+    Step::WaitsNotFor(2),
+    Step::Holds(&[]),
+];
+
 #[test]
 fn client_story(rt: HostRuntime) -> Result<(), Fail> {
-    let mut client = client(rt.alloc(), 1)?;
-    greets(&rt, &mut client, 1, "hello 1 1")?;
-    ignores(&rt, &mut client, "welcome 1 2")?;
-    ignores(&rt, &mut client, "welcome 2 1")?;
-    accepts(&rt, &mut client, "welcome 1 1")?;
-    says(&rt, &mut client, "lease 1 1 1 m 4")?;
-    holds(&rt, &client, &[]);
-    accepts(&rt, &mut client, "granted 1 1 1 m 0 4")?;
-    holds(&rt, &client, &[("m", 0, 4)]);
-    ignores(&rt, &mut client, "granted 1 1 1 m 0 4")?;
-    holds(&rt, &client, &[("m", 0, 4)]);
-    says(&rt, &mut client, "release 1 1 2 m 0")?;
-    holds(&rt, &client, &[]);
-    ignores(&rt, &mut client, "granted 1 1 1 m 0 4")?;
-    ignores(&rt, &mut client, "granted 1 1 2 m 0 4")?;
-    accepts(&rt, &mut client, "released 1 1 2")?;
-    ignores(&rt, &mut client, "released 1 1 2")?;
-    holds(&rt, &client, &[]);
+    for start in [BY_ONE, BY_TWO] {
+        let mut client = client(rt.alloc(), 1)?;
+        take_steps(&rt, &mut client, &start)?;
+        take_steps(&rt, &mut client, &STORY)?;
+    }
     Ok(())
+}
+
+/// Eight leases wait at once, and the ninth isn't sent.
+const EIGHT: [Step<'static>; 11] = [
+    Step::Says("lease 1 1 1 m 4"),
+    Step::Says("lease 1 1 2 m 4"),
+    Step::Says("lease 1 1 3 m 4"),
+    Step::Says("lease 1 1 4 m 4"),
+    Step::Says("lease 1 1 5 m 4"),
+    Step::Says("lease 1 1 6 m 4"),
+    Step::Says("lease 1 1 7 m 4"),
+    Step::Says("lease 1 1 8 m 4"),
+    Step::IsBusy("lease 1 1 9 m 4"),
+    Step::Repeats("lease 1 1 1 m 4", 8, "lease 1 1 8 m 4"),
+    Step::WaitsNotFor(9),
+];
+
+/// Their grants come in reverse order, each twice: only the least makes room for a ninth.
+const REVERSED: [Step<'static>; 16] = [
+    Step::Accepts("granted 1 1 8 m 28 4"),
+    Step::Ignores("granted 1 1 8 m 28 4"),
+    Step::Accepts("granted 1 1 7 m 24 4"),
+    Step::Ignores("granted 1 1 7 m 24 4"),
+    Step::Accepts("granted 1 1 6 m 20 4"),
+    Step::Ignores("granted 1 1 6 m 20 4"),
+    Step::Accepts("granted 1 1 5 m 16 4"),
+    Step::Ignores("granted 1 1 5 m 16 4"),
+    Step::Accepts("granted 1 1 4 m 12 4"),
+    Step::Ignores("granted 1 1 4 m 12 4"),
+    Step::Accepts("granted 1 1 3 m 8 4"),
+    Step::Ignores("granted 1 1 3 m 8 4"),
+    Step::Accepts("granted 1 1 2 m 4 4"),
+    Step::Ignores("granted 1 1 2 m 4 4"),
+    Step::IsBusy("lease 1 1 9 m 4"),
+    Step::Repeats("lease 1 1 1 m 4", 1, "lease 1 1 1 m 4"),
+];
+
+const LAST: [Step<'static>; 6] = [
+    Step::Accepts("granted 1 1 1 m 0 4"),
+    Step::Ignores("granted 1 1 1 m 0 4"),
+    Step::WaitsNotFor(1),
+    Step::Holds(&[28, 24, 20, 16, 12, 8, 4, 0]),
+    Step::Says("lease 1 1 9 m 4"),
+    Step::Repeats("lease 1 1 9 m 4", 9, "lease 1 1 9 m 4"),
+];
+
+#[test]
+fn windows(rt: HostRuntime) {
+    assert_eq!(rt; (Protocol::One.window(), Protocol::Two.window()), (1, 8));
+}
+
+#[test]
+fn pipeline(rt: HostRuntime) -> Result<(), Fail> {
+    let mut client = client(rt.alloc(), 1)?;
+    take_steps(&rt, &mut client, &BY_TWO)?;
+    take_steps(&rt, &mut client, &EIGHT)?;
+    take_steps(&rt, &mut client, &REVERSED)?;
+    take_steps(&rt, &mut client, &LAST)
 }
 
 #[test]
@@ -136,7 +310,7 @@ fn an_old_ends_all(rt: HostRuntime) -> Result<(), Fail> {
     holds(&rt, &client, &[]);
     ignores(&rt, &mut client, "granted 2 4 2 m 12 4")?;
     assert_eq!(rt; client.resend(), Err(Nothing));
-    assert_eq!(rt; client.restart(9), Err(NotGreater));
+    assert_eq!(rt; client.restart(9, Protocol::One), Err(NotGreater));
     greets(&rt, &mut client, 10, "hello 2 10")?;
     ignores(&rt, &mut client, "old 2 9")?;
     ignores(&rt, &mut client, "welcome 2 4")?;
@@ -154,11 +328,11 @@ fn client_refusals(rt: HostRuntime) -> Result<(), Fail> {
     assert_eq!(rt; client.resend(), Err(Nothing));
     assert_eq!(rt; client.send(lease), Err(SendFault::NotOpen(lease)));
     for incarnation in [0, (1 << 62) + 1, u64::MAX] {
-        assert_eq!(rt; client.restart(incarnation), Err(NotGreater));
+        assert_eq!(rt; client.restart(incarnation, Protocol::Two), Err(NotGreater));
     }
     greets(&rt, &mut client, 2, "hello 1 2")?;
     for incarnation in [1, 2] {
-        assert_eq!(rt; client.restart(incarnation), Err(NotGreater));
+        assert_eq!(rt; client.restart(incarnation, Protocol::Two), Err(NotGreater));
     }
     // The hello waits for its reply: the client isn't open.
     assert_eq!(rt; client.send(release), Err(SendFault::NotOpen(release)));
@@ -180,6 +354,6 @@ fn client_refusals(rt: HostRuntime) -> Result<(), Fail> {
     let again = op("release 1 2 3 m 8")?;
     assert_eq!(rt; client.send(again), Err(SendFault::NotHeld(again)));
     greets(&rt, &mut client, 1 << 62, "hello 1 4611686018427387904")?;
-    assert_eq!(rt; client.restart(1 << 62), Err(NotGreater));
+    assert_eq!(rt; client.restart(1 << 62, Protocol::Two), Err(NotGreater));
     Ok(())
 }

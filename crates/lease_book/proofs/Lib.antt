@@ -1,4 +1,6 @@
 pub mod EachLemmas
+pub mod ReplyLemmas
+pub mod RecentLemmas
 pub mod Pigeons
 pub mod PlaceLemmas
 pub mod PlacesLemmas
@@ -6,8 +8,10 @@ pub mod EmptyPlaces
 pub mod ShelfLemmas
 pub mod WeightLemmas
 pub mod HistoryLemmas
+pub mod WindowLemmas
 pub mod EntryLemmas
 pub mod BookLemmas
+pub mod KeepLemmas
 pub mod NumberLemmas
 pub mod LeaseLemmas
 pub mod ClientLemmas

@@ -1,4 +1,7 @@
 pub mod Receipts
+pub mod Replies
+pub mod Standings
+pub mod Stored
 pub mod Entry
 pub mod Account
 pub mod Shelf

@@ -5,7 +5,8 @@ ghost use Rattle.std.specs.Prelude.{Some, None, slice_get, position, sum_by, nat
 ghost use Rattle.std.specs.List.{find};
 ghost use Rattle.lease_terms.specs.declared.values.TheConstants.{LAST_CLIENT};
 ghost use Rattle.lease_book.specs.Receipts.{IsEarned};
-ghost use Rattle.lease_book.specs.Account.{Account, number_of, without_first};
+ghost use Rattle.lease_book.specs.Standings.{IsOpen};
+ghost use Rattle.lease_book.specs.Account.{Account, without_first};
 ghost use Rattle.lease_book.specs.Places.{is_asked};
 ghost use Rattle.lease_book.specs.Shelf.{IsEmptyBefore};
 ghost use Rattle.lease_book.specs.declared.books.TheConstants.{MOST_LEASES};
@@ -13,45 +14,18 @@ ghost use Rattle.lease_book.specs.declared.books.TheConstants.{MOST_LEASES};
 use crate::leases::{Held, Leases, Which};
 use crate::receipts::{Kept, KeptReply, Terms};
 use crate::reports::ClientReport;
+use crate::standings::Standing;
 use crate::totals::Totals;
 use deed_core::{Deed, Segment};
 use indexmap::IndexMap;
-use lease_terms::{ClientId, Ordinal, Quantity, RequestId};
+use lease_terms::{ClientId, Quantity, RequestId};
 use std::alloc::{AllocError, Global};
 use std::marker::Model;
 
-/// What is kept of a client, its leases apart.
-#[derive(Clone, Copy, Debug)]
-pub(crate) struct Standing {
-    pub incarnation: Ordinal,
-    pub kept: Option<Kept>,
-}
-
-impl Standing {
-    /// The last number that was settled, or 0.
-    pub(crate) fn last(&self) -> Quantity
-        ensures { result ≡ number_of self.now.kept }
-    {
-        match &self.kept {
-            Some(kept) => kept.number().quantity(),
-            None => Quantity::ZERO,
-        }
-    }
-
-    /// Whether a request is of this incarnation, and its number the next one.
-    pub(crate) fn is_next(&self, id: RequestId) -> bool
-        ensures { IsTrue result ↔ ((id.incarnation ≡ self.now.incarnation)
-            × (id.number ≡ number_of self.now.kept + 1)) }
-    {
-        let (number, last) = (id.number.get(), self.last().get());
-        id.incarnation.get() == self.incarnation.get() && number > last && number - last == 1
-    }
-}
-
 /// What is kept of each client, and beside it its leases. No client before the index `empty` has a
 /// lease: so a search for a client that has one needn't begin from the first each time. A client is
-/// looked for first at the index `near`, where it was last gone to. How many units of each arena are
-/// leased is counted with each lease that comes and goes.
+/// looked for first at the index `near`, where it was last gone to. How many units of each arena
+/// are leased is counted with each lease that comes and goes.
 pub(crate) struct Accounts<D: Deed> {
     clients: IndexMap<ClientId, Standing>,
     leases: Vec<Leases<D>>,
@@ -74,10 +48,11 @@ impl<D: Deed> Model for Accounts<D> {
 
 impl<D: Deed> Accounts<D> {
     ghost use Rattle.lease_book.specs.Shelf.{account_with, update_at, standing_of, with_standing};
-    ghost use Rattle.lease_book.specs.Shelf.{with_leases};
+    ghost use Rattle.lease_book.specs.Shelf.{with_leases, with_settled};
     ghost use Rattle.lease_book.specs.BookState.{segments_of_accounts, units_of_arena};
     ghost use Rattle.lease_book.specs.Reports.{report_of};
 
+    /// No accounts.
     pub(crate) fn new(alloc: Global) -> Accounts<D>
         ensures { result ≡ [] }
     {
@@ -90,6 +65,7 @@ impl<D: Deed> Accounts<D> {
         }
     }
 
+    /// How many clients have an account: at most as many as there are numbers of clients.
     pub(crate) fn len(&self) -> usize
         ensures count { result ≡ length self.now }
         ensures few { result ≤ LAST_CLIENT }
@@ -135,6 +111,7 @@ impl<D: Deed> Accounts<D> {
         }
     }
 
+    /// What is kept at this index, the leases apart.
     pub(crate) fn standing(&self, index: usize) -> &Standing
         requires { index < length self.now }
         ensures { option_map standing_of (slice_get self.now index) ≡ Some result.now }
@@ -142,6 +119,7 @@ impl<D: Deed> Accounts<D> {
         &self.clients[index]
     }
 
+    /// Puts this in place of what is kept at the index, the leases apart.
     pub(crate) fn write(&mut self, index: usize, standing: Standing)
         requires { index < length self.old }
         ensures { self.new ≡ update_at self.old index (with_standing standing) }
@@ -149,7 +127,12 @@ impl<D: Deed> Accounts<D> {
         self.clients[index] = standing;
     }
 
-    /// Writes and gives what a request was settled with.
+    /// The allocator of all that is kept.
+    pub(crate) fn allocator(&self) -> Global {
+        *self.leases.allocator()
+    }
+
+    /// Keeps and gives what a request was settled with.
     pub(crate) fn keep(
         &mut self,
         index: usize,
@@ -158,17 +141,14 @@ impl<D: Deed> Accounts<D> {
         terms: Option<Terms>,
     ) -> Kept
         requires within { index < length self.old }
+        requires fresh { IfSome (slice_get self.old index)
+            (λ a. IsOpen (standing_of a) id.number) }
         requires earned { IsEarned reply terms }
         ensures value { result ≡ record { number = id.number; reply = reply; terms = terms } }
-        ensures accounts { self.new ≡ update_at self.old index
-            (with_standing (record { incarnation = id.incarnation; kept = Some result })) }
+        ensures accounts { self.new ≡ update_at self.old index (with_settled result) }
     {
         let kept = Kept::new(id.number, reply, terms);
-        let standing = Standing {
-            incarnation: id.incarnation,
-            kept: Some(kept),
-        };
-        self.write(index, standing);
+        self.clients[index].add(&kept);
         kept
     }
 
@@ -266,13 +246,14 @@ impl<D: Deed> Accounts<D> {
         }
     }
 
+    /// What is told of the client at this index.
     pub(crate) fn report(&self, index: usize) -> Option<ClientReport>
         ensures { result ≡ option_map report_of (slice_get self.now index) }
     {
         let (client, standing) = self.clients.get_index(index)?;
         Some(ClientReport {
             client: *client,
-            incarnation: standing.incarnation,
+            incarnation: standing.incarnation(),
             last: standing.last(),
             leases: self.leases[index].len(),
         })
@@ -314,6 +295,7 @@ fn first_leased<D: Deed>(leases: &[Leases<D>], empty: usize) -> Option<usize>
     None
 }
 
+/// Ends lists of leases that are all empty.
 fn close_all<D: Deed>(mut leases: Vec<Leases<D>>)
     requires { All (λ l. l ≡ []) leases.items }
 {

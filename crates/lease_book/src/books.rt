@@ -8,7 +8,7 @@ ghost use Rattle.deed_core.specs.Request.{Fits};
 ghost use Rattle.lease_terms.specs.Requests.{IsRequestId};
 ghost use Rattle.lease_terms.specs.declared.values.TheConstants.{LAST_CLIENT};
 ghost use Rattle.lease_book.specs.Receipts.{Kept};
-ghost use Rattle.lease_book.specs.Entry.{Entry, Hello, kept_settlement};
+ghost use Rattle.lease_book.specs.Entry.{Entry, Hello};
 ghost use Rattle.lease_book.specs.Account.{is_lease, is_older};
 ghost use Rattle.lease_book.specs.History.{account, clients_of};
 ghost use Rattle.lease_book.specs.BookState.{BookState, IsHistory, HasHistory, Enters, account_in};
@@ -16,20 +16,21 @@ ghost use Rattle.lease_book.specs.BookState.{leased_segments, leased_in, units_o
 ghost use Rattle.lease_book.specs.Reports.{report_of};
 ghost use Rattle.lease_book.specs.declared.books.TheConstants.{MOST_LEASES};
 
-use crate::accounts::{Accounts, Standing};
+use crate::accounts::Accounts;
 use crate::answers::{Answer, HelloFault, Look, NotLeased};
 use crate::leases::{Held, Which};
 use crate::receipts::{Kept, KeptReply, Receipt, Terms};
 use crate::reports::ClientReport;
+use crate::standings::Standing;
 use deed_core::{Deed, Request, Segment};
-use lease_terms::{ClientId, Ordinal, Quantity, Refusal, RequestId};
+use lease_terms::{ClientId, Ordinal, Protocol, Quantity, Refusal, RequestId};
 use std::alloc::Global;
 use std::marker::Model;
 
 /// As many leases a client may have, those of older incarnations among them. (Our own choice.)
 pub const MOST_LEASES: usize = 1024;
 
-/// Which client holds which segment, and the last number and the kept reply of each client's
+/// Which client holds which segment, and the settled numbers and the kept replies of each client's
 /// current incarnation.
 pub struct Book<D: Deed> {
     mark: D,
@@ -89,39 +90,52 @@ impl<D: Deed> Book<D> {
         Ok(mark)
     }
 
-    /// Takes a client's hello with an incarnation. Room for the reply that is kept of the client is
-    /// made by its first hello, so that a later one is never out of memory.
-    pub fn hello(&mut self, client: ClientId, incarnation: Ordinal) -> Result<(), HelloFault>
-        ensures taken { OnOk result (Enters (Hello client incarnation) self.old self.new) }
+    /// Takes a client's hello with an incarnation, and gives the protocol that stands for it: that
+    /// of its first hello. Room for all replies that are kept is made by that one, so that a later
+    /// one is never out of memory; nor is one that begins an incarnation with the first protocol,
+    /// where the client is known.
+    pub fn hello(
+        &mut self,
+        client: ClientId,
+        incarnation: Ordinal,
+        protocol: Protocol,
+    ) -> Result<Protocol, HelloFault>
+        ensures taken { OnOk result
+            (Enters (Hello client incarnation protocol) self.old self.new) }
+        ensures standing { IfOk result (λ p. p ≡ (account_in client self.new).protocol) }
         ensures known { incarnation ≡ (account_in client self.old).incarnation
             → self.new ≡ self.old }
         ensures leases { leased_segments self.new ≡ leased_segments self.old }
         ensures current { OnOk result ((account_in client self.old).incarnation ≤ incarnation) }
         ensures refused { IfErr result
-            (IsHelloFault (account_in client self.old).incarnation incarnation) }
+            (IsHelloFault (account_in client self.old).incarnation incarnation protocol) }
         ensures unchanged { OnErr result (self.new ≡ self.old) }
     {
         // For their clauses: the numbers are in their ranges.
         let _ = client.get();
         let _ = incarnation.get();
-        let fresh = Standing {
-            incarnation,
-            kept: None,
-        };
+        let alloc = self.accounts.allocator();
         let Some((index, standing)) = self.account(client) else {
+            let Ok(fresh) = Standing::new(alloc, incarnation, protocol) else {
+                return Err(HelloFault::NoMemory);
+            };
             let Ok(()) = self.accounts.open(client, fresh) else {
                 return Err(HelloFault::NoMemory);
             };
-            return Ok(());
+            return Ok(protocol);
         };
-        if incarnation.get() < standing.incarnation.get() {
-            return Err(HelloFault::Old(standing.incarnation.quantity()));
+        let current = standing.incarnation();
+        if incarnation.get() < current.get() {
+            return Err(HelloFault::Old(current.quantity()));
         }
-        if incarnation.get() == standing.incarnation.get() {
-            return Ok(());
+        if incarnation.get() == current.get() {
+            return Ok(standing.protocol());
         }
+        let Ok(fresh) = Standing::new(alloc, incarnation, protocol) else {
+            return Err(HelloFault::NoMemory);
+        };
         self.accounts.write(index, fresh);
-        Ok(())
+        Ok(protocol)
     }
 
     /// Goes to a client. It is for speed alone: the calls for the client that follow need no search
@@ -179,14 +193,12 @@ impl<D: Deed> Book<D> {
             × (length (account_in id.client self.old).leases < MOST_LEASES))
             e.answer) }
     {
-        let index = match self.admit(id) {
-            Ok(index) => index,
-            Err(answer) => return Err(NotLeased { segment, answer }),
+        let Some(index) = self.new_at(id) else {
+            let answer = self.told(id);
+            return Err(NotLeased { segment, answer });
         };
         if self.accounts.leases(index).len() == MOST_LEASES {
-            let reply = KeptReply::Refused(Refusal::Leases);
-            let kept = self.accounts.keep(index, id, reply, None);
-            let answer = Answer::Refused(self.receipt(id, kept));
+            let answer = Answer::Refused(self.refuse_at(index, id, Refusal::Leases));
             return Err(NotLeased { segment, answer });
         }
         let reply = KeptReply::granted(arena, &segment.range());
@@ -210,13 +222,9 @@ impl<D: Deed> Book<D> {
     pub fn refuse(&mut self, id: RequestId, refusal: Refusal) -> Answer<D>
         ensures { IsAnswer self.old self.new id (IsRefused self.old self.new id refusal) ⊥ result }
     {
-        match self.admit(id) {
-            Ok(index) => {
-                let reply = KeptReply::Refused(refusal);
-                let kept = self.accounts.keep(index, id, reply, None);
-                Answer::Refused(self.receipt(id, kept))
-            }
-            Err(answer) => answer,
+        match self.new_at(id) {
+            Some(index) => Answer::Refused(self.refuse_at(index, id, refusal)),
+            None => self.told(id),
         }
     }
 
@@ -238,11 +246,11 @@ impl<D: Deed> Book<D> {
     {
         // For its clause: the base is in its range.
         let _ = base.get();
-        let index = self.admit(id)?;
+        let Some(index) = self.new_at(id) else {
+            return Err(self.told(id));
+        };
         let Some(held) = self.accounts.take(index, Which::At(id, arena, base)) else {
-            let reply = KeptReply::Refused(Refusal::NotYours);
-            let kept = self.accounts.keep(index, id, reply, None);
-            return Err(Answer::Refused(self.receipt(id, kept)));
+            return Err(Answer::Refused(self.refuse_at(index, id, Refusal::NotYours)));
         };
         let kept = self.accounts.keep(index, id, KeptReply::Released, None);
         Ok((self.receipt(id, kept), held.into_segment()))
@@ -256,7 +264,9 @@ impl<D: Deed> Book<D> {
         let Some((index, standing)) = self.account(client) else {
             return false;
         };
-        self.accounts.leases(index).has_older(standing.incarnation)
+        self.accounts
+            .leases(index)
+            .has_older(standing.incarnation())
     }
 
     /// Ends a lease of an older incarnation of the client, and gives it with the request that was
@@ -269,7 +279,7 @@ impl<D: Deed> Book<D> {
         ensures unchanged { IfNone result (self.new ≡ self.old) }
     {
         let (index, standing) = self.account(client)?;
-        let older = Which::Before(standing.incarnation);
+        let older = Which::Before(standing.incarnation());
         let held = self.accounts.take(index, older)?;
         Some(held.ended(client))
     }
@@ -321,6 +331,7 @@ impl<D: Deed> Book<D> {
         self.accounts.report(index)
     }
 
+    /// Where the account of the client stands, and what is kept there, the leases apart.
     fn account(&self, client: ClientId) -> Option<(usize, &Standing)>
         ensures found { IfSome result (λ r. IsFound self.now client r.0) }
         ensures standing { IfSome result
@@ -349,23 +360,50 @@ impl<D: Deed> Book<D> {
         requires known { ¬ IsNew (account_in id.client self.now) id }
         ensures { IsLook self.now (account_in id.client self.now) id result }
     {
-        if id.incarnation.get() != standing.incarnation.get() {
-            return Look::Old(standing.incarnation.quantity());
+        let current = standing.incarnation();
+        if id.incarnation.get() != current.get() {
+            return Look::Old(current.quantity());
         }
         let last = standing.last();
-        let number = id.number.get();
-        if number < last.get() {
+        if id.number.get() + standing.protocol().window() <= last.get() {
             return Look::Stale(last);
         }
-        if number > last.get() {
-            return Look::Gap(last);
+        match standing.at(id.number) {
+            Some(kept) => {
+                let receipt = self.receipt(id, kept);
+                // For its clause: a grant meets its terms.
+                let _ = receipt.reply();
+                Look::Kept(receipt)
+            }
+            None => Look::Gap(standing.low()),
         }
-        match standing.kept {
-            Some(kept) => Look::Kept(self.receipt(id, kept)),
+    }
+
+    /// The answer to a request whose number isn't new.
+    #[cold]
+    fn told(&self, id: RequestId) -> Answer<D>
+        requires { ¬ IsNew (account_in id.client self.now) id }
+        ensures { IsAnswer self.now self.now id (λ _. ⊥) ⊥ result }
+    {
+        match self.seek(id).answer() {
+            Some(answer) => answer,
             None => unreachable!(),
         }
     }
 
+    /// Settles a new request of the client whose account has this index by a refusal.
+    fn refuse_at(&mut self, index: usize, id: RequestId, refusal: Refusal) -> Receipt<D>
+        requires index { IsFound self.old id.client index }
+        requires new { IsNew (account_in id.client self.old) id }
+        ensures { IsRefused self.old self.new id refusal result }
+    {
+        id.check();
+        let reply = KeptReply::Refused(refusal);
+        let kept = self.accounts.keep(index, id, reply, None);
+        self.receipt(id, kept)
+    }
+
+    /// The receipt of this book for a request that was settled with this.
     fn receipt(&self, id: RequestId, kept: Kept) -> Receipt<D>
         ensures { result ≡ receipt self.now id kept }
     {
@@ -379,30 +417,14 @@ impl<D: Deed> Book<D> {
         ensures new { IfSome result (λ _. IsNew (account_in id.client self.now) id) }
         ensures index { IfSome result (IsFound self.now id.client) }
         ensures none { IfNone result (¬ IsNew (account_in id.client self.now) id) }
+        ensures range { IsRequestId id }
     {
+        id.check();
         let (index, standing) = self.account(id.client)?;
-        if standing.is_next(id) {
+        if standing.incarnation().get() == id.incarnation.get() && standing.is_open(id.number) {
             Some(index)
         } else {
             None
-        }
-    }
-
-    /// The index of the client's account, where the number is new; else the answer to the request.
-    #[inline(always)]
-    fn admit(&self, id: RequestId) -> Result<usize, Answer<D>>
-        ensures new { IfOk result (λ _. IsNew (account_in id.client self.now) id) }
-        ensures index { IfOk result (λ index. IsFound self.now id.client index) }
-        ensures range { IsRequestId id }
-        ensures answer { IfErr result (IsAnswer self.now self.now id (λ _. ⊥) ⊥) }
-    {
-        id.check();
-        if let Some(index) = self.new_at(id) {
-            return Ok(index);
-        }
-        match self.seek(id).answer() {
-            Some(answer) => Err(answer),
-            None => unreachable!(),
         }
     }
 }

@@ -1,5 +1,5 @@
 -- Lemmas on what is written and read.
-use Rattle.std.proofs.Common.{◌≡◌, ◌==◌, ◌||◌, ◌^◌, ℕ, ◌≤◌, ◌<◌, true, false, List, [], ◌∷◌, ◌++◌, length, get_or, Ok, refl, ◌∙◌, ap, subst, arith, inl, inr, decimal, codes, nat_le}
+use Rattle.std.proofs.Common.{◌≡◌, ◌==◌, ◌||◌, ◌^◌, ℕ, ◌≤◌, ◌<◌, true, false, List, [], ◌∷◌, ◌++◌, length, get_or, Ok, refl, ◌∙◌, ap, subst, arith, inl, inr, decimal, codes, nat_le, lit≤}
 use Rattle.std.proofs.lemmas.List.{append-nil}
 use Rattle.std.proofs.lemmas.Bool.{le-leb, leb-true, ne_eqb, and_parts, and_from, cases_eq, eq-eqb}
 use Rattle.std.proofs.lemmas.List.Elements.{All-from_recursion}
@@ -9,14 +9,16 @@ use Rattle.std.specs.List.{All, AllByRecursion, list_all}
 use Rattle.std.specs.Str.{all_ascii_digits}
 use Rattle.std.specs.Char.{is_ascii_digit}
 use Rattle.lease_terms.specs.declared.values.TheConstants.{LARGEST, LAST_CLIENT}
+use Rattle.lease_terms.specs.declared.protocols.Protocol.{Protocol}
+use Rattle.lease_terms.specs.declared.protocols.Protocol.TheVariants.{One, Two}
 use Rattle.lease_terms.specs.declared.names.TheConstants.{LONGEST_NAME}
 use Rattle.lease_terms.specs.Names.{is_word, is_word_byte, is_letter, is_name}
 use Rattle.lease_terms.specs.Requests.{RequestId, IsRequestId}
 use Rattle.lease_proto.specs.Words.{parts_of}
 use Rattle.lease_proto.specs.Values.{client_in, ordinal_in, quantity_in, id_in}
 use Rattle.lease_proto.specs.declared.lines.LeaseOptions.{LeaseOptions}
-use Rattle.lease_proto.specs.Grammar.{end_at}
-use Rattle.lease_proto.specs.Texts.{id_words, option_words, options_words, sentence}
+use Rattle.lease_proto.specs.Grammar.{end_at, protocol_in}
+use Rattle.lease_proto.specs.Texts.{id_words, option_words, options_words, protocol_words, sentence, spaced_text}
 use Rattle.lease_proto.proofs.WordLemmas.{numbers, decimal_is_digits}
 
 -- a byte of a word is no space
@@ -74,6 +76,19 @@ decimal_short k n some small low = length-decimal-le k n some small (omega arith
 pub name_short : (name : List ℕ) → is_name name ≡ true → length name ≤ LONGEST_NAME
 name_short name is =
     leb-true _ _ (and_parts (is_letter (get_or name 0 0)) (nat_le (length name) LONGEST_NAME) (and_parts (is_word name) _ is).1).1
+
+-- the word of a protocol is read as that protocol
+pub protocol_again : (protocol : Protocol) → protocol_in (protocol_words protocol) ≡ Ok protocol
+protocol_again One = refl
+protocol_again Two = refl
+
+pub protocol_is_word : (protocol : Protocol) → list_all is_word (protocol_words protocol) ≡ true
+protocol_is_word One = refl
+protocol_is_word Two = refl
+
+pub protocol_short : (protocol : Protocol) → length (spaced_text (protocol_words protocol)) ≤ 2
+protocol_short One = lit≤ tt
+protocol_short Two = lit≤ tt
 
 -- the words of an id are read as that id
 pub id_again : (id : RequestId) → IsRequestId id

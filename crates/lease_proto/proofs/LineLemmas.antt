@@ -22,8 +22,8 @@ use Rattle.lease_proto.specs.Values.{◌>>=◌, words_of}
 use Rattle.lease_proto.specs.Grammar.{line_of, line_in, line_of_first, hello_in, lease_in, lease_after, release_in, id_at, option_at, quantity_or, end_at}
 use Rattle.lease_proto.specs.Texts.{id_words, option_words, options_of, options_words, op_words, op_word, words_after, first_word, sentence, spaced_text, IsLine, IsOp, AreOptions, AsksFor, GivesOptions, MayFollow, IsTextOf, LinesAreTexts, LineIsRead, WrittenLineIsWhole, text_of}
 use Rattle.lease_proto.proofs.FramedLemmas.{words_are_whole}
-use Rattle.lease_proto.proofs.ReadLemmas.{step, told, words_step, word_step, name_step, end_step, client_step, ordinal_step, quantity_step, quantity_says, id_at_step, id_step, join_with_byte-sentence}
-use Rattle.lease_proto.proofs.GrammarLemmas.{client_again, ordinal_again, quantity_again, id_again, decimal_word, id_are_words, decimal_short, id_short, name_short, parts_of-sentence}
+use Rattle.lease_proto.proofs.ReadLemmas.{step, told, words_step, word_step, name_step, end_step, client_step, ordinal_step, quantity_step, quantity_says, id_at_step, id_step, protocol_step, join_with_byte-sentence}
+use Rattle.lease_proto.proofs.GrammarLemmas.{client_again, ordinal_again, quantity_again, id_again, protocol_again, protocol_is_word, protocol_short, decimal_word, id_are_words, decimal_short, id_short, name_short, parts_of-sentence}
 
 -- these words don't begin with the key
 abbrev NotFirst : List ℕ → List (List ℕ) → Type 0
@@ -85,7 +85,7 @@ request_again id (Lease l) rest is op (w, given, may) =
 -- the words of a text are read as its line
 words_again : (line : Line) (words : List (List ℕ)) → IsLine line → MayFollow line words → line_of_first (first_word line) words ≡ Ok line
 unfolding line_of_first hello_in
-words_again (Hello h) words is may = rw (may, client_again h.client is.0.0 is.0.1, ordinal_again h.incarnation is.1.0 is.1.1) refl
+words_again (Hello h) words is may = rw (may, client_again h.client is.0.0 is.0.1, ordinal_again h.incarnation is.1.0 is.1.1, protocol_again h.protocol) refl
 words_again (Request id op) words is (rest, may, are) = ap (line_of_first (op_word op)) are ∙ request_again id op rest is.0 is.1 may
 
 -- the words of options are words
@@ -109,7 +109,7 @@ op_are_words (Lease l) rest is (w, given, may) =
     (options_are_words (options_of l.options) w (refl, (refl, (refl, (refl, (refl, tt))))) (all_fit l is.2) given)
 
 are_words : (line : Line) (words : List (List ℕ)) → IsLine line → MayFollow line words → list_all is_word words ≡ true
-are_words (Hello h) words is may = rw (may, decimal_word h.client (omega arith), decimal_word h.incarnation is.1.1) refl
+are_words (Hello h) words is may = rw (may, decimal_word h.client (omega arith), decimal_word h.incarnation is.1.1) (protocol_is_word h.protocol)
 are_words (Request id op) words is (rest, may, are) =
     ap (list_all is_word) are ∙ id_are_words id rest is.0 (op_are_words op rest is.1 may)
 
@@ -144,6 +144,7 @@ short : (line : Line) (words : List (List ℕ)) → IsLine line → MayFollow li
 short (Hello h) words is may =
     let c = decimal_short 19 h.client (omega arith) (omega arith) (omega arith) in
     let i = decimal_short 19 h.incarnation (omega arith) (omega arith) is.1.1 in
+    let p = protocol_short h.protocol in
     rw may (simp length-append (omega arith))
 short (Request id op) words is (rest, may, are) =
     let i = id_short id is.0 in
@@ -226,10 +227,10 @@ unfolding hello_in
 hello_says words read e =
     word_step words _ read e (λ client w1 client_is e1.
     word_step w1 _ read e1 (λ incarnation w2 incarnation_is e2.
-    end_step w2 _ read e2 (λ end_is e3.
+    protocol_step w2 _ read e2 (λ p p_words e3.
     client_step client _ read e3 (λ c c_word c_in e4.
     ordinal_step incarnation _ read e4 (λ i i_word i_in e5.
-    let read_is : Hello (record { client = c; incarnation = i }) ≡ read = cc in
+    let read_is : Hello (record { client = c; incarnation = i; protocol = p }) ≡ read = cc in
     subst (Says (codes "hello") words) read_is ((c_in, i_in), refl, cc))))))
 
 release_says : (words : List (List ℕ)) (read : Line) → release_in words ≡ Ok read → Says (codes "release") words read

@@ -1,9 +1,11 @@
 -- What was read says how it was written.
-use Rattle.std.proofs.Common.{◌≡◌, ◌&&◌, ℕ, ◌≤◌, true, List, [], ◌∷◌, ◌++◌, Option, Some, None, Result, Ok, Err, refl, sym, ◌∙◌, ap, subst, cond, ◌⊎◌, inl, inr, decimal, nat_le, nat_lt, length}
+use Rattle.std.proofs.Common.{◌≡◌, ◌&&◌, ℕ, ◌≤◌, true, List, [], ◌∷◌, ◌++◌, Option, Some, None, Result, Ok, Err, refl, sym, ◌∙◌, ap, subst, cond, ◌⊎◌, inl, inr, decimal, codes, nat_le, nat_lt, length}
 use Rattle.std.proofs.lemmas.Bool.{leb-true, cases_Bool, and_parts}
 use Rattle.lease_terms.specs.declared.refusals.Refusal.{Refusal}
 use Rattle.lease_terms.specs.declared.refusals.Refusal.TheVariants.{NoFit, BadRequest, NoArena, NotYours, Leases}
 use Rattle.lease_terms.specs.declared.values.TheConstants.{LARGEST, LAST_CLIENT}
+use Rattle.lease_terms.specs.declared.protocols.Protocol.{Protocol}
+use Rattle.lease_terms.specs.declared.protocols.Protocol.TheVariants.{Two}
 use Rattle.lease_terms.specs.Names.{is_name}
 use Rattle.lease_terms.specs.Ranges.{IsClient, IsOrdinal, IsQuantity}
 use Rattle.lease_terms.specs.Requests.{RequestId, IsRequestId}
@@ -20,8 +22,8 @@ use Rattle.lease_proto.specs.declared.replies.Again.{Again}
 use Rattle.lease_proto.specs.declared.limits.TheConstants.{LONGEST_LINE}
 use Rattle.lease_proto.specs.Words.{number_in, is_sentence, parts_of}
 use Rattle.lease_proto.specs.Values.{◌>>=◌, words_of, number_within, client_in, ordinal_in, quantity_in, id_in, name_in}
-use Rattle.lease_proto.specs.Grammar.{word_at, end_at, id_at}
-use Rattle.lease_proto.specs.Texts.{id_words, sentence}
+use Rattle.lease_proto.specs.Grammar.{word_at, end_at, id_at, protocol_in}
+use Rattle.lease_proto.specs.Texts.{id_words, protocol_words, sentence}
 use Rattle.lease_proto.specs.Faults.{error_word_in, error_word}
 use Rattle.lease_proto.specs.Replies.{welcome_in, granted_in, released_in, refused_in, old_in, out_of_turn_in, again_in, error_in, refusal_in, refusal_word, welcome_words, granted_words, refused_words, old_words, out_of_turn_words, again_words, IsOutOfTurn}
 use Rattle.std.specs.Str.{bytes_eq}
@@ -155,6 +157,20 @@ error_step : {B P : Type 0} (word : List ℕ) (f : ErrorWord → Result B LineFa
     → ((r : ErrorWord) → word ≡ error_word r → f r ≡ Ok b → P) → P
 error_step word f b e k = let (r, is, next) = step (error_word_in word) f b e in k r (error_word_says word r is) next
 
+-- what a protocol that was read says of its words
+protocol_says : (words : List (List ℕ)) (p : Protocol) → protocol_in words ≡ Ok p → words ≡ protocol_words p
+protocol_says [] p e = let is : [] ≡ protocol_words p = cc in is
+protocol_says (word ∷ []) p e = elim (told word (codes "2") (Ok Two) (Err faults.Number) (Ok p) e) [
+  | inl said ↦ let word_is = said.0 in let is = said.1 in let two : Two ≡ p = cc in
+      ap (λ w. w ∷ []) word_is ∙ ap protocol_words two
+  | inr none ↦ absurd (cc)
+]
+protocol_says (word ∷ more ∷ words) p e = absurd (cc)
+
+pub protocol_step : {B P : Type 0} (words : List (List ℕ)) (f : Protocol → Result B LineFault) (b : B) → (protocol_in words >>= f) ≡ Ok b
+    → ((p : Protocol) → words ≡ protocol_words p → f p ≡ Ok b → P) → P
+protocol_step words f b e k = let (p, is, next) = step (protocol_in words) f b e in k p (protocol_says words p is) next
+
 -- the words of an id are there, and so on
 pub id_at_step : {B P : Type 0} (words : List (List ℕ))
     (f : (List ℕ × List ℕ × List ℕ) × List (List ℕ) → Result B LineFault) (b : B) → (id_at words >>= f) ≡ Ok b
@@ -223,10 +239,10 @@ unfolding welcome_in
 welcome_says words read e =
     word_step words _ read e (λ client w1 client_is e1.
     word_step w1 _ read e1 (λ incarnation w2 incarnation_is e2.
-    end_step w2 _ read e2 (λ end_is e3.
+    protocol_step w2 _ read e2 (λ p p_words e3.
     client_step client _ read e3 (λ c c_word c_in e4.
     ordinal_step incarnation _ read e4 (λ i i_word i_in e5.
-    let read_is : record { client = c; incarnation = i } ≡ read = cc in
+    let read_is : record { client = c; incarnation = i; protocol = p } ≡ read = cc in
     subst (λ (r : Welcome). (IsClient r.client × IsOrdinal r.incarnation) × (words ≡ welcome_words r)) read_is ((c_in, i_in), cc))))))
 
 pub granted_says : (words : List (List ℕ)) (read : Granted) → granted_in words ≡ Ok read

@@ -24,7 +24,7 @@ use Rattle.std.specs.List.{join_with_byte}
 use Rattle.lease_proto.specs.Values.{◌>>=◌, words_of}
 use Rattle.lease_proto.proofs.FramedLemmas.{words_are_whole}
 use Rattle.lease_proto.proofs.ReadLemmas.{step, told, words_step, join_with_byte-sentence, welcome_says, granted_says, released_says, refused_says, old_says, out_of_turn_says, again_says, error_says}
-use Rattle.lease_proto.proofs.GrammarLemmas.{client_again, ordinal_again, quantity_again, id_again, id_are_words, id_short, decimal_word, decimal_short, name_short, parts_of-sentence}
+use Rattle.lease_proto.proofs.GrammarLemmas.{client_again, ordinal_again, quantity_again, id_again, protocol_again, protocol_is_word, protocol_short, id_are_words, id_short, decimal_word, decimal_short, name_short, parts_of-sentence}
 
 refusal_again : (refusal : Refusal) → refusal_in (refusal_word refusal) ≡ Ok refusal
 refusal_again NoFit = refl
@@ -79,7 +79,7 @@ error_short errors.Busy = lit≤ tt
 
 words_again : (reply : Reply) → IsReply reply → reply_in (first_reply_word reply ∷ reply_words reply) ≡ Ok reply
 unfolding reply_in id_at welcome_in granted_in released_in refused_in old_in out_of_turn_in again_in error_in
-words_again (Welcome w) is = rw (client_again w.client is.0.0 is.0.1, ordinal_again w.incarnation is.1.0 is.1.1) refl
+words_again (Welcome w) is = rw (client_again w.client is.0.0 is.0.1, ordinal_again w.incarnation is.1.0 is.1.1, protocol_again w.protocol) refl
 words_again (Granted g) is = rw (is.1, id_again g.id is.0, quantity_again g.base is.2, quantity_again g.len is.3) refl
 words_again (Released id) is = rw (id_again id is) refl
 words_again (Refused r) is = rw (refusal_again r.refusal, id_again r.id is) refl
@@ -93,7 +93,7 @@ out_of_turn_are_words : (r : OutOfTurn) → IsOutOfTurn r → list_all is_word (
 out_of_turn_are_words r is = id_are_words r.id (decimal r.last ∷ []) is.0 (rw (decimal_word r.last is.1) refl)
 
 are_words : (reply : Reply) → IsReply reply → list_all is_word (reply_words reply) ≡ true
-are_words (Welcome w) is = rw (decimal_word w.client (omega arith), decimal_word w.incarnation is.1.1) refl
+are_words (Welcome w) is = rw (decimal_word w.client (omega arith), decimal_word w.incarnation is.1.1) (protocol_is_word w.protocol)
 are_words (Granted g) is =
     let name = and_parts (is_word g.arena) _ is.1 in
     id_are_words g.id (g.arena ∷ decimal g.base ∷ decimal g.len ∷ []) is.0
@@ -116,6 +116,7 @@ short : (reply : Reply) → IsReply reply → length (reply_text reply) ≤ LONG
 short (Welcome w) is =
     let c = decimal_short 19 w.client (omega arith) (omega arith) (omega arith) in
     let i = decimal_short 19 w.incarnation (omega arith) (omega arith) is.1.1 in
+    let p = protocol_short w.protocol in
     simp length-append (omega arith)
 short (Granted g) is =
     let id = id_short g.id is.0 in

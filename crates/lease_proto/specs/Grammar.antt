@@ -2,9 +2,11 @@
 use Rattle.std.specs.Prelude.{ℕ, List, [], ◌∷◌, if◌then◌else◌, Option, Some, None, Result, Ok, Err}
 use Rattle.std.specs.Prelude.{codes}
 use Rattle.std.specs.Str.{bytes_eq}
+use Rattle.lease_terms.specs.declared.protocols.Protocol.{Protocol}
+use Rattle.lease_terms.specs.declared.protocols.Protocol.TheVariants.{One, Two}
 use Rattle.lease_terms.specs.declared.values.TheConstants.{LARGEST}
 use Rattle.lease_proto.specs.declared.faults.LineFault.{LineFault}
-use Rattle.lease_proto.specs.declared.faults.LineFault.TheVariants.{BadLine, Word}
+use Rattle.lease_proto.specs.declared.faults.LineFault.TheVariants.{BadLine, Word, Number}
 use Rattle.lease_proto.specs.declared.lines.Line.{Line}
 use Rattle.lease_proto.specs.declared.lines.Line.TheVariants as lines
 use Rattle.lease_proto.specs.declared.lines.Op.TheVariants as ops
@@ -29,15 +31,21 @@ id_at words = do
   number ← word_at incarnation.1
   Ok ((client.0, incarnation.0, number.0), number.1)
 
--- `hello C I`: the words after the first
+-- the protocol that the last words of a hello or of a welcome say: no word is the first one
+abbrev pub protocol_in : List (List ℕ) → Result Protocol LineFault
+protocol_in [] = Ok One
+protocol_in (word ∷ []) = if bytes_eq word (codes "2") then Ok Two else Err Number
+protocol_in (word ∷ more ∷ words) = Err BadLine
+
+-- `hello C I`, and `hello C I 2`: the words after the first
 unfoldable pub hello_in : List (List ℕ) → Result Line LineFault
 hello_in words = do
   client ← word_at words
   incarnation ← word_at client.1
-  end ← end_at incarnation.1
+  p ← protocol_in incarnation.1
   c ← client_in client.0
   i ← ordinal_in incarnation.0
-  Ok (lines.Hello (record { client = c; incarnation = i }))
+  Ok (lines.Hello (record { client = c; incarnation = i; protocol = p }))
 
 -- `release C I N NAME BASE`
 unfoldable pub release_in : List (List ℕ) → Result Line LineFault

@@ -23,8 +23,8 @@ use Rattle.lease_proto.specs.Faults.{error_word_in, error_word}
 use Rattle.lease_proto.specs.Frames.{IsWholeLine}
 use Rattle.lease_proto.specs.Values.{◌>>=◌, words_of, client_in, ordinal_in, quantity_in, id_in}
 use Rattle.lease_proto.specs.Values.{name_in}
-use Rattle.lease_proto.specs.Grammar.{word_at, end_at, id_at}
-use Rattle.lease_proto.specs.Texts.{id_words, sentence}
+use Rattle.lease_proto.specs.Grammar.{word_at, end_at, id_at, protocol_in}
+use Rattle.lease_proto.specs.Texts.{id_words, protocol_words, sentence}
 
 abbrev pub refusal_word : Refusal → List ℕ
 refusal_word NoFit = codes "nofit"
@@ -43,15 +43,15 @@ refusal_in word =
     else if bytes_eq word (codes "leases") then Ok Leases
     else Err BadLine
 
--- `welcome C I`: the words after the first
+-- `welcome C I`, and `welcome C I 2`: the words after the first
 unfoldable pub welcome_in : List (List ℕ) → Result Welcome LineFault
 welcome_in words = do
   client ← word_at words
   incarnation ← word_at client.1
-  end ← end_at incarnation.1
+  p ← protocol_in incarnation.1
   c ← client_in client.0
   i ← ordinal_in incarnation.0
-  Ok (record { client = c; incarnation = i })
+  Ok (record { client = c; incarnation = i; protocol = p })
 
 -- `granted C I N NAME BASE LEN`
 unfoldable pub granted_in : List (List ℕ) → Result Granted LineFault
@@ -157,7 +157,7 @@ first_reply_word (replies.Error error) = codes "error"
 
 -- the words after the first
 abbrev pub welcome_words : Welcome → List (List ℕ)
-welcome_words r = decimal r.client ∷ decimal r.incarnation ∷ []
+welcome_words r = decimal r.client ∷ decimal r.incarnation ∷ protocol_words r.protocol
 
 abbrev pub granted_words : Granted → List (List ℕ)
 granted_words r = id_words r.id ++ (r.arena ∷ decimal r.base ∷ decimal r.len ∷ [])

@@ -2,6 +2,8 @@
 use Rattle.std.specs.Prelude.{◌⊎◌, ◌↔◌, ◌≡◌, ◌==◌, ℕ, List, [], ◌∷◌, ◌++◌, if◌then◌else◌, Ok, codes}
 use Rattle.std.specs.Prelude.{decimal, true}
 use Rattle.std.specs.List.{flat_map}
+use Rattle.lease_terms.specs.declared.protocols.Protocol.{Protocol}
+use Rattle.lease_terms.specs.declared.protocols.Protocol.TheVariants.{One, Two}
 use Rattle.lease_terms.specs.declared.values.TheConstants.{LARGEST}
 use Rattle.lease_terms.specs.Names.{is_name}
 use Rattle.lease_terms.specs.Ranges.{IsClient, IsOrdinal, IsQuantity}
@@ -30,9 +32,14 @@ options_words o = option_words (codes "align") 0 o.align ++ (option_words (codes
 abbrev pub id_words : RequestId → List (List ℕ)
 id_words id = decimal id.client ∷ decimal id.incarnation ∷ decimal id.number ∷ []
 
+-- the word that tells of the second protocol; the first has none
+abbrev pub protocol_words : Protocol → List (List ℕ)
+protocol_words One = []
+protocol_words Two = codes "2" ∷ []
+
 -- the words after the first of a hello, and after the id of a request
 abbrev pub hello_words : HelloLine → List (List ℕ)
-hello_words h = decimal h.client ∷ decimal h.incarnation ∷ []
+hello_words h = decimal h.client ∷ decimal h.incarnation ∷ protocol_words h.protocol
 
 abbrev pub lease_words : LeaseLine → List (List ℕ)
 lease_words l = l.arena ∷ decimal l.size ∷ options_words l.options

@@ -27,6 +27,8 @@ mod limits;
 mod lines;
 mod numbers;
 mod operators;
+mod protocols;
+mod refusals;
 mod replies;
 mod reports;
 mod sentences;

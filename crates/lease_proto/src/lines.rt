@@ -8,6 +8,7 @@ ghost use Rattle.lease_proto.specs.Requests.{client_of, incarnation_of, request_
 ghost use Rattle.lease_proto.specs.Requests.{demand_of};
 ghost use Rattle.lease_proto.specs.declared.lines.TheConstants.{OPTIONS_ROOM};
 ghost use Rattle.lease_proto.specs.declared.writing.TheConstants.{NUMBER_ROOM, NAME_ROOM};
+ghost use Rattle.lease_proto.specs.declared.protocols.TheConstants.{HELLO_ROOM};
 ghost use Rattle.lease_proto.specs.Texts.{text_of, first_word, op_word, hello_words, lease_words};
 ghost use Rattle.lease_proto.specs.Texts.{options_words, release_words, spaced_text, LinesAreTexts};
 ghost use Rattle.lease_proto.specs.Texts.{LineIsRead, WrittenLineIsWhole, AreOptions, IsOp, IsLine};
@@ -18,11 +19,12 @@ use crate::faults::LineFault;
 use crate::ids::IdWords;
 use crate::limits::LINE_ROOM;
 use crate::numbers::{client, ordinal, quantity};
+use crate::protocols::{HELLO_ROOM, protocol, push_protocol};
 use crate::sentences::{Words, name};
 use crate::taking::{first_fault, option, parts, quantity_or_default};
 use crate::writing::{NUMBER_ROOM, push_id, push_name, push_number, push_option, push_text};
 use deed_core::Request;
-use lease_terms::{ArenaName, ClientId, Ordinal, Quantity, RequestId};
+use lease_terms::{ArenaName, ClientId, Ordinal, Protocol, Quantity, RequestId};
 use std::alloc::AllocError;
 
 /// Room for all options: five spaces, the 23 letters of their keys, and five numbers.
@@ -76,11 +78,12 @@ impl LeaseOptions {
     }
 }
 
-/// `hello C I`: the client begins, or begins anew.
+/// `hello C I`, or `hello C I 2` for the second protocol: the client begins, or begins anew.
 #[derive(Clone, Copy, Debug, PartialEq, Eq)]
 pub struct HelloLine {
     pub client: ClientId,
     pub incarnation: Ordinal,
+    pub protocol: Protocol,
 }
 
 impl HelloLine {
@@ -90,21 +93,23 @@ impl HelloLine {
     {
         let client_word = words.take()?;
         let incarnation = words.take()?;
-        words.end()?;
+        let protocol = protocol(words)?;
         Ok(Line::Hello(HelloLine {
             client: client(client_word)?,
             incarnation: ordinal(incarnation)?,
+            protocol,
         }))
     }
 
     fn push(&self, out: &mut Vec<u8>)
-        requires { vec_len out.old + 2 * NUMBER_ROOM ≤ vec_capacity out.old }
+        requires { vec_len out.old + HELLO_ROOM ≤ vec_capacity out.old }
         ensures text { out.new.items ≡ out.old.items ++ spaced_text (hello_words self.now) }
-        ensures len { vec_len out.new ≤ vec_len out.old + 2 * NUMBER_ROOM }
+        ensures len { vec_len out.new ≤ vec_len out.old + HELLO_ROOM }
         ensures capacity { vec_capacity out.old ≤ vec_capacity out.new }
     {
         push_number(out, u64::from(self.client.get()));
         push_number(out, self.incarnation.get());
+        push_protocol(out, self.protocol);
     }
 }
 

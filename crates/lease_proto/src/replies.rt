@@ -1,19 +1,19 @@
 //! The replies to a client's lines.
 ghost use Rattle.std.specs.Prelude.{◌≡◌, ◌++◌, IsOk, OnOk, OnErr, ◌+◌, ◌*◌, ◌≤◌};
-ghost use Rattle.std.specs.Prelude.{vec_len, length};
+ghost use Rattle.std.specs.Prelude.{vec_len};
 ghost use Rattle.lease_proto.specs.Frames.{with_line_feed};
 ghost use Rattle.lease_proto.specs.Replies.{reply_of, reply_text, first_reply_word, welcome_in};
 ghost use Rattle.lease_proto.specs.Replies.{granted_in, released_in, refused_in, old_in};
 ghost use Rattle.lease_proto.specs.Replies.{out_of_turn_in, again_in, error_in, welcome_words};
 ghost use Rattle.lease_proto.specs.Replies.{granted_words, refused_words, old_words};
-ghost use Rattle.lease_proto.specs.Replies.{out_of_turn_words, again_words, refusal_in};
-ghost use Rattle.lease_proto.specs.Replies.{refusal_word, IsReply, RepliesAreTexts};
-ghost use Rattle.lease_proto.specs.Replies.{WrittenReplyIsWhole};
+ghost use Rattle.lease_proto.specs.Replies.{out_of_turn_words, again_words, IsReply};
+ghost use Rattle.lease_proto.specs.Replies.{RepliesAreTexts, WrittenReplyIsWhole};
 ghost use Rattle.lease_proto.specs.Requests.{client_named, incarnation_named, request_named};
 ghost use Rattle.lease_proto.specs.Requests.{again_request, again_of, hello_again_of};
 ghost use Rattle.std.specs.Vec.{vec_capacity};
 ghost use Rattle.lease_proto.specs.declared.limits.TheConstants.{LINE_ROOM};
 ghost use Rattle.lease_proto.specs.declared.writing.TheConstants.{NUMBER_ROOM, ID_ROOM, NAME_ROOM};
+ghost use Rattle.lease_proto.specs.declared.protocols.TheConstants.{HELLO_ROOM};
 ghost use Rattle.lease_proto.specs.Texts.{spaced_text};
 
 use crate::faults::{ErrorWord, LineFault};
@@ -21,50 +21,21 @@ use crate::ids::IdWords;
 use crate::limits::LINE_ROOM;
 use crate::lines::HelloLine;
 use crate::numbers::{client, ordinal, quantity};
+use crate::protocols::{HELLO_ROOM, protocol, push_protocol};
+use crate::refusals::{refusal, word_of};
 use crate::sentences::{Words, name};
 use crate::taking::words;
 use crate::writing::{push_id, push_name, push_number, push_text, push_word};
-use lease_terms::{ArenaName, ClientId, Ordinal, Quantity, Refusal, RequestId};
+use lease_terms::{ArenaName, ClientId, Ordinal, Protocol, Quantity, Refusal, RequestId};
 use std::alloc::AllocError;
 
-/// The refusal that a word is: `BadLine` where it is none.
-fn refusal(word: &[u8]) -> Result<Refusal, LineFault>
-    ensures { result ≡ refusal_in word.now }
-{
-    if word == b"nofit".as_slice() {
-        Ok(Refusal::NoFit)
-    } else if word == b"badrequest".as_slice() {
-        Ok(Refusal::BadRequest)
-    } else if word == b"noarena".as_slice() {
-        Ok(Refusal::NoArena)
-    } else if word == b"notyours".as_slice() {
-        Ok(Refusal::NotYours)
-    } else if word == b"leases".as_slice() {
-        Ok(Refusal::Leases)
-    } else {
-        Err(LineFault::BadLine)
-    }
-}
-
-/// The protocol's word for a refusal.
-fn word_of(refusal: Refusal) -> &'static [u8]
-    ensures text { result.now ≡ refusal_word refusal }
-    ensures short { length result.now ≤ 10 }
-{
-    match refusal {
-        Refusal::NoFit => b"nofit",
-        Refusal::BadRequest => b"badrequest",
-        Refusal::NoArena => b"noarena",
-        Refusal::NotYours => b"notyours",
-        Refusal::Leases => b"leases",
-    }
-}
-
-/// `welcome C I`: the client's incarnation is this one.
+/// `welcome C I`, or `welcome C I 2`: the client's incarnation is this one, and it speaks the first
+/// protocol, or the second.
 #[derive(Clone, Copy, Debug, PartialEq, Eq)]
 pub struct Welcome {
     pub client: ClientId,
     pub incarnation: Ordinal,
+    pub protocol: Protocol,
 }
 
 impl Welcome {
@@ -74,21 +45,23 @@ impl Welcome {
     {
         let client_word = words.take()?;
         let incarnation = words.take()?;
-        words.end()?;
+        let protocol = protocol(words)?;
         Ok(Welcome {
             client: client(client_word)?,
             incarnation: ordinal(incarnation)?,
+            protocol,
         })
     }
 
     fn push(&self, out: &mut Vec<u8>)
-        requires { vec_len out.old + 2 * NUMBER_ROOM ≤ vec_capacity out.old }
+        requires { vec_len out.old + HELLO_ROOM ≤ vec_capacity out.old }
         ensures text { out.new.items ≡ out.old.items ++ spaced_text (welcome_words self.now) }
-        ensures len { vec_len out.new ≤ vec_len out.old + 2 * NUMBER_ROOM }
+        ensures len { vec_len out.new ≤ vec_len out.old + HELLO_ROOM }
         ensures capacity { vec_capacity out.old ≤ vec_capacity out.new }
     {
         push_number(out, u64::from(self.client.get()));
         push_number(out, self.incarnation.get());
+        push_protocol(out, self.protocol);
     }
 }
 
@@ -197,11 +170,13 @@ impl Old {
     }
 }
 
-/// The number isn't the one after the last, nor the last: it is below it (`stale C I N V`) or above
-/// the next one (`gap C I N V`). V is the last number, or 0 before the first.
+/// The number lies outside of the client's window. It is far below V, the greatest settled one, so
+/// that its reply isn't kept (`stale C I N V`), or far above V, up to which all are settled
+/// (`gap C I N V`). V is 0 where none is. How far is the protocol's to say.
 #[derive(Clone, Copy, Debug, PartialEq, Eq)]
 pub struct OutOfTurn {
     pub id: RequestId,
+    /// V.
     pub last: Quantity,
 }
 

@@ -14,7 +14,7 @@ use deed_core::{Request, Segment};
 use deed_table::{Name, Root, SeatDeed, close};
 use lease_book::{Answer, Book, Receipt};
 use lease_call::{NotGreeted, NotReleased, NotSettled};
-use lease_terms::{ClientId, Ordinal, Quantity, Refusal, RequestId};
+use lease_terms::{ClientId, Ordinal, Protocol, Quantity, Refusal, RequestId};
 use std::marker::Model;
 
 /// The book, with the root of its mark: the one after those of all arenas. Its calls alone reach
@@ -65,12 +65,18 @@ impl<N: Name> MarkedBook<N> {
         let _ = self.mark.number();
     }
 
-    /// Takes a hello.
-    pub(crate) fn hello(&mut self, client: ClientId, incarnation: Ordinal) -> Result<(), NotGreeted>
-        ensures { BookEvent (SeatDeed N) self.old (Hello client incarnation) result self.new }
+    /// Takes a hello that asks for a protocol, and gives the one that stands for its incarnation.
+    pub(crate) fn hello(
+        &mut self,
+        client: ClientId,
+        incarnation: Ordinal,
+        protocol: Protocol,
+    ) -> Result<Protocol, NotGreeted>
+        ensures { BookEvent (SeatDeed N) self.old (Hello client incarnation protocol) result
+            self.new }
     {
-        match self.book.hello(client, incarnation) {
-            Ok(()) => Ok(()),
+        match self.book.hello(client, incarnation, protocol) {
+            Ok(stands) => Ok(stands),
             Err(fault) => Err(NotGreeted::Late(fault)),
         }
     }

@@ -4,8 +4,9 @@ ghost use Rattle.std.specs.Prelude.{◌≡◌, ◌++◌, false};
 use lease_proto::{
     ErrorWord, Granted, HelloLine, LeaseLine, LeaseOptions, Line, LineFault, LineReader, Op,
     OperatorLine, PolicyWord, RefusedRequest, ReleaseLine, Reply, RootLine, ServedLine, SetupLine,
+    Welcome,
 };
-use lease_terms::{ArenaName, ClientId, Ordinal, Quantity, Refusal, RequestId};
+use lease_terms::{ArenaName, ClientId, Ordinal, Protocol, Quantity, Refusal, RequestId};
 use std::alloc::{AllocError, Global};
 use std::process::Abort;
 use std::test::Fail;
@@ -13,6 +14,8 @@ use std::test::Fail;
 /// Lines that are written as they are read.
 const LINES: &str = "hello 1 1\n\
     hello 65536 4611686018427387904\n\
+    hello 1 1 2\n\
+    hello 65536 4611686018427387904 2\n\
     lease 1 2 3 m 8\n\
     lease 1 2 3 m 8 align 16\n\
     lease 1 2 3 m 8 phase 4\n\
@@ -28,6 +31,7 @@ const LINES: &str = "hello 1 1\n\
     release 7 1 1 a0 4611686018427387904";
 
 const REPLIES: &str = "welcome 65536 1\n\
+    welcome 65536 1 2\n\
     granted 1 2 3 m 0 8\n\
     granted 65536 4611686018427387904 4611686018427387904 abcdefghijklmno9 \
     4611686018427387904 4611686018427387904\n\
@@ -63,7 +67,10 @@ const BAD_LINES: &str = "\n\
     hello 1 1\0\n\
     hello\n\
     hello 1\n\
-    hello 1 1 1\n\
+    hello 1 1 2 2\n\
+    hello 0 1 3 2\n\
+    hello 1 1 2\x20\n\
+    hello 1 1  2\n\
     lease 1 1 1 m\n\
     lease 1 1 1 9m 4\n\
     lease 1 1 1 abcdefghijklmnopq 4\n\
@@ -89,6 +96,13 @@ const BAD_NUMBERS: &str = "hello 0 1\n\
     hello 01 1\n\
     hello x 1\n\
     hello 1 0\n\
+    hello 1 1 1\n\
+    hello 1 1 3\n\
+    hello 1 1 0\n\
+    hello 1 1 02\n\
+    hello 1 1 22\n\
+    hello 1 1 two\n\
+    hello 0 1 2\n\
     hello 1 4611686018427387905\n\
     hello 1 18446744073709551616\n\
     hello 1 18446744073709551617\n\
@@ -98,6 +112,7 @@ const BAD_NUMBERS: &str = "hello 0 1\n\
 
 /// What isn't a reply.
 const BAD_REPLIES: &str = "welcome 1\n\
+    welcome 1 1 2 2\n\
     refused 1 2 3 word\n\
     refused 1 0 3 none\n\
     error range\n\
@@ -107,7 +122,9 @@ const BAD_REPLIES: &str = "welcome 1\n\
 const UNKNOWN_REPLIES: &str = "welcomes 1 1\n\
     hello 1 1";
 
-const BAD_REPLY_NUMBERS: &str = "granted 1 2 3 m 0 08\n\
+const BAD_REPLY_NUMBERS: &str = "welcome 1 1 1\n\
+    welcome 1 1 3\n\
+    granted 1 2 3 m 0 08\n\
     stale 1 2 0 4\n\
     old 0 0\n\
     again 1 0 0";
@@ -265,11 +282,14 @@ fn the_words_go_to_their_fields(rt: HostRuntime) {
 #[test]
 fn the_words_of_a_hello_go_to_their_fields(rt: HostRuntime) {
     let id = third_request(&rt);
-    let hello = HelloLine {
+    let mut hello = HelloLine {
         client: id.client,
         incarnation: id.incarnation,
+        protocol: Protocol::One,
     };
     reads(&rt, b"hello 7 2", Line::Hello(hello));
+    hello.protocol = Protocol::Two;
+    reads(&rt, b"hello 7 2 2", Line::Hello(hello));
 }
 
 #[test]
@@ -296,6 +316,12 @@ fn the_words_of_a_reply_go_to_their_fields(rt: HostRuntime) {
     reads_reply(&rt, b"granted 7 2 3 arena2 24 8", Reply::Granted(granted));
     reads_reply(&rt, b"refused 7 2 3 notyours", Reply::Refused(refused));
     reads_reply(&rt, b"released 7 2 3", Reply::Released(id));
+    let welcome = Welcome {
+        client: id.client,
+        incarnation: id.incarnation,
+        protocol: Protocol::Two,
+    };
+    reads_reply(&rt, b"welcome 7 2 2", Reply::Welcome(welcome));
     reads_reply(&rt, b"error memory", Reply::Error(ErrorWord::Memory));
 }
 

@@ -142,11 +142,16 @@ Then the lines of clients. Clients C are 1 to 65536; I and N are 1 to 2^62:
                              that restarts takes a greater I, and loses the leases of its older
                              ones. Its present I is welcome again, and changes nothing: whoever
                              doesn't know its I goes on to a greater one
+  hello C I 2                the same by the second protocol, with which up to 8 requests may wait
+                             for their answers. The first hello of an I says which it speaks, and
+                             the answers to all of them
   lease C I N NAME SIZE ..   its request N asks for SIZE units of arena NAME, with the options below
   release C I N NAME BASE    its request N gives back its whole lease that begins at BASE
 The requests of an incarnation count 1, 2, 3, .., leases and releases together. A client sends one
 at a time, and the next once it has the answer: the last N, sent again, gets its first answer,
-whatever else the line says, and does nothing else. A new incarnation begins at 1 again.
+whatever else the line says, and does nothing else. By the second protocol it sends N, in any order,
+once it has the answers to all up to N - 8, and any of the 8 numbers up to the last gets its first
+answer again. A new incarnation begins at 1 again.
 
 The options of a lease, each at most once and in this order (in another, the line is answered by
 error badline, and its N isn't used). A lease is the LEN units from BASE on, in one span; LEN is
@@ -171,6 +176,7 @@ L and H need be no multiples of QUANTUM.
 
 Answers to clients:
   welcome C I                   the hello is taken
+  welcome C I 2                 the hello is taken, and I speaks the second protocol
   granted C I N NAME BASE LEN   the lease has LEN units from BASE on
   released C I N                the lease is given back
   refused C I N WORD            noarena: no arena has this name; badrequest: the request is bad;
@@ -180,8 +186,10 @@ Answers to clients:
                                 notyours: incarnation I has no lease that begins at BASE
   old C V                       the client's incarnation is V, not I: it says hello with an I above
                                 V. V is 0 before its first hello
-  stale C I N V                 N was used already: the last request was V, and V + 1 is next
-  gap C I N V                   N is too high: the last request was V, and V + 1 is next
+  stale C I N V                 N was used already, and its answer isn't kept: the last request was
+                                V, which is above N, or by the second protocol 8 or more above N
+  gap C I N V                   N is too high: all up to V were used, and V + 1 is next. N is above
+                                V + 1, or by the second protocol above V + 8
   again C I N                   out of memory; send the line once more. In a script nothing was
                                 done; a server may have done it, and the line sent once more gets
                                 its answer. N is 0 for a hello
@@ -202,8 +210,8 @@ Lines of operators, which are answered by error memory when out of memory:
   audit           for each arena: arena NAME free F slab S magazine M exported E leased L hand H, in
                   units: F are free, S in slabs, M in magazines, E imported by others, L leased, and
                   H on the way, which are none between two lines
-  clients         for each client: client C I LAST LEASES, its last request and how many leases it
-                  has
+  clients         for each client: client C I LAST LEASES, the greatest number of its requests and
+                  how many leases it has
 
 A line that is none of these is answered by error and a word, and does nothing. The word is the
 first of these that is so:

@@ -1,16 +1,12 @@
-use Rattle.std.proofs.Common.{[], ◌∷◌, true, false, refl, rules}
+use Rattle.lease_tcp.proofs.ArrivalLemmas.{served_on, none_on}
 use Rattle.lease_tcp.proofs.arrivals.serve_each.Goals as goal
 
 pub loop-init : goal.loop-init
 loop-init g c = λ new served. served
 
-pub returns-then-is_closed : goal.returns-then-is_closed
-returns-then-is_closed g c =
-    let closed : g.A.Arrivals.may_find c.accept-came.new.self true = search rules in
-    c.loop.invariant c.accept-came.new.self ([], c.accept-came.result, c.loop.arrivals, refl, c.accept-came.ensures, closed)
+pub returns : goal.returns
+returns g c = c.loop.invariant c.next_open.new.arrivals (none_on _ _ _ _ c.loop.server c.next_open.new.arrivals c.next_open.ensures)
 
 pub loop-preserved : goal.loop-preserved
 loop-preserved g c = λ new served.
-    let (all, last, mid, met, came, closed) = served in
-    let found : g.A.Arrivals.may_find c.accept-came.new.self false = search rules in
-    c.loop.invariant new (c.accept-came.result ∷ all, last, mid, (c.accept-came.new.self, c.meet.new.arrivals, c.accept-came.ensures, found, c.meet.ensures, met), came, closed)
+    c.loop.invariant new (served_on _ _ _ _ c.loop.server c.next_open.new.arrivals c.serve.new.self c.connection c.next_open.ensures c.serve.ensures new served)
