@@ -61,9 +61,10 @@ impl<N: Name, R: Wait> CacheUnits for LockedSlabs<'_, N, R> {
     ghost tells = { λ s _ _ _ t. t.parts.now ≡ s.parts.now };
 
     fn units(&mut self, arena: u32, cache: u8) -> u128 {
-        let (Some(kind), Some(locked)) =
-            (self.parts.kind(arena, cache), self.parts.cache(arena, cache))
-        else {
+        let (Some(kind), Some(locked)) = (
+            self.parts.kind(arena, cache),
+            self.parts.cache(arena, cache),
+        ) else {
             return 0;
         };
         let slab = locked.slab.lock(self.rt);
@@ -85,9 +86,10 @@ impl<N: Name, R: Wait> CacheUnits for LockedRounds<'_, N, R> {
     ghost tells = { λ s _ _ _ t. t.parts.now ≡ s.parts.now };
 
     fn units(&mut self, arena: u32, cache: u8) -> u128 {
-        let (Some(kind), Some(locked)) =
-            (self.parts.kind(arena, cache), self.parts.cache(arena, cache))
-        else {
+        let (Some(kind), Some(locked)) = (
+            self.parts.kind(arena, cache),
+            self.parts.cache(arena, cache),
+        ) else {
             return 0;
         };
         locked.depot.lock(self.rt).units_of(&kind)
