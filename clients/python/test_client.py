@@ -355,6 +355,29 @@ class Windows(unittest.TestCase):
             self.assertEqual(first.lease("m", 64), ("m", 0, 64))
             self.assertEqual(first.incarnation, 3)
 
+    def test_one_that_is_superseded_when_it_gives_back(self):
+        with FakeServer({"m": 64}) as server:
+            client = client_of(server, window=8)
+            client.restart()
+            server.replies = ["granted 7 1 1 m 0 8", "granted 7 1 2 m 8 8", "refused 7 1 3 nofit",
+                              "old 7 5", "old 7 5"]
+            with self.assertRaises(vmemd.Superseded):
+                client.lease_many("m", [8, 8, 65])
+            self.assertEqual((client.held(), client.lease("m", 64)), ([], ("m", 0, 64)))
+            self.assertEqual(client.incarnation, 6)
+            client.disconnect()
+
+    def test_what_cannot_be_given_back_at_once_is_later(self):
+        with FakeServer({"m": 64}) as server:
+            client = client_of(server, window=8, patience=0.05)
+            client.restart()
+            server.cuts = [("out", 64)] + [("out", 0)] * 100
+            with self.assertRaises(vmemd.NoFit):
+                client.lease_many("m", [8, 8, 65])
+            server.cuts.clear()
+            self.assertEqual((client.held(), client.lease("m", 64)), ([], ("m", 0, 64)))
+            client.disconnect()
+
     def test_a_server_of_the_first_protocol_alone(self):
         with FakeServer({"m": 64}) as server:
             client, server.replies = client_of(server, window=8), ["error badline"]

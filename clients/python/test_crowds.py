@@ -53,26 +53,29 @@ class Cutter:
 
 
 def lease_and_release(number, port, owners, seconds, told):
-    """One process: leases and releases through a Cutter; `owners` says whose each unit is."""
-    rng = random.Random(number)
+    """One process: leases and releases through a Cutter; `owners` says whose each unit is. Every
+    other one has up to eight requests on their way."""
+    rng, window = random.Random(number), 1 if number % 2 else 8
     cutter = Cutter(port, rng)
-    client = vmemd.Client("127.0.0.1", cutter.address[1], number, timeout=20.0)
+    client = vmemd.Client("127.0.0.1", cutter.address[1], number, timeout=20.0, window=window)
     ends, requests, wrong = time.monotonic() + seconds, 0, []
     while time.monotonic() < ends:
         held = client.held()
         if held and rng.random() < 0.5:
-            lease = rng.choice(held)
-            owners[lease.base:lease.end] = bytes(lease.length)
-            lease.release()
+            leases = rng.sample(held, min(len(held), rng.randint(1, window)))
+            for it in leases:
+                owners[it.base:it.end] = bytes(it.length)
+            client.release_many(leases)
         else:
+            sizes = [rng.randint(1, 64) for _ in range(rng.randint(1, window))]
             try:
-                lease = client.lease("m", rng.randint(1, 64), align=rng.choice((0, 0, 8)))
+                leases = client.lease_many("m", sizes, align=rng.choice((0, 0, 8)))
             except vmemd.NoFit:
                 continue
-            if any(owners[lease.base:lease.end]):
-                wrong.append(tuple(lease))
-            owners[lease.base:lease.end] = bytes([number]) * lease.length
-        requests += 1
+            for it in leases:
+                wrong += [tuple(it)] if any(owners[it.base:it.end]) else []
+                owners[it.base:it.end] = bytes([number]) * it.length
+        requests += len(leases)
     told.put((requests, wrong, [tuple(it) for it in client.held()]))
     client.disconnect()
 

@@ -38,6 +38,24 @@ class Alone(Served):
             with self.assertRaises(vmemd.NoArena):
                 client.lease("none", 1)
 
+    def test_many_at_once(self):
+        for window in (1, 8):
+            with self.client(window, window=window) as client:
+                leases = client.pool("m").lease_many([8] * 100)
+                self.assertEqual([it.base for it in leases], list(range(0, 800, 8)))
+                client.release_many(leases[::2])
+                self.assertEqual(client.held(), leases[1::2])
+                with self.assertRaises(vmemd.NoFit):
+                    client.lease_many("m", [8] * 20 + [4096])
+                self.assertEqual(client.held(), leases[1::2])
+
+    def test_eight_lines_are_answered_in_one_connection(self):
+        told = self.ask(b"hello 1 1 2\n" + b"".join(b"lease 1 1 %d m 4\n" % n for n in
+                                                    (8, 7, 6, 5, 4, 3, 2, 9, 1, 9)))
+        self.assertEqual(told.splitlines(), [b"welcome 1 1 2", *(
+            b"granted 1 1 %d m %d 4" % (8 - k, 4 * k) for k in range(7)), b"gap 1 1 9 0",
+            b"granted 1 1 1 m 28 4", b"granted 1 1 9 m 32 4"])
+
     def test_a_greater_incarnation_ends_the_leases(self):
         with self.client(1, incarnation=5) as first:
             first.lease("m", 4096)

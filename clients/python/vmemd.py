@@ -251,8 +251,11 @@ class Client:
         are answered."""
         with self._lock:
             leases = list(leases)
-            if len({id(it) for it in leases}) < len(leases) or not all(map(self.holds, leases)):
-                raise ValueError("not each of these is held, once")
+            for it in leases:
+                if not self.holds(it):
+                    raise ValueError(f"{it} isn't held")
+            if len(set(map(id, leases))) < len(leases):
+                raise ValueError("one of the leases stands there twice")
             outcomes = {}
             self._queue.extend([self._taken_back(it, outcomes) for it in leases])
             if self._is_open:
@@ -306,7 +309,7 @@ class Client:
             self._give_up(outcomes)
             try:
                 self._run([])
-            except VmemdError:
+            except (Unreachable, OutOfMemory):
                 pass
             raise
         return [outcomes[it] for it in sorted(outcomes)]

@@ -1,4 +1,6 @@
 //! What a client's core says to replies in and out of turn, and each of its refusals.
+mod orders;
+
 use lease_client::{Client, Got, NotGreater, Nothing, SendFault};
 use lease_proto::{Line, Op, Reply};
 use lease_terms::{ClientId, Protocol};
@@ -31,6 +33,7 @@ fn send(rt: &impl Abort, client: &mut Client, line: &str) -> Result<Result<Line,
 
 /// The client sends this very line.
 fn says(rt: &impl Abort, client: &mut Client, line: &str) -> Result<(), Fail> {
+    assert!(rt; client.may_send(op(line)?).is_ok(), "at {line}");
     let told = send(rt, client, line)?;
     assert_eq!(rt; told, Ok(Line::read(line.as_bytes())?), "at {line}");
     Ok(())
@@ -101,14 +104,18 @@ fn begins(
     protocol: Protocol,
     line: &str,
 ) -> Result<(), Fail> {
+    assert!(rt; client.may_restart(incarnation));
     let told = client.restart(incarnation, protocol);
     assert_eq!(rt; told, Ok(Line::read(line.as_bytes())?), "at {line}");
+    assert!(rt; !client.may_restart(incarnation));
     Ok(())
 }
 
 fn is_busy(rt: &impl Abort, client: &mut Client, line: &str) -> Result<(), Fail> {
-    let op = op(line)?;
-    assert_eq!(rt; client.send(op), Err(SendFault::Busy(op)), "at {line}");
+    let may = client.may_send(op(line)?);
+    assert_eq!(rt; may, Err(SendFault::Busy(op(line)?)), "at {line}");
+    let told = client.send(op(line)?);
+    assert_eq!(rt; told, Err(SendFault::Busy(op(line)?)), "at {line}");
     Ok(())
 }
 
@@ -243,143 +250,17 @@ const LAST: [Step<'static>; 6] = [
 ];
 
 #[test]
+fn windows(rt: HostRuntime) {
+    assert_eq!(rt; (Protocol::One.window(), Protocol::Two.window()), (1, 8));
+}
+
+#[test]
 fn pipeline(rt: HostRuntime) -> Result<(), Fail> {
     let mut client = client(rt.alloc(), 1)?;
     take_steps(&rt, &mut client, &BY_TWO)?;
     take_steps(&rt, &mut client, &EIGHT)?;
     take_steps(&rt, &mut client, &REVERSED)?;
     take_steps(&rt, &mut client, &LAST)
-}
-
-/// A client that holds four units at 0.
-const HELD: [Step<'static>; 4] = [
-    Step::Begins(1, Protocol::Two, "hello 1 1 2"),
-    Step::Accepts("welcome 1 1 2"),
-    Step::Says("lease 1 1 1 m 4"),
-    Step::Accepts("granted 1 1 1 m 0 4"),
-];
-
-/// A release and a lease wait, and the service grants the same base again: the replies may come in
-/// either order, whichever was sent first.
-const PAIRS: [[Step<'static>; 6]; 4] = [
-    [
-        Step::Says("release 1 1 2 m 0"),
-        Step::Says("lease 1 1 3 m 4"),
-        Step::Accepts("released 1 1 2"),
-        Step::Holds(&[]),
-        Step::Accepts("granted 1 1 3 m 0 4"),
-        Step::Holds(&[0]),
-    ],
-    [
-        Step::Says("release 1 1 2 m 0"),
-        Step::Says("lease 1 1 3 m 4"),
-        Step::Accepts("granted 1 1 3 m 0 4"),
-        Step::Holds(&[0]),
-        Step::Accepts("released 1 1 2"),
-        Step::Holds(&[0]),
-    ],
-    [
-        Step::Says("lease 1 1 2 m 4"),
-        Step::Says("release 1 1 3 m 0"),
-        Step::Accepts("released 1 1 3"),
-        Step::Holds(&[]),
-        Step::Accepts("granted 1 1 2 m 0 4"),
-        Step::Holds(&[0]),
-    ],
-    [
-        Step::Says("lease 1 1 2 m 4"),
-        Step::Says("release 1 1 3 m 0"),
-        Step::Accepts("granted 1 1 2 m 0 4"),
-        Step::Holds(&[0]),
-        Step::Accepts("released 1 1 3"),
-        Step::Holds(&[0]),
-    ],
-];
-
-/// The base is released, granted anew and released again before the first release is answered.
-const TWO_RELEASES: [Step<'static>; 6] = [
-    Step::Says("release 1 1 2 m 0"),
-    Step::Says("lease 1 1 3 m 4"),
-    Step::Accepts("granted 1 1 3 m 0 4"),
-    Step::Says("release 1 1 4 m 0"),
-    Step::Says("lease 1 1 5 m 4"),
-    Step::Holds(&[]),
-];
-
-/// The replies to both releases and to the lease after them, in each order: what is held is what
-/// the grant gave, and from there on.
-const TRIPLES: [[Step<'static>; 6]; 6] = [
-    [
-        Step::Accepts("released 1 1 2"),
-        Step::Holds(&[]),
-        Step::Accepts("released 1 1 4"),
-        Step::Holds(&[]),
-        Step::Accepts("granted 1 1 5 m 0 4"),
-        Step::Holds(&[0]),
-    ],
-    [
-        Step::Accepts("released 1 1 2"),
-        Step::Holds(&[]),
-        Step::Accepts("granted 1 1 5 m 0 4"),
-        Step::Holds(&[0]),
-        Step::Accepts("released 1 1 4"),
-        Step::Holds(&[0]),
-    ],
-    [
-        Step::Accepts("released 1 1 4"),
-        Step::Holds(&[]),
-        Step::Accepts("released 1 1 2"),
-        Step::Holds(&[]),
-        Step::Accepts("granted 1 1 5 m 0 4"),
-        Step::Holds(&[0]),
-    ],
-    [
-        Step::Accepts("released 1 1 4"),
-        Step::Holds(&[]),
-        Step::Accepts("granted 1 1 5 m 0 4"),
-        Step::Holds(&[0]),
-        Step::Accepts("released 1 1 2"),
-        Step::Holds(&[0]),
-    ],
-    [
-        Step::Accepts("granted 1 1 5 m 0 4"),
-        Step::Holds(&[0]),
-        Step::Accepts("released 1 1 2"),
-        Step::Holds(&[0]),
-        Step::Accepts("released 1 1 4"),
-        Step::Holds(&[0]),
-    ],
-    [
-        Step::Accepts("granted 1 1 5 m 0 4"),
-        Step::Holds(&[0]),
-        Step::Accepts("released 1 1 4"),
-        Step::Holds(&[0]),
-        Step::Accepts("released 1 1 2"),
-        Step::Holds(&[0]),
-    ],
-];
-
-#[test]
-fn each_order_of_a_release_and_a_lease(rt: HostRuntime) -> Result<(), Fail> {
-    for row in PAIRS {
-        let mut client = client(rt.alloc(), 1)?;
-        take_steps(&rt, &mut client, &HELD)?;
-        take_steps(&rt, &mut client, &row)?;
-        assert_eq!(rt; client.resend(), Err(Nothing));
-    }
-    Ok(())
-}
-
-#[test]
-fn each_order_of_two_releases_and_a_lease(rt: HostRuntime) -> Result<(), Fail> {
-    for row in TRIPLES {
-        let mut client = client(rt.alloc(), 1)?;
-        take_steps(&rt, &mut client, &HELD)?;
-        take_steps(&rt, &mut client, &TWO_RELEASES)?;
-        take_steps(&rt, &mut client, &row)?;
-        assert_eq!(rt; client.resend(), Err(Nothing));
-    }
-    Ok(())
 }
 
 #[test]

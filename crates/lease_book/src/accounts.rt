@@ -148,7 +148,7 @@ impl<D: Deed> Accounts<D> {
         ensures accounts { self.new ≡ update_at self.old index (with_settled result) }
     {
         let kept = Kept::new(id.number, reply, terms);
-        self.clients[index].add(kept);
+        self.clients[index].add(&kept);
         kept
     }
 

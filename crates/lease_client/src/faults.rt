@@ -8,9 +8,9 @@ use thiserror::Error;
 #[error("not a greater incarnation")]
 pub struct NotGreater;
 
-/// No line waits for its reply.
+/// No line waits for its reply, or none with the number that was named.
 #[derive(Clone, Copy, Debug, PartialEq, Eq, Error)]
-#[error("nothing is outstanding")]
+#[error("no such line is outstanding")]
 pub struct Nothing;
 
 /// Why an operation isn't sent; it is handed back, and the client is as before. The reasons stand
@@ -20,8 +20,7 @@ pub enum SendFault {
     /// No `welcome` has come yet to the client's hello, or an `old` came after it.
     #[error("not open")]
     NotOpen(Op),
-    /// As many requests wait for their replies as the protocol allows, counted from the least number
-    /// that waits.
+    /// The next number is a window or more above the least that waits for its reply.
     #[error("busy")]
     Busy(Op),
     /// A release of what the client doesn't hold.

@@ -5,7 +5,7 @@ use Rattle.lease_terms.specs.Requests.{RequestId}
 use Rattle.lease_proto.specs.declared.lines.Line.TheVariants as lines
 use Rattle.lease_proto.specs.declared.lines.Op.{Op}
 use Rattle.lease_book.specs.Replies.{greatest}
-use Rattle.lease_book.specs.Entry.{Entry, Settlement, Settled, Swept, Grant, Return, Refuse}
+use Rattle.lease_book.specs.Entry.{Entry, Settlement, Hello, Settled, Swept, Grant, Return, Refuse}
 use Rattle.lease_book.specs.Account.{Lease, is_lease, without_first, leases_after, lease_of}
 use Rattle.lease_book.specs.History.{incarnation, last_in, outcome_of, leases_of}
 use Rattle.lease_book.proofs.LawProofs.{settled_for_incarnation}
@@ -16,6 +16,7 @@ use Rattle.lease_history.specs.Known.{weight_in, one_at, ending_at, weight_left,
 use Rattle.lease_history.specs.Laws.{HellosKeepKnown, SweepsKeepKnown, SettlementsKeepKnown}
 use Rattle.lease_history.proofs.Sums.{sum_push, sum_le, without_keeps}
 use Rattle.lease_history.proofs.PlaceLemmas.{in_other, left_most, left_more, lease_keys}
+use Rattle.lease_history.proofs.ProtocolLemmas.{first_stays}
 use Rattle.lease_history.proofs.LineLemmas.{outcome_others, due_others, ending_others}
 use Rattle.lease_history.proofs.SettledLemmas.{own_settled}
 
@@ -24,6 +25,7 @@ hellos_keep_known names es c d i p know le = record {
   sound = know.sound;
   behind = by (c.id == d) refl;
   before = know.before;
+  protocol = λ opened. first_stays (Hello d i p) es c.id c.incarnation c.protocol (know.protocol opened);
   waits = know.waits;
   once = know.once;
   ending = know.ending;
@@ -45,6 +47,7 @@ sweeps_keep_known names es c d i a b know older = record {
   sound = know.sound;
   behind = know.behind;
   before = know.before;
+  protocol = know.protocol;
   waits = know.waits;
   once = λ arena base. omega (arith, know.once arena base, leased (one_at arena base));
   ending = λ arena base. omega (arith, know.ending arena base, leased (one_at arena base));
@@ -79,6 +82,7 @@ other_settled names es c id s know other = record {
   sound = know.sound;
   behind = know.behind;
   before = omega (arith, know.before, last);
+  protocol = know.protocol;
   waits = λ mine client incarnation from below none. know.waits mine client incarnation from below (sym (outcome_others es id s c.id c.incarnation c.protocol c.next c.is_open c.outstanding other own mine client incarnation) ∙ none);
   once = λ arena base. omega (arith, know.once arena base, leased (one_at arena base));
   ending = λ arena base. omega (arith, know.ending arena base, ends arena base, leased (one_at arena base));
@@ -135,6 +139,6 @@ settlements_keep_known names es c id op s know orderly is sent apart = by (cases
       client = client;
       incarnation = inc;
       waits = waits_now names es c id op know (sent (sym client)) client inc orderly.0.0.number.0 orderly.2;
-    }) is apart
+    }) is (apart (sym client))
     by (inl client) (inr other) = other_settled names es c id s know (λ both. other both.1)
     by (inr other) inc = other_settled names es c id s know (λ both. other both.0)

@@ -20,6 +20,7 @@ clients_begin_known names id is = record {
   };
   behind = omega arith;
   before = omega arith;
+  protocol = λ never. absurd (false≢true never);
   waits = λ own client incarnation from below none. absurd (omega (arith, from, below));
   once = λ arena base. omega arith;
   ending = λ arena base. omega arith;

@@ -3,6 +3,7 @@ use Rattle.std.proofs.Common.{◌≡◌, ◌≢◌, ℕ, ◌+◌, ◌<◌, ◌�
 use Rattle.std.proofs.lemmas.Bool.{eqb-true, eqb-false, ne_eqb}
 use Rattle.std.proofs.lemmas.List.Sums.{sum_by-cons}
 use Rattle.lease_terms.specs.Requests.{RequestId}
+use Rattle.lease_terms.specs.Protocols.{window_of}
 use Rattle.lease_terms.specs.declared.protocols.Protocol.{Protocol}
 use Rattle.lease_proto.specs.declared.lines.Line.{Line}
 use Rattle.lease_proto.specs.declared.lines.Line.TheVariants as lines
@@ -13,10 +14,36 @@ use Rattle.lease_book.specs.Entry.{Entry, Settlement, Settled}
 use Rattle.lease_book.specs.History.{outcome_of}
 use Rattle.lease_book.proofs.LawProofs.{outcomes_stay}
 use Rattle.lease_client.specs.declared.held.HeldSegment.{HeldSegment}
-use Rattle.lease_client.specs.ClientState.{is_numbered, line_at, AreRequests, AreOwn}
+use Rattle.lease_client.specs.ClientState.{ClientState, IsSoundClient, is_numbered, line_at, AreRequests, AreOwn}
+use Rattle.lease_client.proofs.LawProofs.{found_own}
 use Rattle.lease_history.specs.Known.{weight_kept, weight_due, one_ending, ending_at}
 use Rattle.lease_history.proofs.Sums.{sum_one}
 use Rattle.lease_history.proofs.PlaceLemmas.{ending_same}
+
+-- what waits has at least the least number
+not_below : (c i from next n : ℕ) (ls : List Line) (line : Line) → AreRequests c i from next ls → line_at n ls ≡ Some line → from ≤ n
+not_below c i from next n [] line are waits = absurd cc
+not_below c i from next n (lines.Hello h ∷ ls) line are waits = absurd are
+not_below c i from next n (lines.Request id op ∷ ls) line are waits = by (nat_eq n id.number) refl waits (not_below c i (id.number + 1) next n ls line are.4)
+  where
+    by : (b : Bool) → nat_eq n id.number ≡ b → cond b (Some (lines.Request id op)) (line_at n ls) ≡ Some line → (line_at n ls ≡ Some line → id.number + 1 ≤ n) → from ≤ n
+    by true is waits rest = omega (arith, eqb-true n id.number is, are.2)
+    by false is waits rest = omega (arith, rest waits, are.2)
+
+-- where a request waits, all that wait are requests of an open client, in the window
+window_at : (c i : ℕ) (p : Protocol) (next n : ℕ) (o : Bool) (ls : List Line) (id : RequestId) (op : Op) → AreOwn c i p next o ls
+    → line_at n ls ≡ Some (lines.Request id op) → (o ≡ true) × (next ≤ n + window_of p) × AreRequests c i 1 next ls
+window_at c i p next n o [] id op own waits = absurd cc
+window_at c i p next n o (lines.Hello h ∷ ls) id op own waits =
+    let never : None ≡ Some (lines.Request id op) = sym (ap (line_at n) own.5) ∙ waits in
+    absurd cc
+window_at c i p next n o (lines.Request first asks ∷ ls) id op own waits = (own.0, omega (arith, own.2, least), own.1)
+  where
+    from_first : AreRequests c i first.number next (lines.Request first asks ∷ ls)
+    from_first = (own.1.0, own.1.1, omega arith, own.1.3, own.1.4)
+
+    least : first.number ≤ n
+    least = not_below c i first.number next n (lines.Request first asks ∷ ls) (lines.Request id op) from_first waits
 
 -- where a request waits, all that wait are requests
 pub requests_of : (c i : ℕ) (p : Protocol) (next n : ℕ) (o : Bool) (ls : List Line) (id : RequestId) (op : Op) → AreOwn c i p next o ls
@@ -26,6 +53,31 @@ requests_of c i p next n o (lines.Hello h ∷ ls) id op own waits =
     let never : None ≡ Some (lines.Request id op) = sym (ap (line_at n) own.5) ∙ waits in
     absurd cc
 requests_of c i p next n o (lines.Request first asks ∷ ls) id op own waits = own.1
+
+-- a request of an open client that waits, in the window below the next number
+pub record IsOneOf (c : ClientState) (n : ℕ) (id : RequestId) : Type 0 where
+  pub opened : c.is_open ≡ true
+  pub client : id.client ≡ c.id
+  pub incarnation : id.incarnation ≡ c.incarnation
+  pub number : n ≡ id.number
+  pub below : n < c.next
+  pub near : c.next ≤ n + window_of c.protocol
+
+pub one_of : (c : ClientState) (n : ℕ) (id : RequestId) (op : Op) → IsSoundClient c → line_at n c.outstanding ≡ Some (lines.Request id op) → IsOneOf c n id
+one_of c n id op is waits = record {
+  opened = whole.0;
+  client = own.0;
+  incarnation = own.1;
+  number = own.2;
+  below = own.3;
+  near = whole.1;
+}
+  where
+    whole : (c.is_open ≡ true) × (c.next ≤ n + window_of c.protocol) × AreRequests c.id c.incarnation 1 c.next c.outstanding
+    whole = window_at c.id c.incarnation c.protocol c.next n c.is_open c.outstanding id op is.outstanding waits
+
+    own : (id.client ≡ c.id) × (id.incarnation ≡ c.incarnation) × (n ≡ id.number) × (n < c.next)
+    own = found_own c.id c.incarnation 1 c.next n c.outstanding id op whole.2 waits
 
 -- the next number waits nowhere
 pub none_next : (c i from next n : ℕ) (ls : List Line) → next ≤ n → AreRequests c i from next ls → line_at n ls ≡ None

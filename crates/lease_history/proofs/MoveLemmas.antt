@@ -1,6 +1,6 @@
 -- What a client sends keeps it known.
 use Rattle.std.proofs.Common.{◌≡◌, inl, inr, ℕ, ◌+◌, ◌<◌, ◌≤◌, Bool, true, false, not, cond, List, [], ◌∷◌, ◌++◌, Option, Some, None, sum_by, refl, sym, ap, ◌∙◌, arith, eq-eqb}
-use Rattle.std.proofs.lemmas.Bool.{both_ways, cases_lt, cond-true, cond-false}
+use Rattle.std.proofs.lemmas.Bool.{false≢true, both_ways, cases_lt, cond-true, cond-false}
 use Rattle.lease_terms.specs.Requests.{RequestId}
 use Rattle.lease_terms.specs.Protocols.{window_of}
 use Rattle.lease_terms.specs.declared.protocols.Protocol.{Protocol}
@@ -20,8 +20,7 @@ use Rattle.lease_client.specs.declared.held.HeldSegment.{HeldSegment}
 use Rattle.lease_client.specs.ClientState.{ClientState, is_at, holds_at, is_numbered, line_at, AreRequests}
 use Rattle.lease_client.specs.Calls.{may_restart, after_restart, is_of_held, is_full, refusal, after_send, next_id, next_request, held_after}
 use Rattle.lease_client.specs.Runs.{Restart, Send}
-use Rattle.lease_client.proofs.LawProofs.{moves_keep_sound, moves_in_turn}
-use Rattle.lease_client.proofs.WaitingLemmas.{own_requests, found_push}
+use Rattle.lease_client.proofs.LawProofs.{moves_keep_sound, moves_in_turn, own_requests, found_push}
 use Rattle.lease_history.specs.Known.{told_segment, weight_in, weight_told, weight_kept, weight_due, one_at, leased_at, one_ending, ending_at, weight_left, IsKnown}
 use Rattle.lease_history.specs.Laws.{MovesKeepKnown}
 use Rattle.lease_history.proofs.Sums.{sum_push, sum_le, sum_where, sum_zero, sum_none, none_or_some, find_last}
@@ -39,6 +38,7 @@ known_restarted names es c i p orderly know may =
       sound = moves_keep_sound (Restart i p) c (after_restart i p c) know.sound (may, refl);
       behind = omega arith;
       before = omega arith;
+      protocol = λ never. absurd (false≢true never);
       waits = λ id client own from below unsettled. absurd (omega (arith, from, below));
       once = λ arena base.
           let leased = sum_none (λ (l : Lease). l.incarnation ≤ incarnation c.id es) (weight_in names i (one_at arena base))
@@ -211,7 +211,7 @@ module _ (names : ℕ → List ℕ) (es : List Entry) (c : ClientState) (know : 
 known_sent : (names : ℕ → List ℕ) (es : List Entry) (c : ClientState) (op : Op) → IsKnown names es c
     → refusal op c ≡ None → IsKnown names es (after_send op c)
 known_sent names es c op know may =
-    let turn = moves_in_turn.send op c may in
+    let turn = moves_in_turn.send op c know.sound may in
     let before : last_in c.id c.incarnation es < c.next = know.before in
     let none : outcome_of (next_id c) es ≡ None = numbers_settled_once.unsettled es (next_id c) before in
     let holds : is_of_held op c.held ≡ true = of_held c.is_open (is_full (window_of c.protocol) c.next c.outstanding) (is_of_held op c.held) _ _ _ _ _ may in
@@ -220,6 +220,7 @@ known_sent names es c op know may =
       sound = moves_keep_sound (Send op) c (after_send op c) know.sound (may, refl);
       behind = know.behind;
       before = omega arith;
+      protocol = know.protocol;
       waits = waits_sent names es c op know are;
       once = know.once;
       ending = ending_sent names es c know op holds;

@@ -2,23 +2,26 @@
 use Rattle.std.proofs.Common.{◌≡◌, inl, inr, ℕ, ◌+◌, ◌<◌, ◌≤◌, ◌==◌, ◌&&◌, Bool, true, false, not, cond, List, [], ◌∷◌, ◌++◌, Some, None, sum_by, nat_lt, refl, sym, ap, subst, ◌∙◌, arith}
 use Rattle.std.proofs.lemmas.Bool.{false≢true, and_parts, eqb-true, ltb-true, cond-true, cond_both, or_cases, both_ways, or_from, false_from_ne_true, not_from_false}
 use Rattle.lease_terms.specs.Requests.{RequestId}
+use Rattle.lease_terms.specs.declared.protocols.Protocol.{Protocol}
+use Rattle.lease_terms.specs.declared.protocols.Protocol.TheVariants.{One, Two}
 use Rattle.lease_proto.specs.declared.lines.Line.{Line}
 use Rattle.lease_proto.specs.declared.lines.Line.TheVariants as lines
 use Rattle.lease_proto.specs.declared.lines.Op.{Op}
 use Rattle.lease_proto.specs.declared.lines.Op.TheVariants as ops
 use Rattle.lease_proto.specs.declared.replies.Granted.{Granted}
 use Rattle.lease_proto.specs.declared.replies.Old.{Old}
+use Rattle.lease_proto.specs.declared.replies.Welcome.{Welcome}
 use Rattle.lease_proto.specs.declared.replies.Reply.{Reply}
 use Rattle.lease_proto.specs.declared.replies.Reply.TheVariants as replies
 use Rattle.lease_book.specs.declared.receipts.KeptReply.{KeptReply}
 use Rattle.lease_book.specs.declared.receipts.KeptReply.TheVariants as kept
 use Rattle.lease_book.specs.Receipts.{Kept}
 use Rattle.lease_book.specs.Entry.{Entry, Hello, Settled, Swept}
-use Rattle.lease_book.specs.History.{incarnation, outcome_of, leases_of, AreOrderly}
+use Rattle.lease_book.specs.History.{incarnation, first_protocol, outcome_of, leases_of, AreOrderly}
 use Rattle.lease_book.proofs.LawProofs.{outcomes_stay}
 use Rattle.lease_client.specs.declared.held.HeldSegment.{HeldSegment}
-use Rattle.lease_client.specs.Answers.{is_same_request, answers, answers_one, unanswered}
-use Rattle.lease_client.specs.ClientState.{ClientState, IsSoundClient, is_numbered, line_at}
+use Rattle.lease_client.specs.Answers.{is_same_request, is_same_protocol, answers, answers_one, unanswered}
+use Rattle.lease_client.specs.ClientState.{ClientState, IsSoundClient, is_numbered, line_at, AreRequests, AreOwn}
 use Rattle.lease_client.specs.Replies.{is_ahead, accepts, after_accept, after_reply, segment_of}
 use Rattle.lease_client.specs.Runs.{Get}
 use Rattle.lease_client.proofs.LawProofs.{moves_keep_sound}
@@ -27,6 +30,7 @@ use Rattle.lease_history.specs.Told.{reply_to, IsOutcome, MayTell}
 use Rattle.lease_history.specs.Laws.{RepliesKeepKnown, ToldStaysTold, RepliesAgree}
 use Rattle.lease_history.proofs.Sums.{sum_push, sum_le, filter_le, filter_keeps, filter_gives, find_kept}
 use Rattle.lease_history.proofs.PlaceLemmas.{settled_ends, left_more}
+use Rattle.lease_history.proofs.ProtocolLemmas.{first_stays}
 
 -- What may be told stays so.
 
@@ -50,7 +54,7 @@ told_stays_told names e es (replies.Granted g) orderly may = outcome_stays names
 told_stays_told names e es (replies.Released id) orderly may = outcome_stays names e es id (replies.Released id) orderly may
 told_stays_told names e es (replies.Refused r) orderly may = outcome_stays names e es r.id (replies.Refused r) orderly may
 told_stays_told names e es (replies.Old o) orderly may = omega (arith, may, incarnation_grows o.client e es orderly)
-told_stays_told names e es (replies.Welcome w) orderly may = tt
+told_stays_told names e es (replies.Welcome w) orderly may = first_stays e es w.client w.incarnation w.protocol may
 told_stays_told names e es (replies.Stale t) orderly may = tt
 told_stays_told names e es (replies.Gap t) orderly may = tt
 told_stays_told names e es (replies.Again a) orderly may = tt
@@ -79,14 +83,16 @@ no_end es arena base (lines.Request id op) is = settled_ends es arena base id op
 -- some settled lines don't wait any more, and what was due for them is held at most
 known_ends : (names : ℕ → List ℕ) (es : List Entry) (c : ClientState) (reply : Reply) (opened : Bool) (held : List HeldSegment) → IsKnown names es c
     → IsSoundClient (record c { outstanding = unanswered reply c.outstanding; is_open = opened; held = held })
+    → (opened ≡ true → first_protocol c.id c.incarnation es ≡ Some c.protocol)
     → ((line : Line) → answers reply line ≡ true → IsSettled es line)
     → ((f : HeldSegment → ℕ) → sum_by f held + sum_by (weight_due names f es) (unanswered reply c.outstanding)
     ≤ sum_by f c.held + sum_by (weight_due names f es) c.outstanding)
     → IsKnown names es (record c { outstanding = unanswered reply c.outstanding; is_open = opened; held = held })
-known_ends names es c reply opened held know sound settled le = record {
+known_ends names es c reply opened held know sound stands settled le = record {
   sound = sound;
   behind = know.behind;
   before = know.before;
+  protocol = stands;
   waits = waits;
   once = know.once;
   ending = λ arena base. omega (arith, know.ending arena base, ends arena base);
@@ -130,6 +136,38 @@ told_weight names f g (kept.Refused why) is = absurd cc
 told_outcome : (names : ℕ → List ℕ) (es : List Entry) (named id : RequestId) (reply : Reply) → is_same_request named id ≡ true
     → (told : IsOutcome names es named reply) → outcome_of id es ≡ Some told.0
 told_outcome names es named id reply is told = ap (λ (i : RequestId). outcome_of i es) (sym (same_request named id is)) ∙ told.1
+
+-- a `welcome` that is accepted names the protocol that the client asks for
+same_protocol : (p q : Protocol) → is_same_protocol p q ≡ true → p ≡ q
+same_protocol One One is = refl
+same_protocol Two Two is = refl
+same_protocol One Two is = absurd (false≢true is)
+same_protocol Two One is = absurd (false≢true is)
+
+none_welcomed : (w : Welcome) (c i from next : ℕ) (ls : List Line) → AreRequests c i from next ls → answers_one (replies.Welcome w) ls ≡ false
+none_welcomed w c i from next [] are = refl
+none_welcomed w c i from next (lines.Hello h ∷ ls) are = absurd are
+none_welcomed w c i from next (lines.Request id op ∷ ls) are = none_welcomed w c i (id.number + 1) next ls are.4
+
+welcomed_own : (w : Welcome) (c i : ℕ) (p : Protocol) (next : ℕ) (o : Bool) (ls : List Line) → AreOwn c i p next o ls → answers_one (replies.Welcome w) ls ≡ true
+    → w ≡ record { client = c; incarnation = i; protocol = p }
+welcomed_own w c i p next o [] own one = absurd (false≢true one)
+welcomed_own w c i p next o (lines.Request id op ∷ ls) own one = absurd (both_ways (answers_one (replies.Welcome w) ls) (none_welcomed w c i 1 next (lines.Request id op ∷ ls) own.1) one)
+welcomed_own w c i p next o (lines.Hello h ∷ ls) own one =
+    let none : answers_one (replies.Welcome w) ls ≡ false = ap (answers_one (replies.Welcome w)) own.5 in
+    elim (or_cases (answers (replies.Welcome w) (lines.Hello h)) (answers_one (replies.Welcome w) ls) one) as (λ _. w ≡ record { client = c; incarnation = i; protocol = p }) [
+      | inr later ↦ absurd (both_ways (answers_one (replies.Welcome w) ls) none later)
+      | inl here ↦ (let parts = and_parts (w.client == h.client) ((w.incarnation == h.incarnation) && is_same_protocol w.protocol h.protocol) here in
+          let rest = and_parts (w.incarnation == h.incarnation) (is_same_protocol w.protocol h.protocol) parts.1 in
+          ap (λ (n : ℕ). record w { client = n }) (eqb-true w.client h.client parts.0 ∙ own.0)
+          ∙ ap (λ (n : ℕ). record w { client = c; incarnation = n }) (eqb-true w.incarnation h.incarnation rest.0 ∙ own.1)
+          ∙ ap (λ (q : Protocol). record { client = c; incarnation = i; protocol = q }) (same_protocol w.protocol h.protocol rest.1 ∙ own.6))
+    ]
+
+welcomed_so : (es : List Entry) (c : ClientState) (w : Welcome) → IsSoundClient c → first_protocol w.client w.incarnation es ≡ Some w.protocol
+    → answers_one (replies.Welcome w) c.outstanding ≡ true → first_protocol c.id c.incarnation es ≡ Some c.protocol
+welcomed_so es c w is told one =
+    subst (λ (x : Welcome). first_protocol x.client x.incarnation es ≡ Some x.protocol) (welcomed_own w c.id c.incarnation c.protocol c.next c.is_open c.outstanding is.outstanding one) told
 
 -- Which lines each reply ends.
 
@@ -181,20 +219,21 @@ old_is_no_news names es c o know may ahead =
 known_accepted : (names : ℕ → List ℕ) (es : List Entry) (c : ClientState) (reply : Reply) → IsKnown names es c → MayTell names es reply
     → accepts reply c ≡ true → IsKnown names es (after_accept reply c)
 known_accepted names es c (replies.Welcome w) know may accept =
-    known_ends names es c (replies.Welcome w) true c.held know (sound_accepted (replies.Welcome w) c know.sound accept) (welcome_ends es w)
+    known_ends names es c (replies.Welcome w) true c.held know (sound_accepted (replies.Welcome w) c know.sound accept)
+    (λ _. welcomed_so es c w know.sound may accept) (welcome_ends es w)
     (λ f. omega (arith, filter_le (weight_due names f es) (λ line. not (answers (replies.Welcome w) line)) c.outstanding))
 known_accepted names es c (replies.Granted g) know may accept =
-    known_ends names es c (replies.Granted g) c.is_open (c.held ++ segment_of g ∷ []) know (sound_accepted (replies.Granted g) c know.sound accept) (granted_ends names es g may)
+    known_ends names es c (replies.Granted g) c.is_open (c.held ++ segment_of g ∷ []) know (sound_accepted (replies.Granted g) c know.sound accept) know.protocol (granted_ends names es g may)
     (λ f. omega (
       arith,
       sum_push f c.held (segment_of g),
       filter_gives (weight_due names f es) (f (segment_of g)) (λ line. answers (replies.Granted g) line) c.outstanding (granted_due names es g may f) accept,
     ))
 known_accepted names es c (replies.Released id) know may accept =
-    known_ends names es c (replies.Released id) c.is_open c.held know (sound_accepted (replies.Released id) c know.sound accept) (released_ends names es id may)
+    known_ends names es c (replies.Released id) c.is_open c.held know (sound_accepted (replies.Released id) c know.sound accept) know.protocol (released_ends names es id may)
     (λ f. omega (arith, filter_le (weight_due names f es) (λ line. not (answers (replies.Released id) line)) c.outstanding))
 known_accepted names es c (replies.Refused r) know may accept =
-    known_ends names es c (replies.Refused r) c.is_open c.held know (sound_accepted (replies.Refused r) c know.sound accept) (refused_ends names es r may)
+    known_ends names es c (replies.Refused r) c.is_open c.held know (sound_accepted (replies.Refused r) c know.sound accept) know.protocol (refused_ends names es r may)
     (λ f. omega (arith, filter_le (weight_due names f es) (λ line. not (answers (replies.Refused r) line)) c.outstanding))
 known_accepted names es c (replies.Old o) know may accept =
     elim (or_cases (is_ahead (replies.Old o) c) (answers_one (replies.Old o) c.outstanding) accept) as (λ _. IsKnown names es (after_accept (replies.Old o) c)) [

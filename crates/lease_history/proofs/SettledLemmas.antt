@@ -12,11 +12,10 @@ use Rattle.lease_book.specs.Replies.{greatest, larger}
 use Rattle.lease_book.specs.Entry.{Entry, Settlement, Settled, Grant, Return, Refuse, kept_settlement}
 use Rattle.lease_book.specs.Account.{Lease, is_lease, without_first, leases_after, lease_of}
 use Rattle.lease_book.specs.History.{last_in, outcome_of, leases_of}
-use Rattle.lease_book.proofs.LawProofs.{settled_for_incarnation, outcomes_stay}
-use Rattle.lease_book.proofs.ReplyLemmas.{larger_below}
+use Rattle.lease_book.proofs.LawProofs.{settled_for_incarnation, outcomes_stay, larger_below}
 use Rattle.lease_client.specs.declared.held.HeldSegment.{HeldSegment}
 use Rattle.lease_client.specs.ClientState.{ClientState, is_at, line_at, AreRequests}
-use Rattle.lease_client.proofs.WaitingLemmas.{found_own}
+use Rattle.lease_client.proofs.LawProofs.{found_own}
 use Rattle.lease_history.specs.Known.{told_segment, weight_in, weight_kept, weight_due, one_at, leased_at, one_ending, ending_at, weight_left, IsKnown, IsFor, IsApart}
 use Rattle.lease_history.proofs.Sums.{sum_push, sum_le, without_keeps, without_less, without_most}
 use Rattle.lease_history.proofs.PlaceLemmas.{same_place, at_place, one_here, none_here, ending_here, settled_ends, in_most, in_own, left_whole, left_more, ending_there, left_ended, lease_keys}
@@ -97,6 +96,7 @@ module _ (names : ℕ → List ℕ) (es : List Entry) (c : ClientState) (id : Re
     sound = request.known.sound;
     behind = request.known.behind;
     before = before_after;
+    protocol = request.known.protocol;
     waits = waits_after;
     once = λ arena base. subst (λ (ls : List Lease). leased_at names c.incarnation arena base ls ≤ 1) (sym is) (once arena base);
     ending = λ arena base. subst (λ (ls : List Lease). ending_at after arena base c.outstanding ≤ leased_at names c.incarnation arena base ls) (sym is) (ending arena base);

@@ -1,6 +1,6 @@
 -- What the entries of a book and a client know of each other.
-use Rattle.std.specs.Prelude.{◌≡◌, ℕ, ◌+◌, ◌<◌, ◌≤◌, ◌==◌, ◌&&◌, List, Option, Some, None, is_none}
-use Rattle.std.specs.Prelude.{if◌then◌else◌, sum_by}
+use Rattle.std.specs.Prelude.{◌≡◌, ◌⊎◌, ℕ, ◌+◌, ◌<◌, ◌≤◌, ◌==◌, ◌&&◌, true, List, Option, Some}
+use Rattle.std.specs.Prelude.{None, is_none, if◌then◌else◌, sum_by}
 use Rattle.std.specs.Str.{bytes_eq}
 use Rattle.deed_core.specs.Tag.{Tag}
 use Rattle.lease_terms.specs.Requests.{RequestId}
@@ -12,8 +12,10 @@ use Rattle.lease_book.specs.declared.receipts.KeptReply.{KeptReply}
 use Rattle.lease_book.specs.declared.receipts.KeptReply.TheVariants as kept
 use Rattle.lease_book.specs.Receipts.{Kept}
 use Rattle.lease_book.specs.Entry.{Entry, Settlement, Grant, Return, Refuse}
-use Rattle.lease_book.specs.Account.{Lease}
-use Rattle.lease_book.specs.History.{incarnation, last_in, outcome_of, leases_of}
+use Rattle.lease_book.specs.Replies.{kept_at}
+use Rattle.lease_book.specs.Account.{Lease, Account}
+use Rattle.lease_book.specs.Answers.{IsNew, IsStale, IsGap}
+use Rattle.lease_book.specs.History.{incarnation, last_in, first_protocol, outcome_of, leases_of}
 use Rattle.lease_client.specs.declared.held.HeldSegment.{HeldSegment}
 use Rattle.lease_client.specs.ClientState.{ClientState, IsSoundClient, is_at, line_at}
 
@@ -72,14 +74,16 @@ weight_left names i entries waiting f l =
     then weight_in names i f l else 0
 
 -- The client is ahead of the book, by its own incarnation or by the numbers that it waits for: each
--- number that it used and that isn't settled waits. No two leases of its incarnation stand at one
--- base of one arena; each release that waits and isn't settled has such a lease of its own; and
--- however segments are weighed, what the client holds and is due weighs at most what the others of
--- these leases weigh.
+-- number that it used and that isn't settled waits. While it is open, its protocol is that of the
+-- first hello of its incarnation. No two leases of its incarnation stand at one base of one arena;
+-- each release that waits and isn't settled has such a lease of its own; and however segments are
+-- weighed, what the client holds and is due weighs at most what the others of these leases weigh.
 pub record IsKnown (names : ℕ → List ℕ) (entries : List Entry) (c : ClientState) : Type 0 where
   pub sound : IsSoundClient c
   pub behind : incarnation c.id entries ≤ c.incarnation
   pub before : last_in c.id c.incarnation entries < c.next
+  pub protocol : c.is_open ≡ true
+      → first_protocol c.id c.incarnation entries ≡ Some c.protocol
   pub waits : (id : RequestId) → id.client ≡ c.id → id.incarnation ≡ c.incarnation
       → 1 ≤ id.number → id.number < c.next → outcome_of id entries ≡ None
       → (op : Op) × (line_at id.number c.outstanding ≡ Some (lines.Request id op))
@@ -91,6 +95,14 @@ pub record IsKnown (names : ℕ → List ℕ) (entries : List Entry) (c : Client
   pub held : (f : HeldSegment → ℕ)
       → sum_by f c.held + sum_by (weight_due names f entries) c.outstanding
       ≤ sum_by (weight_left names c.incarnation entries c.outstanding f) (leases_of c.id entries)
+
+-- The request's number is new to its client's book, or its reply is kept, and so the answer to it
+-- isn't `old`, `stale` or `gap`.
+pub record IsAnswerable (a : Account) (id : RequestId) : Type 0 where
+  pub current : id.incarnation ≡ a.incarnation
+  pub answered : IsNew a id ⊎ ((k : Kept) × (kept_at id.number a.kept ≡ Some k))
+  pub stale : (greatest : ℕ) → IsStale a id greatest → ⊥
+  pub gap : (low : ℕ) → IsGap a id low → ⊥
 
 -- a request is settled for what it asks for
 abbrev pub IsFor : (ℕ → List ℕ) → Op → Settlement → Type 0

@@ -1,8 +1,7 @@
 -- A request is settled once, whatever lines come.
-use Rattle.std.proofs.Common.{◌≡◌, ℕ, ◌+◌, ◌<◌, sym, subst, ap, ◌∙◌, inl, inr, List, [], ◌∷◌, ◌++◌, Option, Some, None, Ok, Err, Result, arith}
+use Rattle.std.proofs.Common.{◌≡◌, ℕ, sym, subst, ap, ◌∙◌, inl, inr, List, [], ◌∷◌, ◌++◌, Option, Some, None, Ok, Err, Result}
 use Rattle.std.proofs.lemmas.List.{append_assoc}
 use Rattle.arena_tree.specs.declared.trees.TreeArena.{TreeArena}
-use Rattle.lease_terms.specs.Requests.{RequestId}
 use Rattle.lease_proto.specs.declared.faults.LineFault.{LineFault}
 use Rattle.lease_proto.specs.declared.lines.Op.TheVariants as ops
 use Rattle.lease_proto.specs.declared.operators.ServedLine.{ServedLine}
@@ -23,7 +22,7 @@ use Rattle.lease_machine.proofs.Homes.{setup_stays}
 use Rattle.lease_machine.proofs.Entering.{Comes, still, further, answer_comes}
 use Rattle.lease_machine.proofs.Fitting.{grants_fit}
 use Rattle.lease_machine.proofs.Numbers.{kept_outcome, new_outcome}
-use Rattle.lease_machine.proofs.Repeats.{IsKeptOf, history_of, known_kept, request_kept, request_answer, kept_or}
+use Rattle.lease_machine.proofs.Repeats.{history_of, known_kept, request_kept, request_answer, kept_or}
 
 -- whatever history gives the old book, that and some entries more give the new one
 abbrev Grows : BookState → BookState → Type 0

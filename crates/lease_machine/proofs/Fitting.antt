@@ -17,7 +17,6 @@ use Rattle.lease_proto.specs.declared.replies.Granted.{Granted}
 use Rattle.lease_proto.specs.Requests.{demand_of}
 use Rattle.lease_book.specs.Entry.{Entry, Settlement, Settled, Grant, Return, Refuse, kept_settlement}
 use Rattle.lease_book.specs.Receipts.{Kept, IsEarned}
-use Rattle.lease_book.specs.Account.{Account}
 use Rattle.lease_book.specs.History.{outcome_of}
 use Rattle.lease_book.specs.BookState.{account_in}
 use Rattle.lease_book.specs.Answers.{IsNew}
@@ -39,7 +38,7 @@ pub not_known : (d : Picture) (id : RequestId) (r : Reply) → IsNew (account_in
 not_known d id r fresh known = by r known
   where
     at : (x : Reply) → IsKeptReply (arena_named d.tree) d.book id x → ⊥
-    at x known = (let e : None ≡ Some (record { number = id.number; reply = known.0.reply; terms = known.0.terms }) = sym fresh.unsettled ∙ known.1.kept in cc)
+    at x known = cc (sym fresh.unsettled ∙ known.1.kept)
 
     by : (x : Reply) → IsKnownReply (arena_named d.tree) d.book id x → ⊥
     by (reply.Old o) known = known.1.other fresh.current

@@ -339,7 +339,7 @@ module _ (g : Granted) (old new : Picture) (is : IsPicture old) (line text : Lis
 
   hello_has : (h : HelloLine) → served_of line ≡ Ok (served.Client (lines.Hello h)) → (r : Reply) → text ≡ reply_bytes r → HelloMoves h old r new → Has new
   hello_has h read (reply.Welcome w) said moves = become_has h.client (filter (stays h.incarnation) (leases_in old h.client)) moves.1 (λ own. elim (cases_lt l.lease.incarnation h.incarnation) [
-    | inl older ↦ absurd (not (inr (h, read, sym own, subst (λ (i : ℕ). i < h.incarnation) l.incarnation older, (account_in h.client new.book).protocol, said ∙ ap (λ x. reply_bytes (reply.Welcome x)) moves.0)))
+    | inl older ↦ absurd (not (inr (h, read, sym own, subst (λ (i : ℕ). i < h.incarnation) l.incarnation older, ((account_in h.client new.book).protocol, said ∙ ap (λ x. reply_bytes (reply.Welcome x)) moves.0))))
     | inr current ↦ filter_keeps (stays h.incarnation) (leases_in old h.client) l.lease (stays_at h.incarnation l.lease current) (own_held h.client own)
   ])
   hello_has h read (reply.Granted x) said moves = stay_has moves
@@ -425,7 +425,7 @@ module _ (g : Granted) (old new : Picture) (is : IsPicture old) (line text : Lis
 -- a line that is answered with a grant ends none
 ends_none : (g h : Granted) (old : Picture) (line text : List ℕ) → IsReadAs text (reply.Granted h) → ¬ EndsLease g old line text
 ends_none g h old line text told (inl back) = (let e : 114 ≡ 103 = ap (λ xs. get_or xs 0 0) (sym back.8 ∙ grant_bytes text h told) in omega (arith, e))
-ends_none g h old line text told (inr swept) = (let e : 119 ≡ 103 = ap (λ xs. get_or xs 0 0) (sym swept.5 ∙ grant_bytes text h told) in omega (arith, e))
+ends_none g h old line text told (inr swept) = (let e : 119 ≡ 103 = ap (λ xs. get_or xs 0 0) (sym swept.4.1 ∙ grant_bytes text h told) in omega (arith, e))
 
 pub grant_keeps : (g : Granted) (old new : Picture) (line text : List ℕ) (h : Granted) → IsPicture old → AnswersGranted old line text h new → IsLeased old g → IsLeased new g
 grant_keeps g old new line text h is a l = step_keeps g old new is line text a.step (ends_none g h old line text a.told) l

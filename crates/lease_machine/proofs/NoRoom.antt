@@ -1,5 +1,5 @@
 -- The laws on `nofit`, in bytes.
-use Rattle.std.proofs.Common.{◌≡◌, ◌≢◌, ℕ, ◌+◌, refl, sym, subst, ap, ◌∙◌, inl, inr, List, [], ◌∷◌, ◌++◌, length, get_or, Option, Some, None, Ok, Result, arith}
+use Rattle.std.proofs.Common.{◌≡◌, ◌≢◌, ℕ, ◌+◌, refl, sym, subst, ap, ◌∙◌, inl, inr, List, [], ◌∷◌, ◌++◌, length, get_or, Some, None, Ok, Result, arith}
 use Rattle.std.specs.Prelude.{slice_get, sum_by, codes, decimal, ◌==◌}
 use Rattle.std.specs.List.{find}
 use Rattle.std.proofs.lemmas.Bool.{cases_lt, cases_eq}
@@ -152,7 +152,8 @@ KeepsNothing book = (c : ℕ) → (account_in c book).kept ≡ []
 
 no_kept_reply : (d : Picture) (id : RequestId) (r : Reply) → KeepsNothing d.book → IsKeptReply (arena_named d.tree) d.book id r → ⊥
 no_kept_reply d id r none known =
-    (let e : None ≡ Some (record { number = id.number; reply = known.0.reply; terms = known.0.terms }) = sym (ap (kept_at id.number) (none id.client)) ∙ known.1.kept in cc)
+    let empty : kept_at id.number (account_in id.client d.book).kept ≡ None = ap (kept_at id.number) (none id.client) in
+    cc (sym empty ∙ known.1.kept)
 
 -- with no reply kept, the answer by a number isn't `nofit`
 no_known : (d : Picture) (id : RequestId) (r : Reply) → KeepsNothing d.book → IsKnownReply (arena_named d.tree) d.book id r → reply_bytes r ≢ reply_bytes (refusal_to id NoFit)

@@ -1,5 +1,5 @@
 -- What is kept of a client's numbers, by the entries of its book.
-use Rattle.std.proofs.Common.{◌≡◌, ◌∙◌, ◌+◌, ◌<◌, ◌≤◌, ℕ, refl, sym, ap, subst, cond, Bool, true, false, nat_eq, eq-eqb, List, [], ◌∷◌, All, Option, Some, None, arith}
+use Rattle.std.proofs.Common.{◌≡◌, ◌∙◌, ◌+◌, ◌<◌, ◌≤◌, ℕ, refl, sym, ap, subst, cond, Bool, true, false, nat_eq, eq-eqb, List, [], ◌∷◌, All, Some, None, arith}
 use Rattle.std.proofs.lemmas.List.Elements.{All-tail}
 use Rattle.lease_terms.specs.Protocols.{window_of}
 use Rattle.lease_terms.specs.Requests.{RequestId}
@@ -31,7 +31,7 @@ each_found P n (x ∷ ks) k all at = by (nat_eq n x.number) at (each_found P n k
 pub settled_found : (w : ℕ) (k : Kept) (ks : List Kept) → greatest ks < k.number + w → 1 ≤ w → kept_at k.number (recent w (k ∷ ks)) ≡ Some k
 settled_found w k ks near some =
     ap (kept_at k.number) (recent_cons w k ks near some)
-    ∙ ap (λ (b : Bool). cond b (Some k) (kept_at k.number (above (larger k.number (greatest ks)) w ks))) (eq-eqb k.number refl)
+    ∙ ap (λ (b : Bool). cond b (Some k) (kept_at k.number (above (larger k.number (greatest ks)) w ks))) (eq-eqb k.number k.number refl)
 
 -- and with a window of 1 nothing else is
 pub settled_alone : (k : Kept) (ks : List Kept) (n : ℕ) (x : Kept) → greatest ks < k.number + 1 → kept_at k.number ks ≡ None → kept_at n (recent 1 (k ∷ ks)) ≡ Some x → k ≡ x

@@ -1,5 +1,5 @@
 -- What a book answers to a request that isn't granted, and what is told of it.
-use Rattle.std.proofs.Common.{◌≡◌, ◌∙◌, ◌⊎◌, refl, sym, subst, ap, inl, inr, List, length, Some, None, arith}
+use Rattle.std.proofs.Common.{◌≡◌, ◌∙◌, ◌⊎◌, refl, sym, subst, ap, inl, inr, List, length, arith}
 use Rattle.arena_tree.specs.declared.trees.TreeArena.{TreeArena}
 use Rattle.lease_terms.specs.Requests.{RequestId}
 use Rattle.lease_terms.specs.declared.refusals.Refusal.{Refusal}
@@ -19,7 +19,7 @@ use Rattle.arena_tree.specs.Trees.{arena_named}
 use Rattle.lease_machine.proofs.KnownAnswers.{IsKnown}
 
 not_repeated : (book : BookState) (a : Account) (id : RequestId) (v : ReceiptState) → IsNew a id → IsRepeated book a id v → ⊥
-not_repeated book a id v new rep = (let e : None ≡ Some (record { number = id.number; reply = v.reply; terms = v.terms }) = sym new.unsettled ∙ rep.kept in cc)
+not_repeated book a id v new rep = cc (sym new.unsettled ∙ rep.kept)
 
 -- it is settled by this refusal, where E, or nothing is, where A
 abbrev pub Outcome : BookState → BookState → RequestId → Refusal → Type 0 → Type 0 → Reply → Type 0

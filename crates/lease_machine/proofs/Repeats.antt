@@ -1,5 +1,5 @@
 -- A request that comes again.
-use Rattle.std.proofs.Common.{◌≡◌, ◌≢◌, ◌⊎◌, ℕ, refl, sym, subst, ap, ◌∙◌, inl, inr, List, [], ◌∷◌, Some, None, Ok, Err, Result, arith}
+use Rattle.std.proofs.Common.{◌≡◌, ◌≢◌, ◌⊎◌, ℕ, refl, sym, subst, ap, ◌∙◌, inl, inr, List, [], ◌∷◌, Some, Ok, Err, Result, arith}
 use Rattle.deed_core.specs.Tag.{Tag}
 use Rattle.lease_terms.specs.Requests.{RequestId}
 use Rattle.lease_proto.specs.declared.faults.LineFault.{LineFault}
@@ -55,7 +55,7 @@ settled_now old new id s history fresh entry =
 
 -- and then it isn't new
 pub not_new : (book : BookState) (id : RequestId) (k : Kept) → IsKeptOf book id k → IsNew (account_in id.client book) id → ⊥
-not_new book id k is fresh = (let e : None ≡ Some k = sym fresh.unsettled ∙ is.there in cc)
+not_new book id k is fresh = cc (sym fresh.unsettled ∙ is.there)
 
 -- the reply to it
 by_kept : (d : Picture) (id : RequestId) (k : Kept) (r : Reply) → IsKeptOf d.book id k → IsKeptReply (arena_named d.tree) d.book id r → r ≡ reply_to (arena_named d.tree) id k.reply

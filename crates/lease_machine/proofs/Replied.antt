@@ -1,5 +1,5 @@
 -- A client's line is answered by one line, which is read as a reply to it.
-use Rattle.std.proofs.Common.{◌≡◌, ℕ, ◌≤◌, refl, sym, subst, ap, ◌∙◌, inl, inr, true, List, [], ◌∷◌, All, Ok, arith}
+use Rattle.std.proofs.Common.{◌≡◌, ℕ, ◌≤◌, refl, sym, subst, ap, ◌∙◌, inl, inr, true, List, [], ◌∷◌, All, Some, Ok, arith}
 use Rattle.std.proofs.lemmas.List.Elements.{All-tail}
 use Rattle.deed_core.proofs.LawProofs.{all_at}
 use Rattle.arena_tree.specs.declared.trees.TreeArena.{TreeArena}
@@ -7,7 +7,6 @@ use Rattle.lease_terms.specs.declared.values.TheConstants.{LARGEST}
 use Rattle.lease_terms.specs.Names.{is_name}
 use Rattle.lease_terms.specs.Ranges.{IsClient, IsOrdinal, IsQuantity}
 use Rattle.lease_terms.specs.Requests.{RequestId, IsRequestId}
-use Rattle.lease_proto.specs.declared.lines.Line.{Line}
 use Rattle.lease_proto.specs.declared.lines.Line.TheVariants as lines
 use Rattle.lease_proto.specs.declared.lines.HelloLine.{HelloLine}
 use Rattle.lease_proto.specs.declared.lines.Op.{Op}
@@ -18,7 +17,6 @@ use Rattle.lease_proto.specs.declared.replies.Reply.TheVariants as reply
 use Rattle.lease_proto.specs.declared.replies.Welcome.{Welcome}
 use Rattle.lease_proto.specs.declared.replies.Old.{Old}
 use Rattle.lease_proto.specs.declared.replies.Again.{Again}
-use Rattle.lease_proto.specs.Operators.{served_of}
 use Rattle.lease_proto.specs.Replies.{reply_text, IsReply}
 use Rattle.lease_proto.proofs.LawProofs.{replies_are_texts}
 use Rattle.lease_proto.specs.Requests.{again_of}
@@ -127,8 +125,7 @@ module _ (old new : Picture) (is : IsPicture old) (is_new : IsPicture new) (tree
   hello_valid : (h : HelloLine) → IsClient h.client × IsOrdinal h.incarnation → (r : Reply) → HelloStep h old new r → IsReply r × NamesHello h r
   hello_valid h is_h (reply.Welcome w) does = (
     subst (λ (x : Welcome). IsReply (reply.Welcome x)) (sym does.0) is_h,
-    ap (λ (x : Welcome). x.client) does.0,
-    ap (λ (x : Welcome). x.incarnation) does.0,
+    (ap (λ (x : Welcome). x.client) does.0, ap (λ (x : Welcome). x.incarnation) does.0),
   )
   hello_valid h is_h (reply.Old o) does = (
     subst (λ (x : Old). IsReply (reply.Old x)) (sym does.0) (is_h.0, (bounds old is h.client).incarnation),

@@ -21,7 +21,7 @@ sums_text r = kept_text r ++ given_text r
 abbrev pub audit_text : AuditLine → List ℕ
 audit_text r = codes "arena " ++ (r.name ++ sums_text r)
 
--- a client, its incarnation, its last number and how many leases it has
+-- a client, its incarnation, its greatest settled number and how many leases it has
 abbrev pub client_text : ClientLine → List ℕ
 client_text r = codes "client " ++ decimal r.client ++ codes " " ++ decimal r.incarnation
     ++ codes " " ++ decimal r.last ++ codes " " ++ decimal r.leases ++ codes "\n"

@@ -87,7 +87,7 @@ pub enum OperatorLine {
     Reap,
     /// `audit`: the units of each arena, by where they are.
     Audit,
-    /// `clients`: the clients, with their incarnations, last numbers and leases.
+    /// `clients`: the clients, with their incarnations, greatest settled numbers and leases.
     Clients,
 }
 

@@ -170,11 +170,13 @@ impl Old {
     }
 }
 
-/// The number isn't the one after the last, nor the last: it is below it (`stale C I N V`) or above
-/// the next one (`gap C I N V`). V is the last number, or 0 before the first.
+/// The number lies outside of the client's window. It is far below V, the greatest settled one, so
+/// that its reply isn't kept (`stale C I N V`), or far above V, up to which all are settled
+/// (`gap C I N V`). V is 0 where none is. How far is the protocol's to say.
 #[derive(Clone, Copy, Debug, PartialEq, Eq)]
 pub struct OutOfTurn {
     pub id: RequestId,
+    /// V.
     pub last: Quantity,
 }
 

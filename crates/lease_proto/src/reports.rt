@@ -72,12 +72,13 @@ impl AuditLine {
     }
 }
 
-/// `client C I N L`: a client, its incarnation, its last number and how many leases it has.
+/// `client C I N L`: a client, its incarnation, its greatest settled number and how many leases it
+/// has.
 #[derive(Clone, Copy, Debug, PartialEq, Eq)]
 pub struct ClientLine {
     pub client: ClientId,
     pub incarnation: Ordinal,
-    /// 0 before the first.
+    /// The greatest settled number, 0 before the first.
     pub last: Quantity,
     pub leases: usize,
 }

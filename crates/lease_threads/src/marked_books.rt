@@ -1,8 +1,8 @@
 //! The book of leases as its lock keeps it.
-ghost use Rattle.std.specs.Prelude.{◌≡◌, ◌↔◌, [], IsNone, IfNone, IfSome, Ok};
+ghost use Rattle.std.specs.Prelude.{◌≡◌, ◌↔◌, [], IsNone, IfNone, IfSome, Ok, sum_by};
 ghost use Rattle.deed_core.specs.Request.{Fits};
 ghost use Rattle.deed_table.specs.declared.deeds.SeatDeed.{SeatDeed};
-ghost use Rattle.lease_book.specs.BookState.{leased_segments};
+ghost use Rattle.lease_book.specs.BookState.{leased_segments, units_of_arena};
 ghost use Rattle.lease_book.specs.Calls.{IsEnded};
 ghost use Rattle.lease_call.specs.BookEvents.{BookEvent};
 ghost use Rattle.lease_call.specs.Calls.{Look, Settle, Refuse, Release, Hello, Sweep};
@@ -98,6 +98,13 @@ impl<N: Name> MarkedBook<N> {
             Some((_, segment)) => Some(segment),
             None => None,
         }
+    }
+
+    /// The units of the arena that are leased.
+    pub(crate) fn units(&self, arena: u32) -> u128
+        ensures { result ≡ sum_by (units_of_arena arena) (leased_segments self.now) }
+    {
+        self.book.units(arena)
     }
 
     /// The answer to a request whose number isn't new.

@@ -16,9 +16,9 @@ use lease_terms::{Protocol, RequestId};
 /// The reply to a hello that is taken, by this protocol.
 pub(crate) fn welcome(hello: &HelloLine, protocol: Protocol) -> Reply
     ensures { result ≡ replies.Welcome (record {
-        client = hello.now.client;
-        incarnation = hello.now.incarnation;
-        protocol = protocol;
+      client = hello.now.client;
+      incarnation = hello.now.incarnation;
+      protocol = protocol;
     }) }
 {
     Reply::Welcome(Welcome {
