@@ -39,8 +39,7 @@ static int answer(const char *line, char *to) {
   }
   if (sscanf(line, "release %lu %lu %lu", &client, &incarnation, &request) == 3)
     return sprintf(to, "released %lu %lu %lu\n", client, incarnation, request);
-  if (sscanf(line, "hello %lu %lu", &client, &incarnation) == 2)
-    return sprintf(to, "welcome %lu %lu\n", client, incarnation);
+  if (!strncmp(line, "hello ", 6)) return sprintf(to, "welcome %s\n", line + 6);
   return sprintf(to, "error word\n");
 }
 

@@ -1,7 +1,11 @@
-//! What a book answers to rows of requests, and where it is out of memory.
+//! What a book answers to rows of requests, and where it is out of memory. Those of the second
+//! protocol are in `windows`.
+
+mod windows;
+
 use deed_core::{PlainDeed, Range, Request, Route, Segment};
 use lease_book::{Answer, Book, ClientReport, HelloFault, KeptReply, Look, NotLeased, Terms};
-use lease_terms::{ClientId, Ordinal, Quantity, Refusal, RequestId};
+use lease_terms::{ClientId, Ordinal, Protocol, Quantity, Refusal, RequestId};
 use std::alloc::{AllocGlobal, Global};
 use std::process::Abort;
 
@@ -34,6 +38,8 @@ enum Told {
 enum Row {
     /// A client's hello, and its incarnation where that is greater and the hello is refused.
     Hello(u32, u64, Option<u64>),
+    /// A client's hello that asks for a protocol, and the one that stands.
+    Welcome(u32, u64, Protocol, Protocol),
     Look(Id, Told),
     /// A lease of units that a segment stands for.
     Lease(Id, Bounds, Told),
@@ -104,12 +110,14 @@ fn answered(rt: &impl Abort, answer: Answer<PlainDeed>) -> Told {
 }
 
 fn look(rt: &impl Abort, book: &Book<PlainDeed>, id: Id) -> Told {
-    match book.look(request_of(rt, id)) {
-        Look::New => Told::New,
-        Look::Kept(receipt) => kept(rt, receipt.reply()),
-        Look::Old(current) => Told::Old(current.get()),
-        Look::Stale(last) => Told::Stale(last.get()),
-        Look::Gap(last) => Told::Gap(last.get()),
+    let id = request_of(rt, id);
+    match (book.look(id), book.is_new(id)) {
+        (Look::New, true) => Told::New,
+        (Look::Kept(receipt), false) => kept(rt, receipt.reply()),
+        (Look::Old(current), false) => Told::Old(current.get()),
+        (Look::Stale(last), false) => Told::Stale(last.get()),
+        (Look::Gap(last), false) => Told::Gap(last.get()),
+        _ => panic!(rt; "a number is new just where its look says so"),
     }
 }
 
@@ -118,25 +126,25 @@ fn close(segment: Segment<PlainDeed>) -> Bounds {
     (range.base(), range.len())
 }
 
-/// Says hello, and gives the client's incarnation where that is greater. Out of memory leaves all
-/// as it was, and the same hello then succeeds.
+/// Says hello, and gives the protocol that stands, or the client's incarnation where that is
+/// greater. Out of memory leaves all as it was, and the same hello then succeeds.
 fn hello(
     rt: &impl Abort,
     book: &mut Book<PlainDeed>,
     client: u32,
     incarnation: u64,
-) -> Option<u64> {
-    let clients = book.clients();
-    match &book.hello(client_of(rt, client), ordinal_of(rt, incarnation)) {
-        Ok(()) => None,
-        Err(HelloFault::Old(current)) => Some(current.get()),
+    protocol: Protocol,
+) -> Result<Protocol, u64> {
+    let before = (book.clients(), look(rt, book, (client, 1, 1)));
+    match &book.hello(client_of(rt, client), ordinal_of(rt, incarnation), protocol) {
+        Ok(stands) => Ok(*stands),
+        Err(HelloFault::Old(current)) => Err(current.get()),
         Err(HelloFault::NoMemory) => {
-            assert_eq!(rt; book.clients(), clients);
-            assert_eq!(rt; book.client_at(clients), None);
-            assert_eq!(rt; look(rt, book, (client, 1, 1)), Told::Old(0));
-            let again = book.hello(client_of(rt, client), ordinal_of(rt, incarnation));
-            assert!(rt; again.is_ok());
-            None
+            assert_eq!(rt; (book.clients(), look(rt, book, (client, 1, 1))), before);
+            assert_eq!(rt; book.client_at(before.0), None);
+            let again = book.hello(client_of(rt, client), ordinal_of(rt, incarnation), protocol);
+            assert_eq!(rt; again.ok(), Some(protocol));
+            Ok(protocol)
         }
     }
 }
@@ -212,7 +220,12 @@ fn answer_to(rt: &impl Abort, book: &mut Book<PlainDeed>, row: Row) -> Option<(T
 fn take_row(rt: &impl Abort, book: &mut Book<PlainDeed>, row: Row) {
     match row {
         Row::Hello(client, incarnation, wanted) => {
-            assert_eq!(rt; hello(rt, book, client, incarnation), wanted);
+            let told = hello(rt, book, client, incarnation, Protocol::One);
+            assert_eq!(rt; told, wanted.map_or(Ok(Protocol::One), Err));
+        }
+        Row::Welcome(client, incarnation, asked, stands) => {
+            let told = hello(rt, book, client, incarnation, asked);
+            assert_eq!(rt; told, Ok(stands));
         }
         Row::Sweep(client, wanted) => assert_eq!(rt; sweep(rt, book, client), wanted),
         Row::Units(arena, wanted) => assert_eq!(rt; book.units(arena), wanted),

@@ -6,7 +6,7 @@ use Rattle.std.proofs.lemmas.List.Elements.{All-set, All-push}
 use Rattle.std.proofs.lemmas.List.Sums.{sum_by-set, sum_by_push, sum_by-le, get_or-le-sum_by}
 use Rattle.deed_core.specs.Extent.{IsRange}
 use Rattle.lease_book.specs.declared.books.TheConstants.{MOST_LEASES}
-use Rattle.lease_book.specs.declared.accounts.Standing.{Standing}
+use Rattle.lease_book.specs.Standings.{StandingState}
 use Rattle.lease_book.specs.declared.totals.Total.{Total}
 use Rattle.lease_book.specs.Account.{Lease, without_first}
 use Rattle.lease_book.specs.BookState.{units_of_lease}
@@ -33,7 +33,7 @@ few_of_client : (arena : ℕ) (l : List Lease) → length l ≤ MOST_LEASES → 
 few_of_client arena l few ranges = omega (arith, few, sum_by-le (units_of_lease arena) (2 ^ 62) l (λ k d within. few_units arena (get_or l k d) (ranges k d within)))
 
 -- there is room in a total for one more lease
-pub one_fits : (es : List (ℕ × Standing)) (ls : List (List Lease)) (ts : List Total) (arena units : ℕ) → IsShelf es ls → IsCounted ls ts → units ≤ 2 ^ 62 → total_of arena ts + units < 2 ^ 128
+pub one_fits : (es : List (ℕ × StandingState)) (ls : List (List Lease)) (ts : List Total) (arena units : ℕ) → IsShelf es ls → IsCounted ls ts → units ≤ 2 ^ 62 → total_of arena ts + units < 2 ^ 128
 one_fits es ls ts arena units shelf counted few =
     let all : sum_by (of_client arena) ls ≤ length ls * (MOST_LEASES * 2 ^ 62) =
     sum_by-le (of_client arena) (MOST_LEASES * 2 ^ 62) ls (λ k d within. few_of_client arena (get_or ls k d) (shelf.limited k d within) (counted.ranges k d within)) in

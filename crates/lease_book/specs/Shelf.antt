@@ -47,7 +47,8 @@ IsEmptyBefore zero ls = Unit {0}
 IsEmptyBefore (suc i) [] = Unit {0}
 IsEmptyBefore (suc i) (l ∷ ls) = (l ≡ []) × IsEmptyBefore i ls
 
--- the accounts as they are stored, none before this index with a lease, and the totals of the arenas
+-- the accounts as they are stored, none before this index with a lease, and the totals of the
+-- arenas
 pub record IsStored (es : List (ℕ × StandingState)) (ls : List (List Lease)) (empty : ℕ)
     (totals : List Total) : Type 0 where
   pub shelf : IsShelf es ls

@@ -24,8 +24,8 @@ use std::marker::Model;
 
 /// What is kept of each client, and beside it its leases. No client before the index `empty` has a
 /// lease: so a search for a client that has one needn't begin from the first each time. A client is
-/// looked for first at the index `near`, where it was last gone to. How many units of each arena are
-/// leased is counted with each lease that comes and goes.
+/// looked for first at the index `near`, where it was last gone to. How many units of each arena
+/// are leased is counted with each lease that comes and goes.
 pub(crate) struct Accounts<D: Deed> {
     clients: IndexMap<ClientId, Standing>,
     leases: Vec<Leases<D>>,
@@ -52,6 +52,7 @@ impl<D: Deed> Accounts<D> {
     ghost use Rattle.lease_book.specs.BookState.{segments_of_accounts, units_of_arena};
     ghost use Rattle.lease_book.specs.Reports.{report_of};
 
+    /// No accounts.
     pub(crate) fn new(alloc: Global) -> Accounts<D>
         ensures { result ≡ [] }
     {
@@ -64,6 +65,7 @@ impl<D: Deed> Accounts<D> {
         }
     }
 
+    /// How many clients have an account: at most as many as there are numbers of clients.
     pub(crate) fn len(&self) -> usize
         ensures count { result ≡ length self.now }
         ensures few { result ≤ LAST_CLIENT }
@@ -109,6 +111,7 @@ impl<D: Deed> Accounts<D> {
         }
     }
 
+    /// What is kept at this index, the leases apart.
     pub(crate) fn standing(&self, index: usize) -> &Standing
         requires { index < length self.now }
         ensures { option_map standing_of (slice_get self.now index) ≡ Some result.now }
@@ -116,6 +119,7 @@ impl<D: Deed> Accounts<D> {
         &self.clients[index]
     }
 
+    /// Puts this in place of what is kept at the index, the leases apart.
     pub(crate) fn write(&mut self, index: usize, standing: Standing)
         requires { index < length self.old }
         ensures { self.new ≡ update_at self.old index (with_standing standing) }
@@ -144,7 +148,7 @@ impl<D: Deed> Accounts<D> {
         ensures accounts { self.new ≡ update_at self.old index (with_settled result) }
     {
         let kept = Kept::new(id.number, reply, terms);
-        self.clients[index].add(kept);
+        self.clients[index].add(&kept);
         kept
     }
 
@@ -242,6 +246,7 @@ impl<D: Deed> Accounts<D> {
         }
     }
 
+    /// What is told of the client at this index.
     pub(crate) fn report(&self, index: usize) -> Option<ClientReport>
         ensures { result ≡ option_map report_of (slice_get self.now index) }
     {
@@ -290,6 +295,7 @@ fn first_leased<D: Deed>(leases: &[Leases<D>], empty: usize) -> Option<usize>
     None
 }
 
+/// Ends lists of leases that are all empty.
 fn close_all<D: Deed>(mut leases: Vec<Leases<D>>)
     requires { All (λ l. l ≡ []) leases.items }
 {

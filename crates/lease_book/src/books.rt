@@ -193,14 +193,12 @@ impl<D: Deed> Book<D> {
             × (length (account_in id.client self.old).leases < MOST_LEASES))
             e.answer) }
     {
-        let index = match self.admit(id) {
-            Ok(index) => index,
-            Err(answer) => return Err(NotLeased { segment, answer }),
+        let Some(index) = self.new_at(id) else {
+            let answer = self.told(id);
+            return Err(NotLeased { segment, answer });
         };
         if self.accounts.leases(index).len() == MOST_LEASES {
-            let reply = KeptReply::Refused(Refusal::Leases);
-            let kept = self.accounts.keep(index, id, reply, None);
-            let answer = Answer::Refused(self.receipt(id, kept));
+            let answer = Answer::Refused(self.refuse_at(index, id, Refusal::Leases));
             return Err(NotLeased { segment, answer });
         }
         let reply = KeptReply::granted(arena, &segment.range());
@@ -224,13 +222,9 @@ impl<D: Deed> Book<D> {
     pub fn refuse(&mut self, id: RequestId, refusal: Refusal) -> Answer<D>
         ensures { IsAnswer self.old self.new id (IsRefused self.old self.new id refusal) ⊥ result }
     {
-        match self.admit(id) {
-            Ok(index) => {
-                let reply = KeptReply::Refused(refusal);
-                let kept = self.accounts.keep(index, id, reply, None);
-                Answer::Refused(self.receipt(id, kept))
-            }
-            Err(answer) => answer,
+        match self.new_at(id) {
+            Some(index) => Answer::Refused(self.refuse_at(index, id, refusal)),
+            None => self.told(id),
         }
     }
 
@@ -252,11 +246,11 @@ impl<D: Deed> Book<D> {
     {
         // For its clause: the base is in its range.
         let _ = base.get();
-        let index = self.admit(id)?;
+        let Some(index) = self.new_at(id) else {
+            return Err(self.told(id));
+        };
         let Some(held) = self.accounts.take(index, Which::At(id, arena, base)) else {
-            let reply = KeptReply::Refused(Refusal::NotYours);
-            let kept = self.accounts.keep(index, id, reply, None);
-            return Err(Answer::Refused(self.receipt(id, kept)));
+            return Err(Answer::Refused(self.refuse_at(index, id, Refusal::NotYours)));
         };
         let kept = self.accounts.keep(index, id, KeptReply::Released, None);
         Ok((self.receipt(id, kept), held.into_segment()))
@@ -337,6 +331,7 @@ impl<D: Deed> Book<D> {
         self.accounts.report(index)
     }
 
+    /// Where the account of the client stands, and what is kept there, the leases apart.
     fn account(&self, client: ClientId) -> Option<(usize, &Standing)>
         ensures found { IfSome result (λ r. IsFound self.now client r.0) }
         ensures standing { IfSome result
@@ -384,6 +379,31 @@ impl<D: Deed> Book<D> {
         }
     }
 
+    /// The answer to a request whose number isn't new.
+    #[cold]
+    fn told(&self, id: RequestId) -> Answer<D>
+        requires { ¬ IsNew (account_in id.client self.now) id }
+        ensures { IsAnswer self.now self.now id (λ _. ⊥) ⊥ result }
+    {
+        match self.seek(id).answer() {
+            Some(answer) => answer,
+            None => unreachable!(),
+        }
+    }
+
+    /// Settles a new request of the client whose account has this index by a refusal.
+    fn refuse_at(&mut self, index: usize, id: RequestId, refusal: Refusal) -> Receipt<D>
+        requires index { IsFound self.old id.client index }
+        requires new { IsNew (account_in id.client self.old) id }
+        ensures { IsRefused self.old self.new id refusal result }
+    {
+        id.check();
+        let reply = KeptReply::Refused(refusal);
+        let kept = self.accounts.keep(index, id, reply, None);
+        self.receipt(id, kept)
+    }
+
+    /// The receipt of this book for a request that was settled with this.
     fn receipt(&self, id: RequestId, kept: Kept) -> Receipt<D>
         ensures { result ≡ receipt self.now id kept }
     {
@@ -397,30 +417,14 @@ impl<D: Deed> Book<D> {
         ensures new { IfSome result (λ _. IsNew (account_in id.client self.now) id) }
         ensures index { IfSome result (IsFound self.now id.client) }
         ensures none { IfNone result (¬ IsNew (account_in id.client self.now) id) }
+        ensures range { IsRequestId id }
     {
+        id.check();
         let (index, standing) = self.account(id.client)?;
         if standing.incarnation().get() == id.incarnation.get() && standing.is_open(id.number) {
             Some(index)
         } else {
             None
-        }
-    }
-
-    /// The index of the client's account, where the number is new; else the answer to the request.
-    #[inline(always)]
-    fn admit(&self, id: RequestId) -> Result<usize, Answer<D>>
-        ensures new { IfOk result (λ _. IsNew (account_in id.client self.now) id) }
-        ensures index { IfOk result (λ index. IsFound self.now id.client index) }
-        ensures range { IsRequestId id }
-        ensures answer { IfErr result (IsAnswer self.now self.now id (λ _. ⊥) ⊥) }
-    {
-        id.check();
-        if let Some(index) = self.new_at(id) {
-            return Ok(index);
-        }
-        match self.seek(id).answer() {
-            Some(answer) => Err(answer),
-            None => unreachable!(),
         }
     }
 }

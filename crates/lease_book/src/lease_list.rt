@@ -46,12 +46,14 @@ impl<D: Deed> BoxedLease<D> {
         }
     }
 
+    /// Whether it is of the request's incarnation with this arena and base.
     fn is_lease(&self, id: RequestId, arena: u32, base: Quantity) -> bool
         ensures { result ≡ is_lease id.incarnation arena base self.now }
     {
         self.base == base.get() && self.held.is_lease(id, arena, base)
     }
 
+    /// Whether it is of an incarnation before this one.
     fn is_older(&self, incarnation: Ordinal) -> bool
         ensures { result ≡ is_older incarnation self.now }
     {
@@ -82,6 +84,7 @@ impl<D: Deed> Model for LeaseList<D> {
 }
 
 impl<D: Deed> LeaseList<D> {
+    /// An empty list.
     pub(crate) fn new(alloc: Global) -> LeaseList<D>
         ensures { result ≡ [] }
     {
@@ -90,6 +93,7 @@ impl<D: Deed> LeaseList<D> {
         }
     }
 
+    /// How many leases there are.
     pub(crate) fn len(&self) -> usize
         ensures { result ≡ length self.now }
     {
@@ -163,6 +167,7 @@ impl<D: Deed> LeaseList<D> {
     }
 }
 
+/// Where the first of the request's incarnation with this arena and base stands.
 fn first_lease<D: Deed>(
     held: &[BoxedLease<D>],
     id: RequestId,
@@ -174,12 +179,14 @@ fn first_lease<D: Deed>(
     held.iter().position(|one| one.is_lease(id, arena, base))
 }
 
+/// Where the first of an incarnation before this one stands.
 fn first_older<D: Deed>(held: &[BoxedLease<D>], incarnation: Ordinal) -> Option<usize>
     ensures { result ≡ position (is_older incarnation) held.now }
 {
     held.iter().position(|one| one.is_older(incarnation))
 }
 
+/// Where the first of all stands.
 fn first<D: Deed>(held: &[BoxedLease<D>]) -> Option<usize>
     ensures { result ≡ position (λ _. true) held.now }
 {

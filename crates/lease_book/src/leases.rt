@@ -148,6 +148,7 @@ impl<D: Deed> Model for Leases<D> {
 }
 
 impl<D: Deed> Leases<D> {
+    /// No leases.
     pub(crate) fn new(alloc: Global) -> Leases<D>
         ensures { result ≡ [] }
     {
@@ -159,6 +160,7 @@ impl<D: Deed> Leases<D> {
         }
     }
 
+    /// How many leases there are.
     pub(crate) fn len(&self) -> usize
         ensures { result ≡ length self.now }
     {

@@ -2,9 +2,10 @@
 //! answered.
 //!
 //! A client says hello with an incarnation, and greater ones after it restarts. In an incarnation
-//! its requests have the numbers 1, 2 and so on. The book settles each number once, by a grant, a
-//! release or a refusal, and keeps the last reply, so that a request that comes again gets the same
-//! one. Leases of an incarnation that has passed stay until they are swept.
+//! its requests have the numbers 1, 2 and so on, and come one after the other, or by the second
+//! protocol up to eight at once, in any order. The book settles each number once, by a grant, a
+//! release or a refusal, and keeps the replies of as many numbers, so that a request that comes
+//! again gets the same one. Leases of an incarnation that has passed stay until they are swept.
 //!
 //! Begin with [`Book`]. What its contracts see, and what is read off the list of what happened to
 //! it, is in `specs/History.antt` and `specs/BookState.antt`; how it answers is in
@@ -21,12 +22,13 @@
 //! takes the same time too, but that now and then all leases of its client get new places: two are
 //! moved for each grant, on average; and that the first after a greater hello looks at each. A
 //! sweep, and `can_sweep` after a greater hello, look at a client's places from where the last
-//! sweep found a lease on, at most at half as many again as `MOST_LEASES` and four. `units` looks at
-//! the totals of the arenas that ever had a lease, and so does each grant and each end of a lease,
-//! which change one of them. Ending all leases one by one looks at each client once. A book keeps a
-//! few words for each client that ever said hello. A lease takes some 80 bytes while its client has
-//! few, and 70 to 110 and more in places, which stay until all are renewed or the last lease in
-//! them ends.
+//! sweep found a lease on, at most at half as many again as `MOST_LEASES` and four. `units` looks
+//! at the totals of the arenas that ever had a lease, and so does each grant and each end of a
+//! lease, which change one of them. Ending all leases one by one looks at each client once. A
+//! request by the second protocol looks at the kept replies, some ten times at most. A book keeps a
+//! few words for each client that ever said hello, and room for eight replies for one of the second
+//! protocol. A lease takes some 80 bytes while its client has few, and 70 to 110 and more in
+//! places, which stay until all are renewed or the last lease in them ends.
 #![tactic(auto)]
 
 mod accounts;
@@ -40,8 +42,6 @@ mod receipts;
 mod recent;
 mod reports;
 mod standings;
-#[cfg(test)]
-mod tests;
 mod totals;
 
 pub use answers::{Answer, HelloFault, Look, NotLeased};

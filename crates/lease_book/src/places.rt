@@ -50,6 +50,7 @@ impl<D: Deed> Model for Place<D> {
 }
 
 impl<D: Deed> Place<D> {
+    /// Whether the lease in it, if any, is of the request's incarnation with this arena and base.
     fn is_lease(&self, id: RequestId, arena: u32, base: Quantity) -> bool
         ensures { result ≡ holds (is_lease id.incarnation arena base) self.now.lease }
     {
@@ -59,6 +60,7 @@ impl<D: Deed> Place<D> {
         }
     }
 
+    /// Whether the lease in it, if any, is of an incarnation before this one.
     fn is_older(&self, incarnation: Ordinal) -> bool
         ensures { result ≡ holds (is_older incarnation) self.now.lease }
     {
@@ -68,6 +70,7 @@ impl<D: Deed> Place<D> {
         }
     }
 
+    /// The lease in it, if any.
     fn into_held(self) -> Option<Held<D>>
         ensures { result ≡ self.lease }
     {

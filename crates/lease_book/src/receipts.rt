@@ -62,6 +62,7 @@ impl Model for Kept {
 impl Kept {
     ghost use Rattle.lease_book.specs.Receipts.{IsEarned};
 
+    /// A number with what it was settled with: for a grant its terms.
     pub(crate) fn new(number: Ordinal, reply: KeptReply, terms: Option<Terms>) -> Kept
         requires { IsEarned reply terms }
         ensures { result ≡ record { number = number; reply = reply; terms = terms } }
@@ -73,6 +74,7 @@ impl Kept {
         }
     }
 
+    /// The number of the request.
     pub(crate) fn number(&self) -> Ordinal
         ensures { result ≡ self.now.number }
     {
@@ -112,6 +114,7 @@ impl<D> Receipt<D> {
     ghost use Rattle.lease_book.specs.Receipts.{IsEarned};
     ghost use Rattle.lease_terms.specs.Requests.{IsRequestId};
 
+    /// The receipt for a request, by what is kept of its number.
     pub(crate) fn new(book: u32, id: RequestId, kept: Kept) -> Receipt<D>
         ensures value { result ≡ record {
           book = book;

@@ -28,6 +28,7 @@ impl Model for Totals {
 }
 
 impl Totals {
+    /// No totals: no unit is leased.
     pub(crate) fn new(alloc: Global) -> Totals
         ensures { result ≡ [] }
     {

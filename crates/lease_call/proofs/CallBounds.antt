@@ -6,6 +6,7 @@ use Rattle.deed_core.specs.declared.requests.Request.{Request}
 use Rattle.deed_core.specs.declared.segments.Route.{Route}
 use Rattle.deed_core.specs.declared.segments.Route.TheVariants.{Direct, Cached}
 use Rattle.lease_terms.specs.Requests.{RequestId}
+use Rattle.lease_terms.specs.declared.protocols.Protocol.{Protocol}
 use Rattle.arena_tree.specs.Climbs.{ClimbEnd, ReturnEnd}
 use Rattle.arena_tree.specs.Events.{locks}
 use Rattle.arena_tree.specs.Plans as plans
@@ -129,21 +130,21 @@ module _ (arenas : List TreeArena) where
     look_within depth new w (Err e) = omega arith
 
   module _ (D : Type 0) (client all : ℕ) where
-    sweep_within : (turns n : ℕ) → n + turns * LONGEST_CHAIN ≤ all → CallWithin {D = D} (λ (r : HelloEnd). all) (sweep_plan arenas client turns) n
-    sweep_within zero n low = omega (arith, low)
-    sweep_within (suc turns) n low = by (sweep_within turns)
+    sweep_within : (stands : Protocol) (turns n : ℕ) → n + turns * LONGEST_CHAIN ≤ all → CallWithin {D = D} (λ (r : HelloEnd). all) (sweep_plan arenas stands client turns) n
+    sweep_within stands zero n low = omega (arith, low)
+    sweep_within stands (suc turns) n low = by (sweep_within stands turns)
       where
-        by : ((m : ℕ) → m + turns * LONGEST_CHAIN ≤ all → CallWithin {D = D} (λ (r : HelloEnd). all) (sweep_plan arenas client turns) m) → (x : Result (Option (RequestId × Tag)) Stopped) → CallWithin {D = D} (λ (r : HelloEnd). all) (on_sweep arenas (sweep_plan arenas client turns) x) n
+        by : ((m : ℕ) → m + turns * LONGEST_CHAIN ≤ all → CallWithin {D = D} (λ (r : HelloEnd). all) (sweep_plan arenas stands client turns) m) → (x : Result (Option (RequestId × Tag)) Stopped) → CallWithin {D = D} (λ (r : HelloEnd). all) (on_sweep arenas stands (sweep_plan arenas stands client turns) x) n
         by again (Ok None) = omega (arith, low)
-        by again (Ok (Some r)) = placed_within (λ (e : HelloEnd). all) r.1 (on_place (sweep_plan arenas client turns)) n back
+        by again (Ok (Some r)) = placed_within (λ (e : HelloEnd). all) r.1 (on_place (sweep_plan arenas stands client turns)) n back
           where
-            back : (e : ReturnEnd) (m : ℕ) → m ≤ n + LONGEST_CHAIN → CallWithin {D = D} (λ (e : HelloEnd). all) (on_place (sweep_plan arenas client turns) e) m
+            back : (e : ReturnEnd) (m : ℕ) → m ≤ n + LONGEST_CHAIN → CallWithin {D = D} (λ (e : HelloEnd). all) (on_place (sweep_plan arenas stands client turns) e) m
             back (Ok u) m most = again m (omega (arith, low, most))
             back (Err f) m most = omega (arith, low, most)
         by again (Err e) = omega (arith, low)
 
-  hello_within : (D : Type 0) (client turns : ℕ) (x : Result (Unit {0}) NotGreeted) → CallWithin {D = D} (λ (r : HelloEnd). turns * LONGEST_CHAIN) (on_hello arenas client turns x) 0
-  hello_within D client turns (Ok u) = sweep_within D client (turns * LONGEST_CHAIN) turns 0 (omega arith)
+  hello_within : (D : Type 0) (client turns : ℕ) (x : Result Protocol NotGreeted) → CallWithin {D = D} (λ (r : HelloEnd). turns * LONGEST_CHAIN) (on_hello arenas client turns x) 0
+  hello_within D client turns (Ok stands) = sweep_within D client (turns * LONGEST_CHAIN) stands turns 0 (omega arith)
   hello_within D client turns (Err (greeting.Late f)) = omega arith
   hello_within D client turns (Err greeting.Stopped) = omega arith
 

@@ -3,6 +3,7 @@ use Rattle.std.proofs.Common.{◌≡◌, ℕ, zero, suc, List, [], Option, Some,
 use Rattle.deed_core.specs.Tag.{Tag}
 use Rattle.deed_core.specs.declared.requests.Request.{Request}
 use Rattle.lease_terms.specs.Requests.{RequestId}
+use Rattle.lease_terms.specs.declared.protocols.Protocol.{Protocol}
 use Rattle.arena_tree.specs.Chains.{Node}
 use Rattle.arena_tree.specs.Climbs.{ClimbEnd, ReturnEnd, climb_left, return_left}
 use Rattle.arena_tree.specs.Events.{Event, AnswerTo, BeginsWith, hand_after, Carve, Free, AddCarve, SlabTake, SlabPut, SlabAdd, SlabReap, SwapFull, SwapEmpty, SwapFresh, DepotReap, Pop, Push, Change}
@@ -127,17 +128,17 @@ module _ (arenas : List TreeArena) where
     op_handles (ops.Release l) = release_at_handles l.base (index_in l.arena arenas)
 
   module _ (D : Type 0) (client : ℕ) where
-    sweep_handles : (turns : ℕ) → CallHandles {D = D} call_left (sweep_plan arenas client turns) None
-    sweep_handles zero = refl
-    sweep_handles (suc turns) = (refl, by (sweep_handles turns))
+    sweep_handles : (stands : Protocol) (turns : ℕ) → CallHandles {D = D} call_left (sweep_plan arenas stands client turns) None
+    sweep_handles stands zero = refl
+    sweep_handles stands (suc turns) = (refl, by (sweep_handles stands turns))
       where
-        by : CallHandles {D = D} call_left (sweep_plan arenas client turns) None → (x : Result (Option (RequestId × Tag)) Stopped) → CallHandles {D = D} call_left (on_sweep arenas (sweep_plan arenas client turns) x) (swept x)
+        by : CallHandles {D = D} call_left (sweep_plan arenas stands client turns) None → (x : Result (Option (RequestId × Tag)) Stopped) → CallHandles {D = D} call_left (on_sweep arenas stands (sweep_plan arenas stands client turns) x) (swept x)
         by again (Ok None) = refl
-        by again (Ok (Some r)) = first_handles r.1 (sweep_plan arenas client turns) again
+        by again (Ok (Some r)) = first_handles r.1 (sweep_plan arenas stands client turns) again
         by again (Err e) = refl
 
-    hello_handles : (turns : ℕ) (x : Result (Unit {0}) NotGreeted) → CallHandles {D = D} call_left (on_hello arenas client turns x) None
-    hello_handles turns (Ok u) = sweep_handles turns
+    hello_handles : (turns : ℕ) (x : Result Protocol NotGreeted) → CallHandles {D = D} call_left (on_hello arenas client turns x) None
+    hello_handles turns (Ok stands) = sweep_handles stands turns
     hello_handles turns (Err (greeting.Late f)) = refl
     hello_handles turns (Err greeting.Stopped) = refl
 
@@ -189,7 +190,7 @@ module _ (nodes : List Node) (hand : Option Tag) (came gone : List Tag) (kept : 
   call_keeps D (Settle id given terms) (Err (settling.Stopped t)) is s = backed hand given t came gone is s kept
   call_keeps D (Refuse id why) x is s = moved hand None None came gone is kept
   call_keeps D (Release id arena base) x is s = moved hand None (released x) came gone is kept
-  call_keeps D (Hello client incarnation) x is s = moved hand None None came gone is kept
+  call_keeps D (Hello client incarnation asked) x is s = moved hand None None came gone is kept
   call_keeps D (Sweep client) x is s = moved hand None (swept x) came gone is kept
 
 -- what is asked with the hand that it needs keeps all
@@ -212,5 +213,5 @@ event_hands_back D b c (Settle id given terms) (Err (settling.NotLeased n)) even
 event_hands_back D b c (Settle id given terms) (Err (settling.Stopped t)) event = absurd event
 event_hands_back D b c (Refuse id why) x event = tt
 event_hands_back D b c (Release id arena base) x event = tt
-event_hands_back D b c (Hello client incarnation) x event = tt
+event_hands_back D b c (Hello client incarnation asked) x event = tt
 event_hands_back D b c (Sweep client) x event = tt

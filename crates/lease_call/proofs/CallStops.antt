@@ -3,6 +3,7 @@ use Rattle.std.proofs.Common.{◌≡◌, ℕ, zero, suc, List, Option, Some, Non
 use Rattle.deed_core.specs.Tag.{Tag}
 use Rattle.deed_core.specs.declared.requests.Request.{Request}
 use Rattle.lease_terms.specs.Requests.{RequestId}
+use Rattle.lease_terms.specs.declared.protocols.Protocol.{Protocol}
 use Rattle.lease_terms.specs.declared.refusals.Refusal.{Refusal}
 use Rattle.lease_terms.specs.declared.refusals.Refusal.TheVariants.{NoArena, BadRequest, NoFit}
 use Rattle.arena_tree.specs.Climbs.{ClimbEnd, ReturnEnd}
@@ -122,25 +123,25 @@ module _ (arenas : List TreeArena) where
     op_stops (ops.Release l) = release_stops_at l.base (index_in l.arena arenas)
 
   module _ (D : Type 0) (client : ℕ) where
-    sweep_stops : (turns : ℕ) → StopsLast {D = D} call_stopped (sweep_plan arenas client turns) false
-    sweep_stops zero = refl
-    sweep_stops (suc turns) = by (sweep_stops turns)
+    sweep_stops : (stands : Protocol) (turns : ℕ) → StopsLast {D = D} call_stopped (sweep_plan arenas stands client turns) false
+    sweep_stops stands zero = refl
+    sweep_stops stands (suc turns) = by (sweep_stops stands turns)
       where
-        by : StopsLast {D = D} call_stopped (sweep_plan arenas client turns) false → (x : Result (Option (RequestId × Tag)) Stopped) → StopsLast {D = D} call_stopped (on_sweep arenas (sweep_plan arenas client turns) x) (is_stopped_call D (Sweep client) x)
+        by : StopsLast {D = D} call_stopped (sweep_plan arenas stands client turns) false → (x : Result (Option (RequestId × Tag)) Stopped) → StopsLast {D = D} call_stopped (on_sweep arenas stands (sweep_plan arenas stands client turns) x) (is_stopped_call D (Sweep client) x)
         by again (Ok None) = refl
-        by again (Ok (Some r)) = first_stops r.1 (sweep_plan arenas client turns) again
+        by again (Ok (Some r)) = first_stops r.1 (sweep_plan arenas stands client turns) again
         by again (Err e) = refl
 
-    greeted_stops : (incarnation turns : ℕ) (x : Result (Unit {0}) NotGreeted) → StopsLast {D = D} call_stopped (on_hello arenas client turns x) (is_stopped_call D (Hello client incarnation) x)
-    greeted_stops incarnation turns (Ok u) = sweep_stops turns
-    greeted_stops incarnation turns (Err (greeting.Late f)) = refl
-    greeted_stops incarnation turns (Err greeting.Stopped) = refl
+    greeted_stops : (incarnation : ℕ) (asked : Protocol) (turns : ℕ) (x : Result Protocol NotGreeted) → StopsLast {D = D} call_stopped (on_hello arenas client turns x) (is_stopped_call D (Hello client incarnation asked) x)
+    greeted_stops incarnation asked turns (Ok stands) = sweep_stops stands turns
+    greeted_stops incarnation asked turns (Err (greeting.Late f)) = refl
+    greeted_stops incarnation asked turns (Err greeting.Stopped) = refl
 
 pub request_stops : (D : Type 0) → RequestStops D
 request_stops D arenas hand id op = hand_stops arenas hand (op_plan arenas id op) (op_stops arenas D id op)
 
 pub hello_stops_last : (D : Type 0) → HelloStops D
-hello_stops_last D arenas hand h turns = hand_stops arenas hand (greet_plan arenas h turns) (greeted_stops arenas D h.client h.incarnation turns)
+hello_stops_last D arenas hand h turns = hand_stops arenas hand (greet_plan arenas h turns) (greeted_stops arenas D h.client h.incarnation h.protocol turns)
 
 pub event_goes_on : (D : Type 0) → EventGoesOn D
 event_goes_on D b c (Look id) (Ok o) event = refl
@@ -153,8 +154,8 @@ event_goes_on D b c (Refuse id why) (Err e) event = absurd event
 event_goes_on D b c (Release id arena base) (Ok r) event = refl
 event_goes_on D b c (Release id arena base) (Err (releasing.Answered a)) event = refl
 event_goes_on D b c (Release id arena base) (Err releasing.Stopped) event = absurd event
-event_goes_on D b c (Hello client incarnation) (Ok u) event = refl
-event_goes_on D b c (Hello client incarnation) (Err (greeting.Late f)) event = refl
-event_goes_on D b c (Hello client incarnation) (Err greeting.Stopped) event = absurd event
+event_goes_on D b c (Hello client incarnation asked) (Ok u) event = refl
+event_goes_on D b c (Hello client incarnation asked) (Err (greeting.Late f)) event = refl
+event_goes_on D b c (Hello client incarnation asked) (Err greeting.Stopped) event = absurd event
 event_goes_on D b c (Sweep client) (Ok o) event = refl
 event_goes_on D b c (Sweep client) (Err e) event = absurd event

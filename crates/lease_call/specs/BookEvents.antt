@@ -1,6 +1,7 @@
 -- What a call does to a book.
 use Rattle.std.specs.Prelude.{◌≡◌, ℕ, ◌<◌, ◌≤◌, All, length, Some, None, Ok, Err}
 use Rattle.std.specs.List.{find}
+use Rattle.lease_terms.specs.declared.protocols.Protocol.{Protocol}
 use Rattle.lease_terms.specs.declared.refusals.Refusal.TheVariants.{NotYours, Leases}
 use Rattle.lease_book.specs.Account.{is_lease}
 use Rattle.lease_book.specs.Answers.{IsNew, IsAnswer, IsHelloFault}
@@ -13,10 +14,12 @@ use Rattle.lease_call.specs.declared.call_faults.NotGreeted.TheVariants as greet
 use Rattle.lease_call.specs.declared.call_faults.NotReleased.TheVariants as releasing
 use Rattle.lease_call.specs.declared.call_faults.NotSettled.TheVariants as settling
 
--- a hello is taken
-pub record IsGreeted (old new : BookState) (client incarnation : ℕ) : Type 0 where
+-- a hello that asks for a protocol is taken; the one that stands for its incarnation is given
+pub record IsGreeted (old new : BookState) (client incarnation : ℕ) (asked stands : Protocol)
+    : Type 0 where
   pub current : (account_in client old).incarnation ≤ incarnation
-  pub entry : Enters (entries.Hello client incarnation) old new
+  pub entry : Enters (entries.Hello client incarnation asked) old new
+  pub protocol : stands ≡ (account_in client new).protocol
   pub leases : leased_segments new ≡ leased_segments old
 
 -- no lease of an older incarnation of the client is left
@@ -43,10 +46,11 @@ BookEvent D b (Release id arena base) (Err (releasing.Answered a)) c = IsAnswer 
     (λ v. IsRefused b c id NotYours v
     × (find (is_lease id.incarnation arena base) (account_in id.client b).leases ≡ None)) ⊥ a
 BookEvent D b (Release id arena base) (Err releasing.Stopped) c = ⊥
-BookEvent D b (Hello client incarnation) (Ok u) c = IsGreeted b c client incarnation
-BookEvent D b (Hello client incarnation) (Err (greeting.Late f)) c =
-    IsHelloFault (account_in client b).incarnation incarnation f × (c ≡ b)
-BookEvent D b (Hello client incarnation) (Err greeting.Stopped) c = ⊥
+BookEvent D b (Hello client incarnation asked) (Ok stands) c =
+    IsGreeted b c client incarnation asked stands
+BookEvent D b (Hello client incarnation asked) (Err (greeting.Late f)) c =
+    IsHelloFault (account_in client b).incarnation incarnation asked f × (c ≡ b)
+BookEvent D b (Hello client incarnation asked) (Err greeting.Stopped) c = ⊥
 BookEvent D b (Sweep client) (Ok None) c = IsSweptClean b client × (c ≡ b)
 BookEvent D b (Sweep client) (Ok (Some r)) c = IsSwept b c client r.0 r.1
 BookEvent D b (Sweep client) (Err e) c = ⊥

@@ -2,6 +2,7 @@
 use Rattle.std.specs.Prelude.{ℕ, Option, Result}
 use Rattle.deed_core.specs.Tag.{Tag}
 use Rattle.lease_terms.specs.Requests.{RequestId}
+use Rattle.lease_terms.specs.declared.protocols.Protocol.{Protocol}
 use Rattle.lease_terms.specs.declared.refusals.Refusal.{Refusal}
 use Rattle.arena_tree.specs.declared.part_faults.Stopped.{Stopped}
 use Rattle.lease_book.specs.Receipts.{ReceiptState}
@@ -17,7 +18,7 @@ pub data BookCall : Type 0 where
   Settle : (id : RequestId) (given : Tag) (terms : Terms) → BookCall
   Refuse : (id : RequestId) (why : Refusal) → BookCall
   Release : (id : RequestId) (arena base : ℕ) → BookCall
-  Hello : (client incarnation : ℕ) → BookCall
+  Hello : (client incarnation : ℕ) (protocol : Protocol) → BookCall
   Sweep : (client : ℕ) → BookCall
 
 -- what a call of a book of D's can be answered
@@ -26,5 +27,5 @@ AnswerOf D (Look id) = Result (Option (Answer D)) Stopped
 AnswerOf D (Settle id given terms) = Result ReceiptState (NotSettled Tag D)
 AnswerOf D (Refuse id why) = Result (Answer D) Stopped
 AnswerOf D (Release id arena base) = Result (ReceiptState × Tag) (NotReleased D)
-AnswerOf D (Hello client incarnation) = Result (Unit {0}) NotGreeted
+AnswerOf D (Hello client incarnation protocol) = Result Protocol NotGreeted
 AnswerOf D (Sweep client) = Result (Option (RequestId × Tag)) Stopped

@@ -2,6 +2,7 @@
 use Rattle.std.specs.Prelude.{ℕ, zero, suc, List, Option, Some, None, Result, Ok, Err}
 use Rattle.deed_core.specs.Tag.{Tag}
 use Rattle.lease_terms.specs.Requests.{RequestId}
+use Rattle.lease_terms.specs.declared.protocols.Protocol.{Protocol}
 use Rattle.arena_tree.specs.declared.part_faults.Stopped.{Stopped}
 use Rattle.arena_tree.specs.declared.trees.TreeArena.{TreeArena}
 use Rattle.lease_proto.specs.declared.lines.HelloLine.{HelloLine}
@@ -19,29 +20,31 @@ use Rattle.lease_call.specs.declared.outcomes.Greeting.TheVariants.{Welcome, Lat
 abbrev pub HelloEnd : Type 0
 HelloEnd = Result Greeting (CallFault Tag)
 
--- a lease ended, and what it was of goes back, and so on; where none is left, it is a welcome
-abbrev pub on_sweep : {D : Type 0} → List TreeArena → CallPlan D HelloEnd
+-- a lease ended, and what it was of goes back, and so on; where none is left, it is a welcome by
+-- the protocol that stands
+abbrev pub on_sweep : {D : Type 0} → List TreeArena → Protocol → CallPlan D HelloEnd
     → Result (Option (RequestId × Tag)) Stopped → CallPlan D HelloEnd
-on_sweep arenas rest (Ok None) = Done (Ok Welcome)
-on_sweep arenas rest (Ok (Some r)) = place_first arenas r.1 rest
-on_sweep arenas rest (Err e) = Done (Err (calling.Stopped None))
+on_sweep arenas stands rest (Ok None) = Done (Ok (Welcome stands))
+on_sweep arenas stands rest (Ok (Some r)) = place_first arenas r.1 rest
+on_sweep arenas stands rest (Err e) = Done (Err (calling.Stopped None))
 
 -- one sweep after another, until one finds no lease, or so many were made
-abbrev pub sweep_plan : {D : Type 0} → List TreeArena → (client turns : ℕ) → CallPlan D HelloEnd
-sweep_plan arenas client zero = Done (Ok Unswept)
-sweep_plan arenas client (suc turns) =
-    Call (Sweep client) (on_sweep arenas (sweep_plan arenas client turns))
+abbrev pub sweep_plan : {D : Type 0} → List TreeArena → Protocol → (client turns : ℕ)
+    → CallPlan D HelloEnd
+sweep_plan arenas stands client zero = Done (Ok Unswept)
+sweep_plan arenas stands client (suc turns) =
+    Call (Sweep client) (on_sweep arenas stands (sweep_plan arenas stands client turns))
 
 -- the book takes the hello, and then its client's leases of older incarnations end
 abbrev pub on_hello : {D : Type 0} → List TreeArena → (client turns : ℕ)
-    → Result (Unit {0}) NotGreeted → CallPlan D HelloEnd
-on_hello arenas client turns (Ok u) = sweep_plan arenas client turns
+    → Result Protocol NotGreeted → CallPlan D HelloEnd
+on_hello arenas client turns (Ok stands) = sweep_plan arenas stands client turns
 on_hello arenas client turns (Err (greeting.Late f)) = Done (Ok (Late f))
 on_hello arenas client turns (Err greeting.Stopped) = Done (Err (calling.Stopped None))
 
 abbrev pub greet_plan : {D : Type 0} → List TreeArena → HelloLine → ℕ → CallPlan D HelloEnd
 greet_plan arenas h turns =
-    Call (Hello h.client h.incarnation) (on_hello arenas h.client turns)
+    Call (Hello h.client h.incarnation h.protocol) (on_hello arenas h.client turns)
 
 -- after the hand
 abbrev pub hello_plan : {D : Type 0} → List TreeArena → Option Tag → HelloLine → ℕ

@@ -40,7 +40,7 @@ CallBeginsWith (Look id) hand = hand ≡ None
 CallBeginsWith (Settle id given terms) hand = hand ≡ Some given
 CallBeginsWith (Refuse id why) hand = hand ≡ None
 CallBeginsWith (Release id arena base) hand = hand ≡ None
-CallBeginsWith (Hello client incarnation) hand = hand ≡ None
+CallBeginsWith (Hello client incarnation asked) hand = hand ≡ None
 CallBeginsWith (Sweep client) hand = hand ≡ None
 
 -- and after it
@@ -49,7 +49,7 @@ hand_after_call D (Look id) a = None
 hand_after_call D (Settle id given terms) a = not_leased a
 hand_after_call D (Refuse id why) a = None
 hand_after_call D (Release id arena base) a = released a
-hand_after_call D (Hello client incarnation) a = None
+hand_after_call D (Hello client incarnation asked) a = None
 hand_after_call D (Sweep client) a = swept a
 
 -- each step is asked with the hand that it needs, and at the end the hand is as said
@@ -105,7 +105,7 @@ put_in_book D (Look id) a = None
 put_in_book D (Settle id given terms) a = if_taken given a
 put_in_book D (Refuse id why) a = None
 put_in_book D (Release id arena base) a = None
-put_in_book D (Hello client incarnation) a = None
+put_in_book D (Hello client incarnation asked) a = None
 put_in_book D (Sweep client) a = None
 
 -- the segment that it takes out: what was leased
@@ -114,7 +114,7 @@ taken_out_of_book D (Look id) a = None
 taken_out_of_book D (Settle id given terms) a = None
 taken_out_of_book D (Refuse id why) a = None
 taken_out_of_book D (Release id arena base) a = released a
-taken_out_of_book D (Hello client incarnation) a = None
+taken_out_of_book D (Hello client incarnation asked) a = None
 taken_out_of_book D (Sweep client) a = swept a
 
 -- a segment that isn't leased is the one that was given
@@ -128,7 +128,7 @@ HandsBack D (Look id) a = Unit {0}
 HandsBack D (Settle id given terms) a = IsHandedBack given a
 HandsBack D (Refuse id why) a = Unit {0}
 HandsBack D (Release id arena base) a = Unit {0}
-HandsBack D (Hello client incarnation) a = Unit {0}
+HandsBack D (Hello client incarnation asked) a = Unit {0}
 HandsBack D (Sweep client) a = Unit {0}
 
 -- the segment, if there is one, and then these

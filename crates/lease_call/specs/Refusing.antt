@@ -53,5 +53,5 @@ NoFitAfter arenas op (Look id) told = Unit {0}
 NoFitAfter arenas op (Settle id given terms) told = Unit {0}
 NoFitAfter arenas op (Refuse id why) told = why ≡ NoFit → NoneWasFound arenas op told
 NoFitAfter arenas op (Release id arena base) told = Unit {0}
-NoFitAfter arenas op (Hello client incarnation) told = Unit {0}
+NoFitAfter arenas op (Hello client incarnation asked) told = Unit {0}
 NoFitAfter arenas op (Sweep client) told = Unit {0}

@@ -33,7 +33,7 @@ is_stopped_call D (Look id) a = refuses_by (λ _. true) a
 is_stopped_call D (Settle id given terms) a = refuses_by settle_stops a
 is_stopped_call D (Refuse id why) a = refuses_by (λ _. true) a
 is_stopped_call D (Release id arena base) a = refuses_by release_stops a
-is_stopped_call D (Hello client incarnation) a = refuses_by hello_stops a
+is_stopped_call D (Hello client incarnation asked) a = refuses_by hello_stops a
 is_stopped_call D (Sweep client) a = refuses_by (λ _. true) a
 
 -- and the segment comes back

@@ -11,7 +11,7 @@ use crate::call_faults::{NotGreeted, NotReleased, NotSettled};
 use arena_tree::{Parts, Stopped};
 use deed_core::{Held, Request};
 use lease_book::{Answer, Receipt};
-use lease_terms::{ClientId, Ordinal, Quantity, Refusal, RequestId};
+use lease_terms::{ClientId, Ordinal, Protocol, Quantity, Refusal, RequestId};
 
 /// The book of leases as one CPU reaches it, beside its parts. Each call is one event of the book;
 /// where the CPU is to stop it answers Stopped, and nothing is done. What lets a CPU go on, it has
@@ -59,15 +59,16 @@ pub trait Books<S: Held, D, P: Parts<S>> {
         ensures { BookStep step P.tree P.count P.rounds self.old parts.old
             (Release id arena base) (tag_released S.tag result) self.new parts.new };
 
-    /// Takes a hello.
+    /// Takes a hello that asks for a protocol, and gives the one that stands for its incarnation.
     fn hello(
         &mut self,
         parts: &mut P,
         client: ClientId,
         incarnation: Ordinal,
-    ) -> Result<(), NotGreeted>
+        protocol: Protocol,
+    ) -> Result<Protocol, NotGreeted>
         ensures { BookStep step P.tree P.count P.rounds self.old parts.old
-            (Hello client incarnation) result self.new parts.new };
+            (Hello client incarnation protocol) result self.new parts.new };
 
     /// Ends a lease of an older incarnation of the client, and gives its segment with the request
     /// that was granted it. None: no such lease is left.

@@ -13,7 +13,7 @@ use crate::placing::place;
 use arena_tree::{Parts, Tree};
 use deed_core::Held;
 use lease_proto::HelloLine;
-use lease_terms::ClientId;
+use lease_terms::{ClientId, Protocol};
 
 /// Answers a hello: the segment in the hand goes back, the book takes the hello, and then leases
 /// of the client's older incarnations end, one at a time, until a sweep finds none. Of so many
@@ -57,24 +57,26 @@ fn greet<S: Held, D, P: Parts<S>, B: Books<S, D, P>>(
         book.old parts.old book.new parts.new (tag_end S.tag result) }
     ensures tree { P.tree parts.new ≡ P.tree parts.old }
 {
-    match book.hello(parts, line.client, line.incarnation) {
-        Ok(()) => sweep_all(parts, book, tree, line.client, turns),
+    match book.hello(parts, line.client, line.incarnation, line.protocol) {
+        Ok(stands) => sweep_all(parts, book, tree, stands, line.client, turns),
         Err(NotGreeted::Late(fault)) => Ok(Greeting::Late(fault)),
         Err(NotGreeted::Stopped) => Err(CallFault::Stopped(None)),
     }
 }
 
-/// Ends leases of older incarnations of the client, until a sweep finds none.
+/// Ends leases of older incarnations of the client, until a sweep finds none; then it is welcome by
+/// the protocol that stands.
 fn sweep_all<S: Held, D, P: Parts<S>, B: Books<S, D, P>>(
     parts: &mut P,
     book: &mut B,
     tree: &Tree,
+    stands: Protocol,
     client: ClientId,
     turns: u64,
 ) -> Result<Greeting, CallFault<S>>
     requires { P.tree parts.old ≡ nodes_of tree.now }
     ensures ran { CallRan P.step P.tree P.count P.rounds B.step
-        (sweep_plan tree.now client turns)
+        (sweep_plan tree.now stands client turns)
         book.old parts.old book.new parts.new (tag_end S.tag result) }
     ensures tree { P.tree parts.new ≡ P.tree parts.old }
 {
@@ -82,7 +84,7 @@ fn sweep_all<S: Held, D, P: Parts<S>, B: Books<S, D, P>>(
     'sweeps: while left > 0 {
         left -= 1;
         match book.sweep(parts, client) {
-            Ok(None) => return Ok(Greeting::Welcome),
+            Ok(None) => return Ok(Greeting::Welcome(stands)),
             Ok(Some((_, segment))) => place(parts, tree, segment)?,
             Err(_) => return Err(CallFault::Stopped(None)),
         }

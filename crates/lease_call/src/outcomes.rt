@@ -1,5 +1,6 @@
 //! What a line comes to.
 use lease_book::{Answer, HelloFault, Receipt};
+use lease_terms::Protocol;
 
 /// What a request comes to.
 #[derive(Drop)]
@@ -15,8 +16,8 @@ pub enum Outcome<D> {
 /// What a hello comes to.
 #[derive(Drop)]
 pub enum Greeting {
-    /// It was taken, and no lease of an older incarnation of its client is left.
-    Welcome,
+    /// It was taken, by this protocol, and no lease of an older incarnation of its client is left.
+    Welcome(Protocol),
     /// It wasn't taken.
     Late(HelloFault),
     /// It was taken, and leases of older incarnations may be left.

@@ -1,6 +1,11 @@
 pub mod Sums
+pub mod PlaceLemmas
+pub mod LineLemmas
+pub mod ProtocolLemmas
 pub mod HeldLemmas
 pub mod MoveLemmas
 pub mod ReplyLemmas
+pub mod SettledLemmas
 pub mod EntryLemmas
+pub mod AnsweredLemmas
 pub mod LawProofs

@@ -1,35 +1,41 @@
 -- What a client gets keeps it known.
-use Rattle.std.proofs.Common.{◌≡◌, inl, inr, ℕ, ◌+◌, ◌≤◌, ◌==◌, ◌&&◌, Bool, true, false, cond, List, [], ◌∷◌, ◌++◌, Option, Some, None, sum_by, nat_lt, refl, sym, ap, subst, ◌∙◌, arith}
-use Rattle.std.proofs.lemmas.Bool.{false≢true, and_parts, eqb-true, ltb-true, cond-true, cond_both, cases_lt, or_cases, both_ways}
+use Rattle.std.proofs.Common.{◌≡◌, inl, inr, ℕ, ◌+◌, ◌<◌, ◌≤◌, ◌==◌, ◌&&◌, Bool, true, false, not, cond, List, [], ◌∷◌, ◌++◌, Some, None, sum_by, nat_lt, refl, sym, ap, subst, ◌∙◌, arith}
+use Rattle.std.proofs.lemmas.Bool.{false≢true, and_parts, eqb-true, ltb-true, cond-true, cond_both, or_cases, both_ways, or_from, false_from_ne_true, not_from_false}
 use Rattle.lease_terms.specs.Requests.{RequestId}
+use Rattle.lease_terms.specs.declared.protocols.Protocol.{Protocol}
+use Rattle.lease_terms.specs.declared.protocols.Protocol.TheVariants.{One, Two}
 use Rattle.lease_proto.specs.declared.lines.Line.{Line}
 use Rattle.lease_proto.specs.declared.lines.Line.TheVariants as lines
+use Rattle.lease_proto.specs.declared.lines.Op.{Op}
 use Rattle.lease_proto.specs.declared.lines.Op.TheVariants as ops
 use Rattle.lease_proto.specs.declared.replies.Granted.{Granted}
 use Rattle.lease_proto.specs.declared.replies.Old.{Old}
+use Rattle.lease_proto.specs.declared.replies.Welcome.{Welcome}
 use Rattle.lease_proto.specs.declared.replies.Reply.{Reply}
 use Rattle.lease_proto.specs.declared.replies.Reply.TheVariants as replies
 use Rattle.lease_book.specs.declared.receipts.KeptReply.{KeptReply}
 use Rattle.lease_book.specs.declared.receipts.KeptReply.TheVariants as kept
 use Rattle.lease_book.specs.Receipts.{Kept}
 use Rattle.lease_book.specs.Entry.{Entry, Hello, Settled, Swept}
-use Rattle.lease_book.specs.History.{incarnation, last_in, outcome_of, AreOrderly}
-use Rattle.lease_book.proofs.LawProofs.{outcomes_stay, numbers_settled_once}
+use Rattle.lease_book.specs.History.{incarnation, first_protocol, outcome_of, leases_of, AreOrderly}
+use Rattle.lease_book.proofs.LawProofs.{outcomes_stay}
 use Rattle.lease_client.specs.declared.held.HeldSegment.{HeldSegment}
-use Rattle.lease_client.specs.Answers.{is_same_request, answers, answers_one}
-use Rattle.lease_client.specs.ClientState.{ClientState, IsSoundClient, IsOwn}
+use Rattle.lease_client.specs.Answers.{is_same_request, is_same_protocol, answers, answers_one, unanswered}
+use Rattle.lease_client.specs.ClientState.{ClientState, IsSoundClient, is_numbered, line_at, AreRequests, AreOwn}
 use Rattle.lease_client.specs.Replies.{is_ahead, accepts, after_accept, after_reply, segment_of}
 use Rattle.lease_client.specs.Runs.{Get}
 use Rattle.lease_client.proofs.LawProofs.{moves_keep_sound}
-use Rattle.lease_history.specs.Known.{weight_told, weight_kept, weight_due, IsKnown}
+use Rattle.lease_history.specs.Known.{weight_told, weight_kept, weight_due, one_ending, ending_at, weight_left, IsKnown}
 use Rattle.lease_history.specs.Told.{reply_to, IsOutcome, MayTell}
 use Rattle.lease_history.specs.Laws.{RepliesKeepKnown, ToldStaysTold, RepliesAgree}
-use Rattle.lease_history.proofs.Sums.{sum_push}
+use Rattle.lease_history.proofs.Sums.{sum_push, sum_le, filter_le, filter_keeps, filter_gives, find_kept}
+use Rattle.lease_history.proofs.PlaceLemmas.{settled_ends, left_more}
+use Rattle.lease_history.proofs.ProtocolLemmas.{first_stays}
 
 -- What may be told stays so.
 
 incarnation_grows : (c : ℕ) (e : Entry) (es : List Entry) → AreOrderly (e ∷ es) → incarnation c es ≤ incarnation c (e ∷ es)
-incarnation_grows c (Hello d i) es orderly = by (c == d) refl
+incarnation_grows c (Hello d i p) es orderly = by (c == d) refl
   where
     by : (b : Bool) → (c == d) ≡ b → incarnation c es ≤ cond b i (incarnation c es)
     by true is =
@@ -48,7 +54,7 @@ told_stays_told names e es (replies.Granted g) orderly may = outcome_stays names
 told_stays_told names e es (replies.Released id) orderly may = outcome_stays names e es id (replies.Released id) orderly may
 told_stays_told names e es (replies.Refused r) orderly may = outcome_stays names e es r.id (replies.Refused r) orderly may
 told_stays_told names e es (replies.Old o) orderly may = omega (arith, may, incarnation_grows o.client e es orderly)
-told_stays_told names e es (replies.Welcome w) orderly may = tt
+told_stays_told names e es (replies.Welcome w) orderly may = first_stays e es w.client w.incarnation w.protocol may
 told_stays_told names e es (replies.Stale t) orderly may = tt
 told_stays_told names e es (replies.Gap t) orderly may = tt
 told_stays_told names e es (replies.Again a) orderly may = tt
@@ -65,18 +71,50 @@ sound_accepted : (reply : Reply) (c : ClientState) → IsSoundClient c → accep
 sound_accepted reply c is accept =
     subst IsSoundClient (cond-true (accepts reply c) (after_accept reply c) c accept) (moves_keep_sound (Get reply) c (after_reply reply c) is refl)
 
--- nothing is outstanding any more, and what was due is held at most
-known_ends : (names : ℕ → List ℕ) (es : List Entry) (c : ClientState) (opened : Bool) (held : List HeldSegment) → IsKnown names es c
-    → IsSoundClient (record c { outstanding = None; is_open = opened; held = held }) → c.next ≤ last_in c.id c.incarnation es + 1
-    → ((f : HeldSegment → ℕ) → sum_by f held ≤ sum_by f c.held + weight_due names f es c.outstanding)
-    → IsKnown names es (record c { outstanding = None; is_open = opened; held = held })
-known_ends names es c opened held know sound one le = record {
+-- a line that is a hello, or a request that was settled
+abbrev IsSettled : List Entry → Line → Type 0
+IsSettled es (lines.Hello h) = Unit {0}
+IsSettled es (lines.Request id op) = (k : Kept) × (outcome_of id es ≡ Some k)
+
+no_end : (es : List Entry) (arena : List ℕ) (base : ℕ) (line : Line) → IsSettled es line → one_ending es arena base line ≡ 0
+no_end es arena base (lines.Hello h) is = refl
+no_end es arena base (lines.Request id op) is = settled_ends es arena base id op is.0 is.1
+
+-- some settled lines don't wait any more, and what was due for them is held at most
+known_ends : (names : ℕ → List ℕ) (es : List Entry) (c : ClientState) (reply : Reply) (opened : Bool) (held : List HeldSegment) → IsKnown names es c
+    → IsSoundClient (record c { outstanding = unanswered reply c.outstanding; is_open = opened; held = held })
+    → (opened ≡ true → first_protocol c.id c.incarnation es ≡ Some c.protocol)
+    → ((line : Line) → answers reply line ≡ true → IsSettled es line)
+    → ((f : HeldSegment → ℕ) → sum_by f held + sum_by (weight_due names f es) (unanswered reply c.outstanding)
+    ≤ sum_by f c.held + sum_by (weight_due names f es) c.outstanding)
+    → IsKnown names es (record c { outstanding = unanswered reply c.outstanding; is_open = opened; held = held })
+known_ends names es c reply opened held know sound stands settled le = record {
   sound = sound;
   behind = know.behind;
   before = know.before;
-  one = omega (arith, one);
-  held = λ f. omega (arith, know.held f, le f);
+  protocol = stands;
+  waits = waits;
+  once = know.once;
+  ending = λ arena base. omega (arith, know.ending arena base, ends arena base);
+  held = λ f. omega (
+    arith,
+    know.held f,
+    le f,
+    sum_le (weight_left names c.incarnation es c.outstanding f) (weight_left names c.incarnation es (unanswered reply c.outstanding) f)
+        (λ l. left_more names c.incarnation es es c.outstanding (unanswered reply c.outstanding) f f l (omega (arith, ends (names l.segment.arena) l.segment.holding.range.base)) (omega arith)) (leases_of c.id es),
+  );
 }
+  where
+    ends : (arena : List ℕ) (base : ℕ) → ending_at es arena base (unanswered reply c.outstanding) ≡ ending_at es arena base c.outstanding
+    ends arena base = filter_keeps (one_ending es arena base) (λ line. answers reply line) c.outstanding (λ line is. no_end es arena base line (settled line is))
+
+    waits : (id : RequestId) → id.client ≡ c.id → id.incarnation ≡ c.incarnation → 1 ≤ id.number → id.number < c.next → outcome_of id es ≡ None
+        → (op : Op) × (line_at id.number (unanswered reply c.outstanding) ≡ Some (lines.Request id op))
+    waits id client inc from below none =
+        let at = know.waits id client inc from below none in
+        let stays : answers reply (lines.Request id at.0) ≡ false = false_from_ne_true (answers reply (lines.Request id at.0))
+        (λ is. let was = settled (lines.Request id at.0) is in let never : None ≡ Some was.0 = sym none ∙ was.1 in cc) in
+        (at.0, find_kept (is_numbered id.number) (λ line. not (answers reply line)) c.outstanding (lines.Request id at.0) at.1 (not_from_false (answers reply (lines.Request id at.0)) stays))
 
 same_request : (a b : RequestId) → is_same_request a b ≡ true → a ≡ b
 same_request a b is =
@@ -86,21 +124,6 @@ same_request a b is =
     ∙ ap (λ (n : ℕ). record a { client = b.client; incarnation = n }) (eqb-true a.incarnation b.incarnation rest.0)
     ∙ ap (λ (n : ℕ). record b { number = n }) (eqb-true a.number b.number rest.1)
 
--- a settled number is at most the last
-settled_last : (es : List Entry) (id : RequestId) (k : Kept) → outcome_of id es ≡ Some k → id.number ≤ last_in id.client id.incarnation es
-settled_last es id k is = elim (cases_lt (last_in id.client id.incarnation es) id.number) as (λ _. id.number ≤ last_in id.client id.incarnation es) [
-  | inl past ↦ absurd (let none : None ≡ Some k = sym (numbers_settled_once.unsettled es id past) ∙ is in cc)
-  | inr le ↦ le
-]
-
--- the last request of the client was settled
-last_settled : (es : List Entry) (c : ClientState) (id : RequestId) (k : Kept) → outcome_of id es ≡ Some k → id.client ≡ c.id
-    → id.incarnation ≡ c.incarnation → id.number + 1 ≡ c.next → c.next ≤ last_in c.id c.incarnation es + 1
-last_settled es c id k is client inc next =
-    let same : last_in id.client id.incarnation es ≡ last_in c.id c.incarnation es
-    = ap (λ (n : ℕ). last_in n id.incarnation es) client ∙ ap (λ (n : ℕ). last_in c.id n es) inc in
-    omega (arith, settled_last es id k is)
-
 told_weight : (names : ℕ → List ℕ) (f : HeldSegment → ℕ) (g : Granted) (r : KeptReply) → replies.Granted g ≡ reply_to names g.id r
     → f (segment_of g) ≡ weight_told names f r
 told_weight names f g (kept.Granted arena base len) is =
@@ -109,50 +132,77 @@ told_weight names f g (kept.Granted arena base len) is =
 told_weight names f g kept.Released is = absurd cc
 told_weight names f g (kept.Refused why) is = absurd cc
 
+-- the outcome that a reply tells is that of the request that it answers
+told_outcome : (names : ℕ → List ℕ) (es : List Entry) (named id : RequestId) (reply : Reply) → is_same_request named id ≡ true
+    → (told : IsOutcome names es named reply) → outcome_of id es ≡ Some told.0
+told_outcome names es named id reply is told = ap (λ (i : RequestId). outcome_of i es) (sym (same_request named id is)) ∙ told.1
+
+-- a `welcome` that is accepted names the protocol that the client asks for
+same_protocol : (p q : Protocol) → is_same_protocol p q ≡ true → p ≡ q
+same_protocol One One is = refl
+same_protocol Two Two is = refl
+same_protocol One Two is = absurd (false≢true is)
+same_protocol Two One is = absurd (false≢true is)
+
+none_welcomed : (w : Welcome) (c i from next : ℕ) (ls : List Line) → AreRequests c i from next ls → answers_one (replies.Welcome w) ls ≡ false
+none_welcomed w c i from next [] are = refl
+none_welcomed w c i from next (lines.Hello h ∷ ls) are = absurd are
+none_welcomed w c i from next (lines.Request id op ∷ ls) are = none_welcomed w c i (id.number + 1) next ls are.4
+
+welcomed_own : (w : Welcome) (c i : ℕ) (p : Protocol) (next : ℕ) (o : Bool) (ls : List Line) → AreOwn c i p next o ls → answers_one (replies.Welcome w) ls ≡ true
+    → w ≡ record { client = c; incarnation = i; protocol = p }
+welcomed_own w c i p next o [] own one = absurd (false≢true one)
+welcomed_own w c i p next o (lines.Request id op ∷ ls) own one = absurd (both_ways (answers_one (replies.Welcome w) ls) (none_welcomed w c i 1 next (lines.Request id op ∷ ls) own.1) one)
+welcomed_own w c i p next o (lines.Hello h ∷ ls) own one =
+    let none : answers_one (replies.Welcome w) ls ≡ false = ap (answers_one (replies.Welcome w)) own.5 in
+    elim (or_cases (answers (replies.Welcome w) (lines.Hello h)) (answers_one (replies.Welcome w) ls) one) as (λ _. w ≡ record { client = c; incarnation = i; protocol = p }) [
+      | inr later ↦ absurd (both_ways (answers_one (replies.Welcome w) ls) none later)
+      | inl here ↦ (let parts = and_parts (w.client == h.client) ((w.incarnation == h.incarnation) && is_same_protocol w.protocol h.protocol) here in
+          let rest = and_parts (w.incarnation == h.incarnation) (is_same_protocol w.protocol h.protocol) parts.1 in
+          ap (λ (n : ℕ). record w { client = n }) (eqb-true w.client h.client parts.0 ∙ own.0)
+          ∙ ap (λ (n : ℕ). record w { client = c; incarnation = n }) (eqb-true w.incarnation h.incarnation rest.0 ∙ own.1)
+          ∙ ap (λ (q : Protocol). record { client = c; incarnation = i; protocol = q }) (same_protocol w.protocol h.protocol rest.1 ∙ own.6))
+    ]
+
+welcomed_so : (es : List Entry) (c : ClientState) (w : Welcome) → IsSoundClient c → first_protocol w.client w.incarnation es ≡ Some w.protocol
+    → answers_one (replies.Welcome w) c.outstanding ≡ true → first_protocol c.id c.incarnation es ≡ Some c.protocol
+welcomed_so es c w is told one =
+    subst (λ (x : Welcome). first_protocol x.client x.incarnation es ≡ Some x.protocol) (welcomed_own w c.id c.incarnation c.protocol c.next c.is_open c.outstanding is.outstanding one) told
+
+-- Which lines each reply ends.
+
+welcome_ends : (es : List Entry) (w : _) (line : Line) → answers (replies.Welcome w) line ≡ true → IsSettled es line
+welcome_ends es w (lines.Hello h) is = tt
+welcome_ends es w (lines.Request id op) is = absurd (false≢true is)
+
+granted_ends : (names : ℕ → List ℕ) (es : List Entry) (g : Granted) → IsOutcome names es g.id (replies.Granted g) → (line : Line)
+    → answers (replies.Granted g) line ≡ true → IsSettled es line
+granted_ends names es g told (lines.Hello h) is = tt
+granted_ends names es g told (lines.Request id (ops.Lease l)) is = (told.0, told_outcome names es g.id id (replies.Granted g) is told)
+granted_ends names es g told (lines.Request id (ops.Release r)) is = absurd (false≢true is)
+
 -- what a grant brings was due
-record IsDue (names : ℕ → List ℕ) (es : List Entry) (c : ClientState) (g : Granted) (o : Option Line) : Type 0 where
-  one : c.next ≤ last_in c.id c.incarnation es + 1
-  due : (f : HeldSegment → ℕ) → f (segment_of g) ≡ weight_due names f es o
+granted_due : (names : ℕ → List ℕ) (es : List Entry) (g : Granted) → IsOutcome names es g.id (replies.Granted g) → (f : HeldSegment → ℕ) (line : Line)
+    → answers (replies.Granted g) line ≡ true → weight_due names f es line ≡ f (segment_of g)
+granted_due names es g told f (lines.Hello h) is = absurd (false≢true is)
+granted_due names es g told f (lines.Request id (ops.Release r)) is = absurd (false≢true is)
+granted_due names es g told f (lines.Request id (ops.Lease l)) is =
+    ap (weight_kept names f) (told_outcome names es g.id id (replies.Granted g) is told) ∙ sym (told_weight names f g told.0.reply told.2)
 
-granted_due : (names : ℕ → List ℕ) (es : List Entry) (c : ClientState) (g : Granted) (o : Option Line) → IsOwn c o
-    → answers_one (replies.Granted g) o ≡ true → IsOutcome names es g.id (replies.Granted g) → IsDue names es c g o
-granted_due names es c g None own accept told = absurd (false≢true accept)
-granted_due names es c g (Some (lines.Hello h)) own accept told = absurd (false≢true accept)
-granted_due names es c g (Some (lines.Request id (ops.Release r))) own accept told = absurd (false≢true accept)
-granted_due names es c g (Some (lines.Request id (ops.Lease l))) own accept told =
-    let same : g.id ≡ id = same_request g.id id accept in
-    let outcome : outcome_of id es ≡ Some told.0 = ap (λ (i : RequestId). outcome_of i es) (sym same) ∙ told.1 in record {
-      one = last_settled es c id told.0 outcome own.0 own.1 own.2;
-      due = λ f. told_weight names f g told.0.reply told.2 ∙ ap (weight_kept names f) (sym outcome);
-    }
+released_ends : (names : ℕ → List ℕ) (es : List Entry) (named : RequestId) → IsOutcome names es named (replies.Released named) → (line : Line)
+    → answers (replies.Released named) line ≡ true → IsSettled es line
+released_ends names es named told (lines.Hello h) is = tt
+released_ends names es named told (lines.Request id (ops.Lease l)) is = absurd (false≢true is)
+released_ends names es named told (lines.Request id (ops.Release r)) is = (told.0, told_outcome names es named id (replies.Released named) is told)
 
-released_last : (names : ℕ → List ℕ) (es : List Entry) (c : ClientState) (named : RequestId) (o : Option Line) → IsOwn c o
-    → answers_one (replies.Released named) o ≡ true → IsOutcome names es named (replies.Released named)
-    → c.next ≤ last_in c.id c.incarnation es + 1
-released_last names es c named None own accept told = absurd (false≢true accept)
-released_last names es c named (Some (lines.Hello h)) own accept told = absurd (false≢true accept)
-released_last names es c named (Some (lines.Request id (ops.Lease l))) own accept told = absurd (false≢true accept)
-released_last names es c named (Some (lines.Request id (ops.Release r))) own accept told =
-    let outcome : outcome_of id es ≡ Some told.0 = ap (λ (i : RequestId). outcome_of i es) (sym (same_request named id accept)) ∙ told.1 in
-    last_settled es c id told.0 outcome own.0 own.1 own.2
+refused_ends : (names : ℕ → List ℕ) (es : List Entry) (r : _) → IsOutcome names es r.id (replies.Refused r) → (line : Line)
+    → answers (replies.Refused r) line ≡ true → IsSettled es line
+refused_ends names es r told (lines.Hello h) is = tt
+refused_ends names es r told (lines.Request id op) is = (told.0, told_outcome names es r.id id (replies.Refused r) is told)
 
-refused_last : (names : ℕ → List ℕ) (es : List Entry) (c : ClientState) (r : _) (o : Option Line) → IsOwn c o
-    → answers_one (replies.Refused r) o ≡ true → IsOutcome names es r.id (replies.Refused r)
-    → c.next ≤ last_in c.id c.incarnation es + 1
-refused_last names es c r None own accept told = absurd (false≢true accept)
-refused_last names es c r (Some (lines.Hello h)) own accept told = absurd (false≢true accept)
-refused_last names es c r (Some (lines.Request id op)) own accept told =
-    let outcome : outcome_of id es ≡ Some told.0 = ap (λ (i : RequestId). outcome_of i es) (sym (same_request r.id id accept)) ∙ told.1 in
-    last_settled es c id told.0 outcome own.0 own.1 own.2
-
-first_next : (c : ClientState) (w : _) (o : Option Line) → IsOwn c o → answers_one (replies.Welcome w) o ≡ true → c.next ≡ 1
-first_next c w None own accept = absurd (false≢true accept)
-first_next c w (Some (lines.Hello h)) own accept = own.4
-first_next c w (Some (lines.Request id op)) own accept = absurd (false≢true accept)
-
-answers_none : (reply : Reply) → ((line : Line) → answers reply line ≡ false) → (o : Option Line) → answers_one reply o ≡ false
-answers_none reply none None = refl
-answers_none reply none (Some line) = none line
+answers_none : (reply : Reply) → ((line : Line) → answers reply line ≡ false) → (ls : List Line) → answers_one reply ls ≡ false
+answers_none reply none [] = refl
+answers_none reply none (line ∷ ls) = or_from (answers reply line) (answers_one reply ls) (none line) (answers_none reply none ls)
 
 -- a reply that answers no line isn't accepted, and an `old` from the book isn't news
 never : (names : ℕ → List ℕ) (es : List Entry) (c : ClientState) (reply : Reply) → accepts reply c ≡ answers_one reply c.outstanding
@@ -169,18 +219,22 @@ old_is_no_news names es c o know may ahead =
 known_accepted : (names : ℕ → List ℕ) (es : List Entry) (c : ClientState) (reply : Reply) → IsKnown names es c → MayTell names es reply
     → accepts reply c ≡ true → IsKnown names es (after_accept reply c)
 known_accepted names es c (replies.Welcome w) know may accept =
-    known_ends names es c true c.held know (sound_accepted (replies.Welcome w) c know.sound accept)
-    (omega (arith, first_next c w c.outstanding know.sound.outstanding accept)) (λ f. omega arith)
+    known_ends names es c (replies.Welcome w) true c.held know (sound_accepted (replies.Welcome w) c know.sound accept)
+    (λ _. welcomed_so es c w know.sound may accept) (welcome_ends es w)
+    (λ f. omega (arith, filter_le (weight_due names f es) (λ line. not (answers (replies.Welcome w) line)) c.outstanding))
 known_accepted names es c (replies.Granted g) know may accept =
-    let due = granted_due names es c g c.outstanding know.sound.outstanding accept may in
-    known_ends names es c c.is_open (c.held ++ segment_of g ∷ []) know (sound_accepted (replies.Granted g) c know.sound accept) due.one
-    (λ f. omega (arith, sum_push f c.held (segment_of g), due.due f))
+    known_ends names es c (replies.Granted g) c.is_open (c.held ++ segment_of g ∷ []) know (sound_accepted (replies.Granted g) c know.sound accept) know.protocol (granted_ends names es g may)
+    (λ f. omega (
+      arith,
+      sum_push f c.held (segment_of g),
+      filter_gives (weight_due names f es) (f (segment_of g)) (λ line. answers (replies.Granted g) line) c.outstanding (granted_due names es g may f) accept,
+    ))
 known_accepted names es c (replies.Released id) know may accept =
-    known_ends names es c c.is_open c.held know (sound_accepted (replies.Released id) c know.sound accept)
-    (released_last names es c id c.outstanding know.sound.outstanding accept may) (λ f. omega arith)
+    known_ends names es c (replies.Released id) c.is_open c.held know (sound_accepted (replies.Released id) c know.sound accept) know.protocol (released_ends names es id may)
+    (λ f. omega (arith, filter_le (weight_due names f es) (λ line. not (answers (replies.Released id) line)) c.outstanding))
 known_accepted names es c (replies.Refused r) know may accept =
-    known_ends names es c c.is_open c.held know (sound_accepted (replies.Refused r) c know.sound accept)
-    (refused_last names es c r c.outstanding know.sound.outstanding accept may) (λ f. omega arith)
+    known_ends names es c (replies.Refused r) c.is_open c.held know (sound_accepted (replies.Refused r) c know.sound accept) know.protocol (refused_ends names es r may)
+    (λ f. omega (arith, filter_le (weight_due names f es) (λ line. not (answers (replies.Refused r) line)) c.outstanding))
 known_accepted names es c (replies.Old o) know may accept =
     elim (or_cases (is_ahead (replies.Old o) c) (answers_one (replies.Old o) c.outstanding) accept) as (λ _. IsKnown names es (after_accept (replies.Old o) c)) [
       | inl ahead ↦ absurd (old_is_no_news names es c o know may ahead)

@@ -10,7 +10,7 @@ use Rattle.lease_book.specs.declared.receipts.KeptReply.TheVariants as kept
 use Rattle.lease_book.specs.Receipts.{Kept, ReceiptState}
 use Rattle.lease_book.specs.BookState.{BookState, account_in}
 use Rattle.lease_book.specs.Answers.{IsRepeated, IsOld, IsStale, IsGap}
-use Rattle.lease_book.specs.History.{incarnation, outcome_of}
+use Rattle.lease_book.specs.History.{incarnation, first_protocol, outcome_of}
 use Rattle.lease_book.specs.declared.answers.Answer.{Answer}
 use Rattle.lease_book.specs.declared.answers.Answer.TheVariants as answer
 use Rattle.lease_book.specs.declared.answers.HelloFault.{HelloFault}
@@ -40,8 +40,9 @@ reply_to_answer names id (answer.Kept v) = reply_to names id v.reply
 reply_to_answer names id (answer.Refused v) = reply_to names id v.reply
 reply_to_answer names id (answer.Old current) =
     replies.Old (record { client = id.client; current = current })
-reply_to_answer names id (answer.Stale last) = replies.Stale (record { id = id; last = last })
-reply_to_answer names id (answer.Gap last) = replies.Gap (record { id = id; last = last })
+reply_to_answer names id (answer.Stale greatest) =
+    replies.Stale (record { id = id; last = greatest })
+reply_to_answer names id (answer.Gap low) = replies.Gap (record { id = id; last = low })
 reply_to_answer names id answer.Again = again_of id
 
 -- the reply to a number that is settled already
@@ -70,14 +71,15 @@ abbrev pub IsOutcome : (ℕ → List ℕ) → List Entry → RequestId → Reply
 IsOutcome names entries id reply =
     (k : Kept) × (outcome_of id entries ≡ Some k) × (reply ≡ reply_to names id k.reply)
 
--- the book has these entries, or had them, when it gave the reply: how the request was settled, or
--- an incarnation that the client's hello began
+-- the book has these entries, or had them, when it gave the reply: how the request was settled, an
+-- incarnation that the client's hello began, or the protocol of the first hello of an incarnation
 abbrev pub MayTell : (ℕ → List ℕ) → List Entry → Reply → Type 0
 MayTell names entries (replies.Granted g) = IsOutcome names entries g.id (replies.Granted g)
 MayTell names entries (replies.Released id) = IsOutcome names entries id (replies.Released id)
 MayTell names entries (replies.Refused r) = IsOutcome names entries r.id (replies.Refused r)
 MayTell names entries (replies.Old o) = o.current ≤ incarnation o.client entries
-MayTell names entries (replies.Welcome w) = Unit {0}
+MayTell names entries (replies.Welcome w) =
+    first_protocol w.client w.incarnation entries ≡ Some w.protocol
 MayTell names entries (replies.Stale t) = Unit {0}
 MayTell names entries (replies.Gap t) = Unit {0}
 MayTell names entries (replies.Again a) = Unit {0}

@@ -1,8 +1,7 @@
 -- A request is settled once, whatever lines come.
-use Rattle.std.proofs.Common.{◌≡◌, ℕ, ◌+◌, ◌<◌, sym, subst, ap, ◌∙◌, inl, inr, List, [], ◌∷◌, ◌++◌, Option, Some, None, Ok, Err, Result, arith}
+use Rattle.std.proofs.Common.{◌≡◌, ℕ, sym, subst, ap, ◌∙◌, inl, inr, List, [], ◌∷◌, ◌++◌, Option, Some, None, Ok, Err, Result}
 use Rattle.std.proofs.lemmas.List.{append_assoc}
 use Rattle.arena_tree.specs.declared.trees.TreeArena.{TreeArena}
-use Rattle.lease_terms.specs.Requests.{RequestId}
 use Rattle.lease_proto.specs.declared.faults.LineFault.{LineFault}
 use Rattle.lease_proto.specs.declared.lines.Op.TheVariants as ops
 use Rattle.lease_proto.specs.declared.operators.ServedLine.{ServedLine}
@@ -10,11 +9,9 @@ use Rattle.lease_proto.specs.Frames.{Frame}
 use Rattle.lease_proto.specs.Operators.{served_of}
 use Rattle.lease_book.specs.Entry.{Entry}
 use Rattle.lease_book.specs.Receipts.{Kept}
-use Rattle.lease_book.specs.Account.{Account, number_of}
-use Rattle.lease_book.specs.History.{incarnation, account, last_in, outcome_of}
-use Rattle.lease_book.specs.BookState.{BookState, IsHistory, Enters, account_in}
-use Rattle.lease_book.specs.Answers.{IsNew}
-use Rattle.lease_book.proofs.LawProofs.{account_is, last_outcome, outcomes_stay, numbers_settled_once}
+use Rattle.lease_book.specs.History.{outcome_of}
+use Rattle.lease_book.specs.BookState.{BookState, IsHistory, Enters}
+use Rattle.lease_book.proofs.LawProofs.{outcomes_stay}
 use Rattle.lease_history.specs.Told.{reply_to}
 use Rattle.lease_machine.specs.Picture.{Picture}
 use Rattle.arena_tree.specs.Trees.{arena_named}
@@ -24,7 +21,8 @@ use Rattle.lease_machine.specs.AnswerLaws.{reply_bytes, AnswersAgree, RepeatsFit
 use Rattle.lease_machine.proofs.Homes.{setup_stays}
 use Rattle.lease_machine.proofs.Entering.{Comes, still, further, answer_comes}
 use Rattle.lease_machine.proofs.Fitting.{grants_fit}
-use Rattle.lease_machine.proofs.Repeats.{IsLast, history_of, known_last, request_kept, request_answer, kept_or}
+use Rattle.lease_machine.proofs.Numbers.{kept_outcome, new_outcome}
+use Rattle.lease_machine.proofs.Repeats.{history_of, known_kept, request_kept, request_answer, kept_or}
 
 -- whatever history gives the old book, that and some entries more give the new one
 abbrev Grows : BookState → BookState → Type 0
@@ -58,27 +56,6 @@ run_grows [] old new text run = grows_same old.book new.book (ap (λ (d : Pictur
 run_grows (Ok line ∷ frames) old new text run = grows_then old.book run.2.book new.book (answer_grows (served_of line) old run.2 run.0 (run.3).answer) (run_grows frames run.2 new run.1 run.5)
 run_grows (Err fault ∷ frames) old new text run = run_grows frames old new run.0 run.2
 
--- what is kept of the last number is its outcome
-last_is_outcome : (es : List Entry) (book : BookState) (id : RequestId) (k : Kept) → IsHistory es book → IsLast book id k → outcome_of id es ≡ Some k
-last_is_outcome es book id k history is =
-    let here : account_in id.client book ≡ account es id.client = account_is es book id.client history in
-    let at : id.incarnation ≡ incarnation id.client es = is.current ∙ ap (λ (a : Account). a.incarnation) here in
-    let last = sym (ap (λ (a : Account). a.kept) here) ∙ is.last in
-    let outcome = last_outcome es id.client (incarnation id.client es) k last in
-    let was : RequestId = record { client = id.client; incarnation = incarnation id.client es; number = k.number } in
-    let same : was ≡ id =
-    ap (λ (i : ℕ). record { client = id.client; incarnation = i; number = k.number }) (sym at) ∙ ap (λ (n : ℕ). record { client = id.client; incarnation = id.incarnation; number = n }) (sym is.number) in
-    subst (λ (q : RequestId). outcome_of q es ≡ Some k) same outcome
-
--- a number that is new has none
-new_has_none : (es : List Entry) (book : BookState) (id : RequestId) → IsHistory es book → IsNew (account_in id.client book) id → outcome_of id es ≡ None
-new_has_none es book id history fresh =
-    let here : account_in id.client book ≡ account es id.client = account_is es book id.client history in
-    let at : id.incarnation ≡ incarnation id.client es = fresh.current ∙ ap (λ (a : Account). a.incarnation) here in
-    let next : id.number ≡ last_in id.client (incarnation id.client es) es + 1 = fresh.next ∙ ap (λ (a : Account). number_of a.kept + 1) here in
-    let below : last_in id.client id.incarnation es < id.number = subst (λ (i : ℕ). last_in id.client i es < id.number) (sym at) (omega (arith, next)) in
-    numbers_settled_once.unsettled es id below
-
 some_is_one : (o : Option Kept) (j k : Kept) → o ≡ Some j → o ≡ Some k → j ≡ k
 some_is_one o j k a b = (let e : Some j ≡ Some k = sym a ∙ b in cc)
 
@@ -95,19 +72,19 @@ answers_agree old mid late new id op again line text between repeat bytes frames
       | inl is_kept ↦ elim (kept_or b.0) [
         | inr not ↦ inr (inr (b.0, b.1, not))
         | inl also ↦
-            let last = request_kept old mid id (history_of old is) op a.0 a.2 is_kept in
+            let was = request_kept old mid id (history_of old is) op a.0 a.2 is_kept in
             let es : List Entry = first.picture.book.entries in
-            let outcome : outcome_of id es ≡ Some last.0 = last_is_outcome es mid.book id last.0 first.picture.book.history last.1 in
+            let outcome : outcome_of id es ≡ Some was.0 = kept_outcome es mid.book id first.picture.book.history was.1.current was.0 was.1.there in
             let grown = run_grows frames mid late between run es first.picture.book.history in
             let all : List Entry = grown.0 ++ es in
-            let stays : outcome_of id all ≡ Some last.0 = outcomes_stay.later grown.0 es id last.0 grown.1.orderly outcome in
+            let stays : outcome_of id all ≡ Some was.0 = outcomes_stay.later grown.0 es id was.0 grown.1.orderly outcome in
             elim b.2 [
-              | inr fresh ↦ absurd (not_none (outcome_of id all) last.0 (new_has_none all late.book id grown.1 fresh.0) stays)
+              | inr fresh ↦ absurd (not_none (outcome_of id all) was.0 (new_outcome all late.book id grown.1 fresh.0.current fresh.0) stays)
               | inl known ↦
-                  let then_last = known_last late id b.0 also known.0 in
-                  let one : then_last.0 ≡ last.0 = some_is_one (outcome_of id all) then_last.0 last.0 (last_is_outcome all late.book id then_last.0 grown.1 then_last.1) stays in
+                  let then_kept = known_kept late id b.0 also known.0 in
+                  let one : then_kept.0 ≡ was.0 = some_is_one (outcome_of id all) then_kept.0 was.0 (kept_outcome all late.book id grown.1 then_kept.1.current then_kept.0 then_kept.1.there) stays in
                   let tree : late.tree ≡ old.tree = (setup_stays mid late frames between run).tree ∙ first.setup.tree in
-                  let same : b.0 ≡ a.0 = then_last.2 ∙ ap (λ (k : Kept). reply_to (arena_named late.tree) id k.reply) one ∙ ap (λ (xs : List TreeArena). reply_to (arena_named xs) id last.0.reply) tree ∙ sym last.2 in
+                  let same : b.0 ≡ a.0 = then_kept.2 ∙ ap (λ (k : Kept). reply_to (arena_named late.tree) id k.reply) one ∙ ap (λ (xs : List TreeArena). reply_to (arena_named xs) id was.0.reply) tree ∙ sym was.2 in
                   inl (b.1 ∙ ap reply_bytes same ∙ sym a.1)
             ]
       ]

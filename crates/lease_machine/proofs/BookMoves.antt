@@ -8,6 +8,7 @@ use Rattle.std.proofs.lemmas.Bool.Decides.{nat_tests}
 use Rattle.deed_core.specs.Tag.{Tag}
 use Rattle.arena_tree.specs.declared.trees.TreeArena.{TreeArena}
 use Rattle.lease_terms.specs.Requests.{RequestId}
+use Rattle.lease_terms.specs.declared.protocols.Protocol.{Protocol}
 use Rattle.lease_terms.specs.declared.refusals.Refusal.{Refusal}
 use Rattle.lease_book.specs.declared.receipts.Terms.{Terms}
 use Rattle.lease_book.specs.Account.{Account}
@@ -16,6 +17,7 @@ use Rattle.lease_book.specs.Entry.{Entry, Hello, Settled, Swept, Grant, Return, 
 use Rattle.lease_book.specs.BookState.{BookState, Enters, account_in, leased_segments}
 use Rattle.lease_book.specs.Calls.{IsGranted, IsRefused, IsReleased, IsSwept}
 use Rattle.lease_book.specs.History.{incarnation}
+use Rattle.lease_book.specs.Shelf.{standing_of}
 use Rattle.lease_book.proofs.LawProofs.{account_is}
 use Rattle.stock_audit.specs.Outside.{outside}
 use Rattle.stock_audit.specs.Accounted.{IsAccountedFor}
@@ -78,25 +80,25 @@ module _ (d : Picture) (b : BookState) where
   pub swept_book : (c : ℕ) (id : RequestId) (t : Tag) → IsSwept d.book b c id t → IsPicture d → IsBookOf d.tree b
   swept_book c id t swept is = book_enters d.tree (Swept id.client id.incarnation t.arena t.holding.range.base) d.book b swept.ended.entry tt is.book
 
-  -- a lease that ended leaves the incarnation
-  pub swept_incarnation : (c : ℕ) (id : RequestId) (t : Tag) → IsSwept d.book b c id t → IsPicture d → (account_in c b).incarnation ≡ (account_in c d.book).incarnation
-  swept_incarnation c id t swept is =
-      ap (λ (x : Account). x.incarnation) (account_is (Swept id.client id.incarnation t.arena t.holding.range.base ∷ is.book.entries) b c (swept.ended.entry.history is.book.entries is.book.history))
-      ∙ sym (ap (λ (x : Account). x.incarnation) (account_is is.book.entries d.book c is.book.history))
+  -- a lease that ended leaves the incarnation, its protocol and its numbers
+  pub swept_standing : (c : ℕ) (id : RequestId) (t : Tag) → IsSwept d.book b c id t → IsPicture d → standing_of (account_in c b) ≡ standing_of (account_in c d.book)
+  swept_standing c id t swept is =
+      ap standing_of (account_is (Swept id.client id.incarnation t.arena t.holding.range.base ∷ is.book.entries) b c (swept.ended.entry.history is.book.entries is.book.history))
+      ∙ sym (ap standing_of (account_is is.book.entries d.book c is.book.history))
 
   -- neither
   pub refused_is_picture : (id : RequestId) (why : Refusal) (r : ReceiptState) → IsRefused d.book b id why r → IsPicture d → IsPicture rebooked
   refused_is_picture id why r refused is =
       record { held = same_leases [] refused.leases is.held; book = book_enters d.tree (Settled id (Refuse why)) d.book b refused.entry tt is.book }
 
-  pub greeted_is_picture : (c i : ℕ) → Enters (Hello c i) d.book b → leased_segments b ≡ leased_segments d.book → IsPicture d → IsPicture rebooked
-  greeted_is_picture c i enters same is =
-      record { held = same_leases [] same is.held; book = book_enters d.tree (Hello c i) d.book b enters tt is.book }
+  pub greeted_is_picture : (c i : ℕ) (p : Protocol) → Enters (Hello c i p) d.book b → leased_segments b ≡ leased_segments d.book → IsPicture d → IsPicture rebooked
+  greeted_is_picture c i p enters same is =
+      record { held = same_leases [] same is.held; book = book_enters d.tree (Hello c i p) d.book b enters tt is.book }
 
   -- the hello's incarnation is the client's
-  pub greeted_incarnation : (c i : ℕ) → Enters (Hello c i) d.book b → IsPicture d → (account_in c b).incarnation ≡ i
-  greeted_incarnation c i enters is =
-      ap (λ (x : Account). x.incarnation) (account_is (Hello c i ∷ is.book.entries) b c (enters.history is.book.entries is.book.history)) ∙ first
+  pub greeted_incarnation : (c i : ℕ) (p : Protocol) → Enters (Hello c i p) d.book b → IsPicture d → (account_in c b).incarnation ≡ i
+  greeted_incarnation c i p enters is =
+      ap (λ (x : Account). x.incarnation) (account_is (Hello c i p ∷ is.book.entries) b c (enters.history is.book.entries is.book.history)) ∙ first
     where
       first : cond (nat_eq c c) i (incarnation c is.book.entries) ≡ i
       first = grind (arith, nat_tests)

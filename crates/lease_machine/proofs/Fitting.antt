@@ -1,5 +1,5 @@
 -- What is granted fits what was asked.
-use Rattle.std.proofs.Common.{◌≡◌, ℕ, sym, subst, ap, ◌∙◌, inl, inr, List, [], ◌∷◌, true, Option, Some, None, arith, slice_get, get_or, suc, zero}
+use Rattle.std.proofs.Common.{◌≡◌, ℕ, refl, sym, subst, ap, ◌∙◌, inl, inr, List, [], ◌∷◌, true, Option, Some, None, arith, slice_get, get_or, suc, zero}
 use Rattle.std.specs.List.{AllByRecursion}
 use Rattle.std.specs.Str.{bytes_eq}
 use Rattle.std.proofs.lemmas.List.Quantifiers.{position-Some}
@@ -9,6 +9,7 @@ use Rattle.deed_core.specs.Request.{Fits}
 use Rattle.arena_tree.specs.declared.trees.TreeArena.{TreeArena}
 use Rattle.arena_tree.specs.Trees.{index_in}
 use Rattle.lease_terms.specs.Requests.{RequestId}
+use Rattle.lease_proto.specs.declared.lines.Line.TheVariants as lines
 use Rattle.lease_proto.specs.declared.lines.Op.TheVariants as ops
 use Rattle.lease_proto.specs.declared.replies.Reply.{Reply}
 use Rattle.lease_proto.specs.declared.replies.Reply.TheVariants as reply
@@ -16,20 +17,20 @@ use Rattle.lease_proto.specs.declared.replies.Granted.{Granted}
 use Rattle.lease_proto.specs.Requests.{demand_of}
 use Rattle.lease_book.specs.Entry.{Entry, Settlement, Settled, Grant, Return, Refuse, kept_settlement}
 use Rattle.lease_book.specs.Receipts.{Kept, IsEarned}
-use Rattle.lease_book.specs.Account.{Account, number_of}
-use Rattle.lease_book.specs.History.{incarnation, account, outcome_of}
+use Rattle.lease_book.specs.History.{outcome_of}
 use Rattle.lease_book.specs.BookState.{account_in}
 use Rattle.lease_book.specs.Answers.{IsNew}
 use Rattle.lease_book.specs.declared.receipts.KeptReply.{KeptReply}
 use Rattle.lease_book.specs.declared.receipts.KeptReply.TheVariants as replies
 use Rattle.lease_book.specs.declared.receipts.Terms.{Terms}
-use Rattle.lease_book.proofs.LawProofs.{account_is, last_outcome, outcomes_stay, outcome_earned}
+use Rattle.lease_book.proofs.LawProofs.{outcomes_stay, outcome_earned}
 use Rattle.lease_machine.specs.Picture.{Picture, Finds, IsEnteredIn, IsSettledIn}
 use Rattle.arena_tree.specs.Trees.{arena_named, name_or_none}
 use Rattle.lease_machine.specs.Machine.{NewLease, Grants}
 use Rattle.lease_machine.specs.AnswerLaws.{FitsLine, GrantsFit, IsFitting, KeptGrantsFit}
 use Rattle.lease_machine.proofs.Repeats.{request_answer}
-use Rattle.lease_machine.proofs.Naming.{answer_names}
+use Rattle.lease_machine.proofs.Naming.{answer_names, line_is}
+use Rattle.lease_machine.proofs.Numbers.{kept_outcome}
 use Rattle.lease_history.specs.Told.{IsKnownReply, IsKeptReply}
 
 -- a number that is new isn't known
@@ -37,12 +38,12 @@ pub not_known : (d : Picture) (id : RequestId) (r : Reply) → IsNew (account_in
 not_known d id r fresh known = by r known
   where
     at : (x : Reply) → IsKeptReply (arena_named d.tree) d.book id x → ⊥
-    at x known = omega (arith, fresh.next, ap (λ (o : Option Kept). number_of o) known.1.kept)
+    at x known = cc (sym fresh.unsettled ∙ known.1.kept)
 
     by : (x : Reply) → IsKnownReply (arena_named d.tree) d.book id x → ⊥
     by (reply.Old o) known = known.1.other fresh.current
-    by (reply.Stale o) known = omega (arith, fresh.next, known.1.last, known.1.below)
-    by (reply.Gap o) known = omega (arith, fresh.next, known.1.last, known.1.above)
+    by (reply.Stale o) known = omega (arith, fresh.above, known.1.last, known.1.below)
+    by (reply.Gap o) known = omega (arith, fresh.within, known.1.reached, known.1.above)
     by (reply.Granted x) known = at (reply.Granted x) known
     by (reply.Released x) known = at (reply.Released x) known
     by (reply.Refused x) known = at (reply.Refused x) known
@@ -93,7 +94,7 @@ grants_fit old new id l line text is read fresh step =
     let a = request_answer old new id (ops.Lease l) line text read step in (
       a.0,
       a.1,
-      answer_names id (ops.Lease l) old new a.0 a.2,
+      answer_names id (ops.Lease l) old new a.0 (line_is line (lines.Request id (ops.Lease l)) read).0.number.0 a.2,
       elim a.2 [
         | inl known ↦ absurd (not_known old id a.0 fresh known.0)
         | inr does ↦ new_fits old new id l a.0 does.1
@@ -123,13 +124,10 @@ settled_fits d n (Return a b) k is home earned arena base len granted = absurd (
 settled_fits d n (Refuse why) k is home earned arena base len granted = absurd (let e : replies.Granted arena base len ≡ replies.Refused why = sym granted ∙ ap (λ (x : Kept). x.reply) is in cc)
 
 pub kept_grants_fit : KeptGrantsFit
-kept_grants_fit d c k is kept_is =
+kept_grants_fit d c n k is kept_is =
     let es : List Entry = is.book.entries in
-    let i : ℕ = incarnation c es in
-    let id : RequestId = record { client = c; incarnation = i; number = k.number } in
-    let account_of : account_in c d.book ≡ account es c = account_is es d.book c is.book.history in
-    let last = sym (ap (λ (a : Account). a.kept) account_of) ∙ kept_is in
-    let outcome : outcome_of id es ≡ Some k = last_outcome es c i k last in
+    let id : RequestId = record { client = c; incarnation = (account_in c d.book).incarnation; number = n } in
+    let outcome : outcome_of id es ≡ Some k = kept_outcome es d.book id is.book.history refl k kept_is in
     let entry = outcomes_stay.entry es id k outcome in
     settled_fits
     d

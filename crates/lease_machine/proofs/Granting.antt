@@ -8,7 +8,9 @@ use Rattle.std.proofs.lemmas.List.Elements.{Contains-append_left, Contains-push}
 use Rattle.deed_core.specs.Tag.{Tag}
 use Rattle.arena_tree.specs.declared.trees.TreeArena.{TreeArena}
 use Rattle.arena_tree.specs.Trees.{index_in}
+use Rattle.lease_terms.specs.Protocols.{window_of}
 use Rattle.lease_terms.specs.Requests.{RequestId}
+use Rattle.lease_terms.specs.declared.protocols.Protocol.TheVariants.{One}
 use Rattle.lease_proto.specs.declared.faults.LineFault.{LineFault}
 use Rattle.lease_proto.specs.declared.lines.Line.TheVariants as lines
 use Rattle.lease_proto.specs.declared.lines.HelloLine.{HelloLine}
@@ -23,27 +25,33 @@ use Rattle.lease_proto.specs.declared.replies.Reply.TheVariants as reply
 use Rattle.lease_proto.specs.declared.replies.Granted.{Granted}
 use Rattle.lease_proto.specs.Frames.{Frame, with_line_feed}
 use Rattle.lease_proto.specs.Operators.{served_of}
+use Rattle.lease_proto.specs.Requests.{demand_of}
 use Rattle.lease_proto.specs.Replies.{reply_of, reply_text, IsReply}
 use Rattle.lease_proto.proofs.LawProofs.{replies_are_texts}
 use Rattle.lease_book.specs.declared.receipts.KeptReply.{KeptReply}
 use Rattle.lease_book.specs.declared.receipts.KeptReply.TheVariants as kept
 use Rattle.lease_book.specs.Entry.{Entry, Settlement, Settled, Hello, Swept, Grant, Refuse, Return, kept_settlement}
 use Rattle.lease_book.specs.Receipts.{Kept}
-use Rattle.lease_book.specs.Account.{Account, Lease, is_lease, without_first, lease_of, leases_after}
+use Rattle.lease_book.specs.Replies.{kept_at, recent}
+use Rattle.lease_book.specs.Shelf.{with_leases, with_settled}
+use Rattle.lease_book.specs.Account.{Account, Lease, is_lease, without_first, lease_of, leases_after, window_in}
+use Rattle.lease_book.specs.Answers.{IsNew}
 use Rattle.lease_book.specs.BookState.{BookState, HasHistory, Enters, account_in, account_or_nobody}
-use Rattle.lease_book.proofs.LawProofs.{entered_changes}
-use Rattle.lease_history.specs.Told.{reply_to}
+use Rattle.lease_book.proofs.LawProofs.{entered_changes, found_number}
+use Rattle.lease_history.specs.Told.{reply_to, IsKnownReply}
 use Rattle.lease_machine.specs.Picture.{Picture, IsPicture}
 use Rattle.arena_tree.specs.Trees.{arena_named, name_or_none}
-use Rattle.lease_machine.specs.Machine.{LeaseStep}
+use Rattle.lease_machine.specs.Machine.{LeaseStep, NewRequest, RequestStep}
 use Rattle.lease_machine.specs.Laws.{Runs}
-use Rattle.lease_machine.specs.AnswerLaws.{reply_bytes, IsKept, IsReadAs, AreNamed}
-use Rattle.lease_machine.specs.LeaseLaws.{leases_in, LeasesStay, LeasesBecome, LeaseMoves, ReleaseMoves, HelloMoves}
+use Rattle.lease_machine.specs.AnswerLaws.{reply_bytes, IsReadAs, AreNamed}
+use Rattle.lease_machine.specs.LeaseLaws.{leases_in, LeasesStay, LeasesBecome, LeaseMoves, ReleaseMoves, HelloMoves, grant_told}
 use Rattle.lease_machine.specs.GrantLaws.{AnswersGranted, EndsLease, RunKeeps}
-use Rattle.lease_machine.proofs.Repeats.{history_of, request_kept, request_answer}
-use Rattle.lease_machine.proofs.Fitting.{kept_grants_fit, found_named}
-use Rattle.lease_machine.proofs.Leases.{leases_move, stays, stays_at}
-use Rattle.lease_machine.proofs.Replied.{line_is, request_valid}
+use Rattle.lease_machine.proofs.Repeats.{history_of, known_kept, request_answer}
+use Rattle.lease_machine.proofs.Fitting.{kept_grants_fit, found_named, not_known}
+use Rattle.lease_machine.proofs.Leases.{leases_move, settled_becomes, stays, stays_at}
+use Rattle.lease_machine.proofs.Numbers.{settled_alone}
+use Rattle.lease_machine.proofs.Naming.{line_is}
+use Rattle.lease_machine.proofs.Replied.{request_valid}
 use Rattle.lease_machine.proofs.Entering.{Makes, greets, settles, sweeps, Comes, still, further, answer_comes}
 
 -- Members of lists.
@@ -80,7 +88,7 @@ filter_keeps test (y ∷ ys) x passes has = by (test y) refl (contains_cases y y
     by true is_so (inl is) rest = contains_first y (filter test ys) x is
     by true is_so (inr later) rest = contains_later y (filter test ys) x (rest later)
 
--- Each client's last reply, where it is a grant, is of a lease that stands.
+-- Each kept reply of a client by the first protocol, where it is a grant, is of a lease that stands.
 
 -- the grant is of a lease of the account's incarnation
 pub record Stands (a : Account) (k : Kept) (arena base len : ℕ) : Type 0 where
@@ -91,42 +99,44 @@ pub record Stands (a : Account) (k : Kept) (arena base len : ℕ) : Type 0 where
   pub as_long : segment.holding.range.len ≡ len
 
 abbrev AccountStands : Account → Type 0
-AccountStands a = (k : Kept) (arena base len : ℕ) → a.kept ≡ Some k → k.reply ≡ kept.Granted arena base len → Stands a k arena base len
+AccountStands a = (k : Kept) (n arena base len : ℕ) → a.protocol ≡ One → kept_at n a.kept ≡ Some k → k.reply ≡ kept.Granted arena base len → Stands a k arena base len
 
 abbrev pub BookStands : BookState → Type 0
 BookStands book = (c : ℕ) → AccountStands (account_in c book)
 
-none_stands : (a : Account) → a.kept ≡ None → AccountStands a
-none_stands a none k arena base len is granted = absurd (let e : None ≡ Some k = sym none ∙ is in cc)
+none_stands : (a : Account) → a.kept ≡ [] → AccountStands a
+none_stands a none k n arena base len one is granted = absurd (let e : None ≡ Some k = sym (ap (kept_at n) none) ∙ is in cc)
 
-abbrev after_settling : RequestId → Settlement → List Lease → Account
-after_settling id s leases = record {
-  client = id.client;
-  incarnation = id.incarnation;
-  kept = Some (kept_settlement id.number s);
-  leases = leases_after id s leases;
-}
+abbrev after_settling : RequestId → Settlement → Account → Account
+after_settling id s a = with_settled (kept_settlement id.number s) (with_leases (leases_after id s) a)
 
-settled_stands : (id : RequestId) (s : Settlement) (leases : List Lease) → AccountStands (after_settling id s leases)
-settled_stands id (Grant t terms) leases k arena base len is granted =
-    let now : kept_settlement id.number (Grant t terms) ≡ k = (let e : Some (kept_settlement id.number (Grant t terms)) ≡ Some k = is in cc) in
+-- by the first protocol nothing but the newest reply is kept
+newest : (id : RequestId) (s : Settlement) (a : Account) → IsNew a id → (k : Kept) (n : ℕ) → a.protocol ≡ One → kept_at n (after_settling id s a).kept ≡ Some k → kept_settlement id.number s ≡ k
+newest id s a fresh k n one is =
+    let w : window_in a ≡ 1 = ap window_of one in
+    settled_alone (kept_settlement id.number s) a.kept n k (omega (arith, fresh.above, w)) fresh.unsettled (subst (λ (m : ℕ). kept_at n (recent m (kept_settlement id.number s ∷ a.kept)) ≡ Some k) w is)
+
+settled_stands : (id : RequestId) (s : Settlement) (a : Account) → IsNew a id → AccountStands (after_settling id s a)
+settled_stands id (Grant t terms) a fresh k n arena base len one is granted =
+    let now : kept_settlement id.number (Grant t terms) ≡ k = newest id (Grant t terms) a fresh k n one is in
     let told : kept.Granted t.arena t.holding.range.base t.holding.range.len ≡ kept.Granted arena base len = ap (λ (x : Kept). x.reply) now ∙ granted in
     let at_arena : t.arena ≡ arena = cc in
     let at_base : t.holding.range.base ≡ base = cc in
     let as_long : t.holding.range.len ≡ len = cc in
     let number : id.number ≡ k.number = ap (λ (x : Kept). x.number) now in
+    let own : lease_of id t ≡ record { incarnation = a.incarnation; number = k.number; segment = t } = λ j. record { incarnation = fresh.current j; number = number j; segment = t } in
     record {
       segment = t;
-      held = subst (λ (n : ℕ). Contains (leases ++ lease_of id t ∷ []) (record { incarnation = id.incarnation; number = n; segment = t })) number (Contains-push leases (lease_of id t));
+      held = subst (λ (l : Lease). Contains (a.leases ++ lease_of id t ∷ []) l) own (Contains-push a.leases (lease_of id t));
       of_arena = at_arena;
       at_base = at_base;
       as_long = as_long;
     }
-settled_stands id (Return a b) leases k arena base len is granted =
-    let now : kept_settlement id.number (Return a b) ≡ k = (let e : Some (kept_settlement id.number (Return a b)) ≡ Some k = is in cc) in
+settled_stands id (Return i b) a fresh k n arena base len one is granted =
+    let now : kept_settlement id.number (Return i b) ≡ k = newest id (Return i b) a fresh k n one is in
     absurd (let e : kept.Released ≡ kept.Granted arena base len = ap (λ (x : Kept). x.reply) now ∙ granted in cc)
-settled_stands id (Refuse why) leases k arena base len is granted =
-    let now : kept_settlement id.number (Refuse why) ≡ k = (let e : Some (kept_settlement id.number (Refuse why)) ≡ Some k = is in cc) in
+settled_stands id (Refuse why) a fresh k n arena base len one is granted =
+    let now : kept_settlement id.number (Refuse why) ≡ k = newest id (Refuse why) a fresh k n one is in
     absurd (let e : kept.Refused why ≡ kept.Granted arena base len = ap (λ (x : Kept). x.reply) now ∙ granted in cc)
 
 -- a lease of a later incarnation is none of the older one's
@@ -134,25 +144,25 @@ not_older : (i arena base : ℕ) (l : Lease) → i < l.incarnation → is_lease 
 not_older i arena base l below = ap (λ (b : Bool). b && (nat_eq arena l.segment.arena && nat_eq base l.segment.holding.range.base)) (ne_eqb i l.incarnation (λ e. omega (arith, e, below)))
 
 entry_stands : (e : Entry) (old new : BookState) → HasHistory old → Makes e old → Enters e old new → BookStands old → BookStands new
-entry_stands _ _ new history (greets d i old le) entry st c = elim (cases_eq c d) [
-  | inr other ↦ subst AccountStands (sym (entered_changes.others old new (Hello d i) c history entry other)) (st c)
+entry_stands _ _ new history (greets d i p old le) entry st c = elim (cases_eq c d) [
+  | inr other ↦ subst AccountStands (sym (entered_changes.others old new (Hello d i p) c history entry other)) (st c)
   | inl is ↦ elim (cases_lt (account_in d old).incarnation i) [
-    | inl above ↦ subst (λ (x : ℕ). AccountStands (account_in x new)) (sym is) (none_stands (account_in d new) (ap (λ (a : Account). a.kept) (entered_changes.hello old new d i history entry above)))
+    | inl above ↦ subst (λ (x : ℕ). AccountStands (account_in x new)) (sym is) (none_stands (account_in d new) (ap (λ (a : Account). a.kept) (entered_changes.hello old new d i p history entry above)))
     | inr below ↦
         let current : i ≡ (account_in d old).incarnation = omega (arith, le, below) in
-        subst (λ (x : ℕ). AccountStands (account_in x new)) (sym is) (subst AccountStands (sym (entered_changes.again old new d i history entry current)) (st d))
+        subst (λ (x : ℕ). AccountStands (account_in x new)) (sym is) (subst AccountStands (sym (entered_changes.again old new d i p history entry current)) (st d))
   ]
 ]
-entry_stands _ _ new history (settles id s old) entry st c = elim (cases_eq c id.client) [
+entry_stands _ _ new history (settles id s old fresh) entry st c = elim (cases_eq c id.client) [
   | inr other ↦ subst AccountStands (sym (entered_changes.others old new (Settled id s) c history entry other)) (st c)
   | inl is ↦ subst (λ (x : ℕ). AccountStands (account_in x new)) (sym is)
-      (subst AccountStands (sym (entered_changes.settled old new id s history entry)) (settled_stands id s (account_in id.client old).leases))
+      (subst AccountStands (sym (entered_changes.settled old new id s history entry)) (settled_stands id s (account_in id.client old) fresh))
 ]
 entry_stands _ _ new history (sweeps d i arena base old older) entry st c = elim (cases_eq c d) [
   | inr other ↦ subst AccountStands (sym (entered_changes.others old new (Swept d i arena base) c history entry other)) (st c)
   | inl is ↦ subst (λ (x : ℕ). AccountStands (account_in x new)) (sym is)
-      (subst AccountStands (sym (entered_changes.swept old new d i arena base history entry)) (λ k a b n last granted. (
-      let so = st d k a b n last granted in
+      (subst AccountStands (sym (entered_changes.swept old new d i arena base history entry)) (λ k n a b len one there granted. (
+      let so = st d k n a b len one there granted in
       let l : Lease = record { incarnation = (account_in d old).incarnation; number = k.number; segment = so.segment } in
       record {
         segment = so.segment;
@@ -225,6 +235,64 @@ pub record IsLeased (d : Picture) (g : Granted) : Type 0 where
   pub here : slice_get d.tree lease.segment.arena ≡ Some arena
   pub named : arena.name ≡ g.arena
 
+-- the request has the lease that is told
+record HasLease (d : Picture) (id : RequestId) (h : Granted) : Type 0 where
+  segment : Tag
+  held : Contains (leases_in d id.client) (lease_of id segment)
+  arena : TreeArena
+  here : slice_get d.tree segment.arena ≡ Some arena
+  told : h ≡ grant_told d id segment
+
+has_leased : (d : Picture) (id : RequestId) (h : Granted) → HasLease d id h → IsLeased d h
+has_leased d id h has = subst (IsLeased d) (sym has.told) (record {
+  lease = lease_of id has.segment;
+  held = has.held;
+  incarnation = refl;
+  number = refl;
+  at_base = refl;
+  as_long = refl;
+  arena = has.arena;
+  here = has.here;
+  named = ap name_or_none (sym has.here);
+})
+
+-- where it is new
+new_has : (old new : Picture) (id : RequestId) (op : Op) (h : Granted) → HasHistory old.book → new.tree ≡ old.tree → NewRequest id op old new (reply.Granted h) → HasLease new id h
+new_has old new id (ops.Lease l) h history tree does =
+    let t = does.segment in
+    let e : reply.Granted h ≡ reply.Granted (grant_told old id t) = does.reply in
+    let told : h ≡ grant_told old id t = cc in
+    let becomes = settled_becomes old new id (Grant t (record { quantum = does.arena.quantum; request = demand_of l })) history does.granted.entry in
+    record {
+      segment = t;
+      held = subst (λ (ls : List Lease). Contains ls (lease_of id t)) (sym becomes.own) (Contains-push (leases_in old id.client) (lease_of id t));
+      arena = does.arena;
+      here = ap (λ (xs : List TreeArena). slice_get xs t.arena) tree ∙ ap (slice_get old.tree) does.serves.arena ∙ does.takes.finds.here;
+      told = told ∙ ap (λ (xs : List TreeArena). record { id = id; arena = arena_named xs t.arena; base = t.holding.range.base; len = t.holding.range.len }) (sym tree);
+    }
+new_has old new id (ops.Release l) h history tree does = absurd does
+
+-- where its client asks again by the first protocol
+known_has : (d : Picture) (id : RequestId) (h : Granted) → IsPicture d → BookStands d.book → (account_in id.client d.book).protocol ≡ One → IsKnownReply (arena_named d.tree) d.book id (reply.Granted h) → HasLease d id h
+known_has d id h is st one known =
+    let was = known_kept d id (reply.Granted h) tt known in
+    let k = was.0 in
+    let (arena, base, len, granted, told) = kept_granted (arena_named d.tree) id k.reply h was.2 in
+    let so = st id.client k id.number arena base len one was.1.there granted in
+    let home = kept_grants_fit d id.client id.number k is was.1.there arena base len granted in
+    let number : id.number ≡ k.number = (found_number (account_in id.client d.book).kept id.number k was.1.there).0 in
+    let own : record { incarnation = (account_in id.client d.book).incarnation; number = k.number; segment = so.segment } ≡ lease_of id so.segment =
+    λ j. record { incarnation = sym was.1.current j; number = sym number j; segment = so.segment } in
+    let tells : grant_told d id so.segment ≡ record { id = id; arena = arena_named d.tree arena; base = base; len = len } =
+    λ j. record { id = id; arena = arena_named d.tree (so.of_arena j); base = so.at_base j; len = so.as_long j } in
+    record {
+      segment = so.segment;
+      held = subst (λ (l : Lease). Contains (leases_in d id.client) l) own so.held;
+      arena = home.0;
+      here = ap (slice_get d.tree) so.of_arena ∙ home.2;
+      told = told ∙ sym tells;
+    }
+
 pub granted_leased : (old new : Picture) (line text : List ℕ) (g : Granted) → IsPicture old → AreNamed old.tree → BookStands old.book → AnswersGranted old line text g new → IsLeased new g
 granted_leased old new line text g is names st a =
     let id = a.id in
@@ -233,37 +301,24 @@ granted_leased old new line text g is names st a =
     let said : reply_bytes answer.0 ≡ reply_bytes (reply.Granted g) = sym answer.1 ∙ grant_bytes text g told in
     let grant = is_grant answer.0 g said in
     let h = grant.0 in
-    let does = subst (λ (r : Reply). IsKept r) (sym grant.1) tt in
-    let last = request_kept old new id (history_of old is) a.op answer.0 answer.2 does in
-    let k = last.0 in
-    let of = kept_granted (arena_named old.tree) id k.reply h (sym grant.1 ∙ last.2) in
-    let (arena, base, len, granted, told_h) = of in
-    let account = account_in id.client new.book in
-    let so = step_stands old new line text is a.step st id.client k arena base len last.1.last granted in
-    let lease : Lease = record { incarnation = account.incarnation; number = k.number; segment = so.segment } in
-    let home = kept_grants_fit new id.client k a.step.picture last.1.last arena base len granted in
+    let step : RequestStep id a.op old new (reply.Granted h) = subst (RequestStep id a.op old new) grant.1 answer.2 in
     let tree : new.tree ≡ old.tree = a.step.setup.tree in
-    let name : home.0.name ≡ arena_named old.tree arena = ap name_or_none (sym home.2) ∙ ap (λ (xs : List TreeArena). arena_named xs arena) tree in
+    let has : HasLease new id h =
+    (elim step [
+      | inr does ↦ new_has old new id a.op h (history_of old is) tree does.1
+      | inl known ↦ elim a.counts [
+        | inl fresh ↦ absurd (not_known old id (reply.Granted h) fresh known.0)
+        | inr one ↦ subst (λ (d : Picture). HasLease d id h) (sym known.1) (known_has old id h is st one known.0)
+      ]
+    ]) in
     let is_id = (line_is line (lines.Request id a.op) a.read).0 in
     let valid : IsReply (reply.Granted h) = subst IsReply grant.1 (request_valid old new is a.step.picture tree names id is_id a.op answer.0 answer.2) in
     let same : h ≡ g = read_back g h text valid (answer.1 ∙ ap reply_bytes grant.1) told in
-    let g_is : record { id = id; arena = arena_named old.tree arena; base = base; len = len } ≡ g = sym told_h ∙ same in
-    let made : IsLeased new (record { id = id; arena = arena_named old.tree arena; base = base; len = len }) = record {
-      lease = lease;
-      held = so.held;
-      incarnation = sym last.1.current;
-      number = sym last.1.number;
-      at_base = so.at_base;
-      as_long = so.as_long;
-      arena = home.0;
-      here = ap (slice_get new.tree) so.of_arena ∙ home.2;
-      named = name;
-    } in
-    subst (IsLeased new) g_is made
+    subst (IsLeased new) same (has_leased new id h has)
 
 -- What keeps a lease.
 
-module _ (g : Granted) (old new : Picture) (is : IsPicture old) (line text : List ℕ) (step : LeaseStep old line text new) (not : ¬ EndsLease g line text) (l : IsLeased old g) where
+module _ (g : Granted) (old new : Picture) (is : IsPicture old) (line text : List ℕ) (step : LeaseStep old line text new) (not : ¬ EndsLease g old line text) (l : IsLeased old g) where
   abbrev Has : Picture → Type 0
   Has d = Contains (leases_in d g.id.client) l.lease
 
@@ -284,7 +339,7 @@ module _ (g : Granted) (old new : Picture) (is : IsPicture old) (line text : Lis
 
   hello_has : (h : HelloLine) → served_of line ≡ Ok (served.Client (lines.Hello h)) → (r : Reply) → text ≡ reply_bytes r → HelloMoves h old r new → Has new
   hello_has h read (reply.Welcome w) said moves = become_has h.client (filter (stays h.incarnation) (leases_in old h.client)) moves.1 (λ own. elim (cases_lt l.lease.incarnation h.incarnation) [
-    | inl older ↦ absurd (not (inr (h, read, sym own, subst (λ (i : ℕ). i < h.incarnation) l.incarnation older, said ∙ ap (λ x. reply_bytes (reply.Welcome x)) moves.0)))
+    | inl older ↦ absurd (not (inr (h, read, sym own, subst (λ (i : ℕ). i < h.incarnation) l.incarnation older, ((account_in h.client new.book).protocol, said ∙ ap (λ x. reply_bytes (reply.Welcome x)) moves.0))))
     | inr current ↦ filter_keeps (stays h.incarnation) (leases_in old h.client) l.lease (stays_at h.incarnation l.lease current) (own_held h.client own)
   ])
   hello_has h read (reply.Granted x) said moves = stay_has moves
@@ -308,35 +363,35 @@ module _ (g : Granted) (old new : Picture) (is : IsPicture old) (line text : Lis
   lease_has id x (reply.Error y) moves = stay_has moves
 
   -- where the lease passes the test of a release, that is one of it
-  released_it : (id : RequestId) (x : ReleaseLine) → served_of line ≡ Ok (served.Client (lines.Request id (ops.Release x))) → g.id.client ≡ id.client → text ≡ reply_bytes (reply.Released id)
+  released_it : (id : RequestId) (x : ReleaseLine) → served_of line ≡ Ok (served.Client (lines.Request id (ops.Release x))) → IsNew (account_in id.client old.book) id → g.id.client ≡ id.client → text ≡ reply_bytes (reply.Released id)
       → (index : ℕ) → index_in x.arena old.tree ≡ Some index → is_lease id.incarnation index x.base l.lease ≡ true → ⊥
-  released_it id x read own said index named passes =
+  released_it id x read fresh own said index named passes =
       let parts = and_parts (nat_eq id.incarnation l.lease.incarnation) _ passes in
       let rest = and_parts (nat_eq index l.lease.segment.arena) _ parts.1 in
       let i : id.incarnation ≡ l.lease.incarnation = eqb-true id.incarnation l.lease.incarnation parts.0 in
       let at : index ≡ l.lease.segment.arena = eqb-true index l.lease.segment.arena rest.0 in
       let base : x.base ≡ l.lease.segment.holding.range.base = eqb-true x.base l.lease.segment.holding.range.base rest.1 in
       let name : l.arena.name ≡ x.arena = found_named old.tree x.arena index l.arena named (ap (slice_get old.tree) at ∙ l.here) in
-      not (inl (id, x, read, sym own, i ∙ l.incarnation, sym name ∙ l.named, base ∙ l.at_base, said))
+      not (inl (id, x, read, fresh, sym own, i ∙ l.incarnation, sym name ∙ l.named, base ∙ l.at_base, said))
 
-  release_has : (id : RequestId) (x : ReleaseLine) → served_of line ≡ Ok (served.Client (lines.Request id (ops.Release x))) → (r : Reply) → text ≡ reply_bytes r → ReleaseMoves id x old r new → Has new
-  release_has id x read (reply.Released p) said moves =
+  release_has : (id : RequestId) (x : ReleaseLine) → served_of line ≡ Ok (served.Client (lines.Request id (ops.Release x))) → IsNew (account_in id.client old.book) id → (r : Reply) → text ≡ reply_bytes r → ReleaseMoves id x old r new → Has new
+  release_has id x read fresh (reply.Released p) said moves =
       let loses = moves.1 in
       let test = is_lease id.incarnation loses.index x.base in
       become_has id.client (without_first test (leases_in old id.client)) loses.less (λ own.
       by (test l.lease) refl own (said ∙ ap (λ y. reply_bytes (reply.Released y)) moves.0))
     where
       by : (b : Bool) → is_lease id.incarnation moves.1.index x.base l.lease ≡ b → g.id.client ≡ id.client → text ≡ reply_bytes (reply.Released id) → Contains (without_first (is_lease id.incarnation moves.1.index x.base) (leases_in old id.client)) l.lease
-      by true passes own so = absurd (released_it id x read own so moves.1.index moves.1.named passes)
+      by true passes own so = absurd (released_it id x read fresh own so moves.1.index moves.1.named passes)
       by false fails own so = without_keeps (is_lease id.incarnation moves.1.index x.base) (leases_in old id.client) l.lease fails (own_held id.client own)
-  release_has id x read (reply.Welcome y) said moves = stay_has moves
-  release_has id x read (reply.Granted y) said moves = stay_has moves
-  release_has id x read (reply.Refused y) said moves = stay_has moves
-  release_has id x read (reply.Old y) said moves = stay_has moves
-  release_has id x read (reply.Stale y) said moves = stay_has moves
-  release_has id x read (reply.Gap y) said moves = stay_has moves
-  release_has id x read (reply.Again y) said moves = stay_has moves
-  release_has id x read (reply.Error y) said moves = stay_has moves
+  release_has id x read fresh (reply.Welcome y) said moves = stay_has moves
+  release_has id x read fresh (reply.Granted y) said moves = stay_has moves
+  release_has id x read fresh (reply.Refused y) said moves = stay_has moves
+  release_has id x read fresh (reply.Old y) said moves = stay_has moves
+  release_has id x read fresh (reply.Stale y) said moves = stay_has moves
+  release_has id x read fresh (reply.Gap y) said moves = stay_has moves
+  release_has id x read fresh (reply.Again y) said moves = stay_has moves
+  release_has id x read fresh (reply.Error y) said moves = stay_has moves
 
   request_has : (id : RequestId) (op : Op) → served_of line ≡ Ok (served.Client (lines.Request id op)) → Has new
   request_has id (ops.Lease x) read = elim ((request_answer old new id (ops.Lease x) line text read step).2) [
@@ -345,7 +400,7 @@ module _ (g : Granted) (old new : Picture) (is : IsPicture old) (line text : Lis
   ]
   request_has id (ops.Release x) read = elim ((request_answer old new id (ops.Release x) line text read step).2) [
     | inl known ↦ same_has known.1
-    | inr fresh ↦ (let moves = leases_move.release old new id x line text is read fresh.0 step in release_has id x read moves.0 moves.1 moves.2)
+    | inr fresh ↦ (let moves = leases_move.release old new id x line text is read fresh.0 step in release_has id x read fresh.0 moves.0 moves.1 moves.2)
   ]
 
   line_has : (x : Result ServedLine LineFault) → served_of line ≡ x → Has new
@@ -368,12 +423,12 @@ module _ (g : Granted) (old new : Picture) (is : IsPicture old) (line text : Lis
   }
 
 -- a line that is answered with a grant ends none
-ends_none : (g h : Granted) (line text : List ℕ) → IsReadAs text (reply.Granted h) → ¬ EndsLease g line text
-ends_none g h line text told (inl back) = (let e : 114 ≡ 103 = ap (λ xs. get_or xs 0 0) (sym back.7 ∙ grant_bytes text h told) in omega (arith, e))
-ends_none g h line text told (inr swept) = (let e : 119 ≡ 103 = ap (λ xs. get_or xs 0 0) (sym swept.4 ∙ grant_bytes text h told) in omega (arith, e))
+ends_none : (g h : Granted) (old : Picture) (line text : List ℕ) → IsReadAs text (reply.Granted h) → ¬ EndsLease g old line text
+ends_none g h old line text told (inl back) = (let e : 114 ≡ 103 = ap (λ xs. get_or xs 0 0) (sym back.8 ∙ grant_bytes text h told) in omega (arith, e))
+ends_none g h old line text told (inr swept) = (let e : 119 ≡ 103 = ap (λ xs. get_or xs 0 0) (sym swept.4.1 ∙ grant_bytes text h told) in omega (arith, e))
 
 pub grant_keeps : (g : Granted) (old new : Picture) (line text : List ℕ) (h : Granted) → IsPicture old → AnswersGranted old line text h new → IsLeased old g → IsLeased new g
-grant_keeps g old new line text h is a l = step_keeps g old new is line text a.step (ends_none g h line text a.told) l
+grant_keeps g old new line text h is a l = step_keeps g old new is line text a.step (ends_none g h old line text a.told) l
 
 -- what lines keep that end no such lease
 pub record Kept_on (g : Granted) (old new : Picture) : Type 0 where

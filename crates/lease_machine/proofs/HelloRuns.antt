@@ -6,12 +6,15 @@ use Rattle.arena_tree.specs.Climbs.{ReturnEnd}
 use Rattle.arena_tree.specs.Trees.{nodes_of}
 use Rattle.arena_tree.specs.declared.part_faults.Stopped.{Stopped}
 use Rattle.lease_terms.specs.Requests.{RequestId}
+use Rattle.lease_terms.specs.declared.protocols.Protocol.{Protocol}
 use Rattle.lease_proto.specs.declared.lines.HelloLine.{HelloLine}
 use Rattle.lease_proto.specs.declared.replies.Old.{Old}
 use Rattle.lease_book.specs.Account.{Account, Lease, is_lease, without_first}
 use Rattle.lease_book.specs.Answers.{IsHelloFault}
 use Rattle.lease_book.specs.BookState.{BookState, HasHistory, account_in}
 use Rattle.lease_book.specs.Calls.{IsSwept}
+use Rattle.lease_book.specs.Shelf.{standing_of}
+use Rattle.lease_book.specs.Standings.{StandingState}
 use Rattle.lease_book.specs.declared.answers.HelloFault.{HelloFault}
 use Rattle.lease_book.specs.declared.answers.HelloFault.TheVariants as late
 use Rattle.lease_book.specs.declared.books.TheConstants.{MOST_LEASES}
@@ -32,7 +35,7 @@ use Rattle.lease_machine.specs.Conversations.{BookDoes, RunsCall, AnswersHello, 
 use Rattle.lease_machine.specs.Held.{parts_in, with_parts}
 use Rattle.lease_machine.specs.Machine.{HelloStep, Sweeps}
 use Rattle.lease_machine.specs.Picture.{Picture, IsPicture, SameSetup}
-use Rattle.lease_machine.proofs.BookMoves.{swept_in_hand, swept_book, swept_incarnation, greeted_is_picture, greeted_incarnation}
+use Rattle.lease_machine.proofs.BookMoves.{swept_in_hand, swept_book, swept_standing, greeted_is_picture, greeted_incarnation}
 use Rattle.lease_machine.proofs.Placing.{PlacedBack, unchanged, parts_written, parts_again, placed_back}
 use Rattle.lease_machine.proofs.Rebooking.{goes_back_from}
 
@@ -52,31 +55,31 @@ swept_shorter old new c id t history swept =
     ∙ shorter (is_lease id.incarnation t.arena t.holding.range.base) (account_in id.client old).leases _ swept.ended.lease)
 
 -- all leases of the client's older incarnations ended, one after another
-record SweptAll (c : ℕ) (old new : Picture) (a : HelloEnd) : Type 0 where
-  done : Ok Welcome ≡ a
+record SweptAll (stands : Protocol) (c : ℕ) (old new : Picture) (a : HelloEnd) : Type 0 where
+  done : Ok (Welcome stands) ≡ a
   swept : List Tag
   sweeps : Sweeps c swept old new
-  current : (account_in c new.book).incarnation ≡ (account_in c old.book).incarnation
+  standing : standing_of (account_in c new.book) ≡ standing_of (account_in c old.book)
   left : All (λ l. (account_in c new.book).incarnation ≤ l.incarnation) (account_in c new.book).leases
   picture : IsPicture new
   setup : SameSetup old new
 
-module _ (D : Type 0) (c : ℕ) (b : BookState) (s : LocalState) (a : HelloEnd) where
+module _ (D : Type 0) (stands : Protocol) (c : ℕ) (b : BookState) (s : LocalState) (a : HelloEnd) where
   abbrev end : Picture → Picture
   end d = with_parts s (record d { book = b })
 
   abbrev Swept : Picture → Type 0
-  Swept d = SweptAll c d (end d) a
+  Swept d = SweptAll stands c d (end d) a
 
   abbrev SweepsAll : ℕ → Type 0
-  SweepsAll turns = (d : Picture) → IsPicture d → length (account_in c d.book).leases < turns → RunsCall {D = D} d.tree (sweep_plan d.tree c turns) d.book (parts_in d) b s a → Swept d
+  SweepsAll turns = (d : Picture) → IsPicture d → length (account_in c d.book).leases < turns → RunsCall {D = D} d.tree (sweep_plan d.tree stands c turns) d.book (parts_in d) b s a → Swept d
 
-  clean : (d : Picture) → IsPicture d → All (λ l. (account_in c d.book).incarnation ≤ l.incarnation) (account_in c d.book).leases → d.book ≡ b → parts_in d ≡ s → Ok Welcome ≡ a → Swept d
-  clean d is left books parts done = subst (λ (new : Picture). SweptAll c d new a) (unchanged d b s is.held.cpus books parts) (record {
+  clean : (d : Picture) → IsPicture d → All (λ l. (account_in c d.book).incarnation ≤ l.incarnation) (account_in c d.book).leases → d.book ≡ b → parts_in d ≡ s → Ok (Welcome stands) ≡ a → Swept d
+  clean d is left books parts done = subst (λ (new : Picture). SweptAll stands c d new a) (unchanged d b s is.held.cpus books parts) (record {
     done = done;
     swept = [];
     sweeps = refl;
-    current = refl;
+    standing = refl;
     left = left;
     picture = is;
     setup = record { tree = refl; owned = refl };
@@ -84,31 +87,31 @@ module _ (D : Type 0) (c : ℕ) (b : BookState) (s : LocalState) (a : HelloEnd) 
 
   module _ (turns : ℕ) (again : SweepsAll turns) (d : Picture) (is : IsPicture d) (few : length (account_in c d.book).leases < suc turns) where
     -- the segment went back, and so do those of the other sweeps
-    went : (n : BookState) (id : RequestId) (t : Tag) → IsSwept d.book n c id t → (m : LocalState) → PlacedBack t (record d { book = n }) (with_parts m (record d { book = n })) → RunsCall {D = D} d.tree (sweep_plan d.tree c turns) n m b s a → Swept d
+    went : (n : BookState) (id : RequestId) (t : Tag) → IsSwept d.book n c id t → (m : LocalState) → PlacedBack t (record d { book = n }) (with_parts m (record d { book = n })) → RunsCall {D = D} d.tree (sweep_plan d.tree stands c turns) n m b s a → Swept d
     went n id t swept m back path =
         let between : Picture = record d { book = n } in
         let mid : Picture = with_parts m between in
         let less = swept_shorter d.book n c id t (is.book.entries, is.book.history) swept in
         let rest = again mid (record { held = back.held; book = swept_book d n c id t swept is }) (omega (arith, few, less))
-        (subst (λ (p : LocalState). RunsCall {D = D} d.tree (sweep_plan d.tree c turns) n p b s a) (sym (parts_written between m is.held.cpus)) path) in
-        subst (λ (new : Picture). SweptAll c d new a) (parts_again (record d { book = b }) m s) (record {
+        (subst (λ (p : LocalState). RunsCall {D = D} d.tree (sweep_plan d.tree stands c turns) n p b s a) (sym (parts_written between m is.held.cpus)) path) in
+        subst (λ (new : Picture). SweptAll stands c d new a) (parts_again (record d { book = b }) m s) (record {
           done = rest.done;
           swept = t ∷ rest.swept;
           sweeps = (id, mid, swept, goes_back_from between mid d.book t back.back, rest.sweeps);
-          current = rest.current ∙ swept_incarnation d n c id t swept is;
+          standing = rest.standing ∙ swept_standing d n c id t swept is;
           left = rest.left;
           picture = rest.picture;
           setup = record { tree = rest.setup.tree; owned = rest.setup.owned ∙ back.setup.owned };
         })
 
-    one : (n : BookState) (m : LocalState) (x : Result (Option (RequestId × Tag)) Stopped) → BookDoes D d.book (parts_in d) (Sweep c) x n m → RunsCall {D = D} d.tree (on_sweep d.tree (sweep_plan d.tree c turns) x) n m b s a → Swept d
+    one : (n : BookState) (m : LocalState) (x : Result (Option (RequestId × Tag)) Stopped) → BookDoes D d.book (parts_in d) (Sweep c) x n m → RunsCall {D = D} d.tree (on_sweep d.tree stands (sweep_plan d.tree stands c turns) x) n m b s a → Swept d
     one n m (Ok None) event path = clean d is event.0.0 (sym event.0.1 ∙ path.0) (sym event.1 ∙ path.1) path.2
     one n m (Ok (Some r)) event path =
-        let split = path_under (SoundStep (nodes_of d.tree)) (BookDoes D) (place_plan d.tree r.1) (on_place (sweep_plan d.tree c turns)) n (parts_in d) b s a
-        (subst (λ (p : LocalState). RunsCall {D = D} d.tree (place_first d.tree r.1 (sweep_plan d.tree c turns)) n p b s a) event.1 path) in
+        let split = path_under (SoundStep (nodes_of d.tree)) (BookDoes D) (place_plan d.tree r.1) (on_place (sweep_plan d.tree stands c turns)) n (parts_in d) b s a
+        (subst (λ (p : LocalState). RunsCall {D = D} d.tree (place_first d.tree r.1 (sweep_plan d.tree stands c turns)) n p b s a) event.1 path) in
         let back = placed_back (record d { book = n }) r.1 (swept_in_hand d n c r.0 r.1 event.0 is) split.0 split.1 split.2 in
         went n r.0 r.1 event.0 split.0 back.1
-        (subst (λ (e : ReturnEnd). RunsCall {D = D} d.tree (on_place (sweep_plan d.tree c turns) e) n split.0 b s a) back.0 split.3)
+        (subst (λ (e : ReturnEnd). RunsCall {D = D} d.tree (on_place (sweep_plan d.tree stands c turns) e) n split.0 b s a) back.0 split.3)
     one n m (Err e) event path = absurd event.0
 
   sweeps_all : (turns : ℕ) → SweepsAll turns
@@ -119,14 +122,15 @@ module _ (D : Type 0) (d : Picture) (h : HelloLine) (turns : ℕ) (is : IsPictur
   abbrev new : Picture
   new = with_parts s (record d { book = b })
 
-  taken : (n : BookState) → IsGreeted d.book n h.client h.incarnation → RunsCall {D = D} d.tree (sweep_plan d.tree h.client turns) n (parts_in d) b s a → AnswersHello h d new a
-  taken n greeted path =
-      let picture = greeted_is_picture d n h.client h.incarnation greeted.entry greeted.leases is in
+  taken : (n : BookState) (stands : Protocol) → IsGreeted d.book n h.client h.incarnation h.protocol stands → RunsCall {D = D} d.tree (sweep_plan d.tree stands h.client turns) n (parts_in d) b s a → AnswersHello h d new a
+  taken n stands greeted path =
+      let picture = greeted_is_picture d n h.client h.incarnation h.protocol greeted.entry greeted.leases is in
       let few = (books_in_bounds.accounts n h.client (picture.book.entries, picture.book.history)).few in
-      let all = sweeps_all D h.client b s a turns (record d { book = n }) picture (omega (arith, few, enough)) path in
+      let all = sweeps_all D stands h.client b s a turns (record d { book = n }) picture (omega (arith, few, enough)) path in
+      let protocol : stands ≡ (account_in h.client b).protocol = greeted.protocol ∙ sym (ap (λ (x : StandingState). x.protocol) all.standing) in
       subst (AnswersHello h d new) all.done (record {
         step = (
-          refl,
+          ap (λ (p : Protocol). record { client = h.client; incarnation = h.incarnation; protocol = p }) protocol,
           record {
             current = greeted.current;
             greeted = n;
@@ -134,7 +138,7 @@ module _ (D : Type 0) (d : Picture) (h : HelloLine) (turns : ℕ) (is : IsPictur
             leases = greeted.leases;
             swept = all.swept;
             sweeps = all.sweeps;
-            left = subst (λ (i : ℕ). All (λ l. i ≤ l.incarnation) (account_in h.client b).leases) (all.current ∙ greeted_incarnation d n h.client h.incarnation greeted.entry is) all.left;
+            left = subst (λ (i : ℕ). All (λ l. i ≤ l.incarnation) (account_in h.client b).leases) (ap (λ (x : StandingState). x.incarnation) all.standing ∙ greeted_incarnation d n h.client h.incarnation h.protocol greeted.entry is) all.left;
           },
         );
         picture = all.picture;
@@ -144,12 +148,12 @@ module _ (D : Type 0) (d : Picture) (h : HelloLine) (turns : ℕ) (is : IsPictur
   abbrev old_of : ℕ → Old
   old_of current = record { client = h.client; current = current }
 
-  refused : (f : HelloFault) → IsHelloFault (account_in h.client d.book).incarnation h.incarnation f → HelloStep h d d (hello_refusal h f)
+  refused : (f : HelloFault) → IsHelloFault (account_in h.client d.book).incarnation h.incarnation h.protocol f → HelloStep h d d (hello_refusal h f)
   refused (late.Old current) fault = (ap old_of fault.1, fault.0, refl)
   refused late.NoMemory fault = (refl, fault, refl)
 
-  asked : (n : BookState) (m : LocalState) (x : Result (Unit {0}) NotGreeted) → BookDoes D d.book (parts_in d) (Hello h.client h.incarnation) x n m → RunsCall {D = D} d.tree (on_hello d.tree h.client turns x) n m b s a → AnswersHello h d new a
-  asked n m (Ok u) event path = taken n event.0 (subst (λ (p : LocalState). RunsCall {D = D} d.tree (sweep_plan d.tree h.client turns) n p b s a) event.1 path)
+  asked : (n : BookState) (m : LocalState) (x : Result Protocol NotGreeted) → BookDoes D d.book (parts_in d) (Hello h.client h.incarnation h.protocol) x n m → RunsCall {D = D} d.tree (on_hello d.tree h.client turns x) n m b s a → AnswersHello h d new a
+  asked n m (Ok stands) event path = taken n stands event.0 (subst (λ (p : LocalState). RunsCall {D = D} d.tree (sweep_plan d.tree stands h.client turns) n p b s a) event.1 path)
   asked n m (Err (greeting.Late f)) event done =
       subst (AnswersHello h d new) done.2
       (subst (λ (p : Picture). AnswersHello h d p (Ok (Late f))) (unchanged d b s is.held.cpus (sym event.0.1 ∙ done.0) (sym event.1 ∙ done.1)) (record {

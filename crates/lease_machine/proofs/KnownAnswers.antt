@@ -21,7 +21,7 @@ module _ {D : Type 0} (book : BookState) (id : RequestId) where
   IsKnown (answer.Kept v) = IsRepeated book (account_in id.client book) id v
   IsKnown (answer.Old current) = IsOld (account_in id.client book) id current
   IsKnown (answer.Stale greatest) = IsStale (account_in id.client book) id greatest
-  IsKnown (answer.Gap greatest) = IsGap (account_in id.client book) id greatest
+  IsKnown (answer.Gap low) = IsGap (account_in id.client book) id low
   IsKnown (answer.Refused v) = ⊥
   IsKnown answer.Again = ⊥
 
@@ -30,7 +30,7 @@ module _ {D : Type 0} (book : BookState) (id : RequestId) where
   looked_up new (answer.Kept v) is = is
   looked_up new (answer.Old current) is = is
   looked_up new (answer.Stale greatest) is = is
-  looked_up new (answer.Gap greatest) is = is
+  looked_up new (answer.Gap low) is = is
   looked_up new (answer.Refused v) is = absurd is
   looked_up new answer.Again is = absurd is.0
 
@@ -41,7 +41,7 @@ module _ (d : Picture) (id : RequestId) where
     where
       by : (r : KeptReply) → v.reply ≡ r → IsTellable (length d.tree) r
       by (kept.Granted arena base len) said =
-          let fits = kept_grants_fit d id.client (record { number = id.number; reply = v.reply; terms = v.terms }) is rep.kept arena base len said in
+          let fits = kept_grants_fit d id.client id.number (record { number = id.number; reply = v.reply; terms = v.terms }) is rep.kept arena base len said in
           slice_get_within d.tree arena fits.0 fits.2
       by kept.Released said = tt
       by (kept.Refused why) said = tt
@@ -51,7 +51,7 @@ module _ (d : Picture) (id : RequestId) where
   known_named is (answer.Refused v) known = absurd known
   known_named is (answer.Old current) known = tt
   known_named is (answer.Stale greatest) known = tt
-  known_named is (answer.Gap greatest) known = tt
+  known_named is (answer.Gap low) known = tt
   known_named is answer.Again known = tt
 
   kept_known : (v : ReceiptState) → IsRepeated d.book (account_in id.client d.book) id v → IsKnownReply (arena_named d.tree) d.book id (reply_to (arena_named d.tree) id v.reply)
@@ -67,5 +67,5 @@ module _ (d : Picture) (id : RequestId) where
   known_told (answer.Refused v) known = absurd known
   known_told (answer.Old current) known = (refl, known)
   known_told (answer.Stale greatest) known = (refl, known)
-  known_told (answer.Gap greatest) known = (refl, known)
+  known_told (answer.Gap low) known = (refl, known)
   known_told answer.Again known = absurd known

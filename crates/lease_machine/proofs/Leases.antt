@@ -1,5 +1,5 @@
 -- What becomes of all leases.
-use Rattle.std.proofs.Common.{◌≡◌, ◌≢◌, ◌⊎◌, ℕ, ◌<◌, ◌≤◌, refl, sym, subst, ap, ◌∙◌, inl, inr, Bool, true, false, cond, not, nat_eq, ◌&&◌, List, [], ◌∷◌, filter, All, get_or, None, Ok, Err, Result, arith, suc}
+use Rattle.std.proofs.Common.{◌≡◌, ◌≢◌, ◌⊎◌, ℕ, ◌<◌, ◌≤◌, refl, sym, subst, ap, ◌∙◌, inl, inr, Bool, true, false, cond, not, nat_eq, ◌&&◌, List, [], ◌∷◌, filter, All, get_or, Ok, Err, Result, arith, suc}
 use Rattle.std.proofs.lemmas.Bool.{cases_lt, cases_eq, eqb-true, ltb-true}
 use Rattle.std.proofs.Common.{lt-ltb}
 use Rattle.deed_core.specs.Tag.{Tag}
@@ -16,9 +16,11 @@ use Rattle.lease_proto.specs.declared.replies.Reply.{Reply}
 use Rattle.lease_proto.specs.declared.replies.Reply.TheVariants as reply
 use Rattle.lease_proto.specs.Operators.{served_of}
 use Rattle.lease_proto.specs.Requests.{demand_of}
-use Rattle.lease_book.specs.Entry.{Settlement, Settled, Hello, Swept, Grant, Refuse, Return}
+use Rattle.lease_book.specs.Entry.{Entry, Settlement, Settled, Hello, Swept, Grant, Refuse, Return}
 use Rattle.lease_book.specs.Account.{Account, Lease, is_lease, is_older, without_first, leases_after}
 use Rattle.lease_book.specs.BookState.{BookState, HasHistory, Enters, account_in}
+use Rattle.lease_book.specs.Shelf.{standing_of, with_standing}
+use Rattle.lease_book.specs.Standings.{begun}
 use Rattle.lease_book.proofs.LawProofs.{entered_changes}
 use Rattle.lease_machine.specs.Picture.{Picture, IsPicture}
 use Rattle.lease_machine.specs.Machine.{NewLease, NewRelease, Sweeps, HelloStep, AnswersLine, LeaseStep, Welcomes}
@@ -114,14 +116,14 @@ module _ (c i : ℕ) where
   -- so they are after the sweeps of older ones
   pub record Swept_so (old new : Picture) : Type 0 where
     pub current : (account_in c new.book).incarnation ≡ i
-    pub numbers : (account_in c new.book).kept ≡ (account_in c old.book).kept
+    pub standing : standing_of (account_in c new.book) ≡ standing_of (account_in c old.book)
     pub kept : filter (stays i) (leases_in new c) ≡ filter (stays i) (leases_in old c)
     pub others : (d : ℕ) → d ≢ c → leases_in new d ≡ leases_in old d
 
   sweeps_so : (ts : List Tag) (old new : Picture) → HasHistory old.book → (account_in c old.book).incarnation ≡ i → Sweeps c ts old new → Swept_so old new
   sweeps_so [] old new history at same = record {
     current = ap (λ (d : Picture). (account_in c d.book).incarnation) same ∙ at;
-    numbers = ap (λ (d : Picture). (account_in c d.book).kept) same;
+    standing = ap (λ (d : Picture). standing_of (account_in c d.book)) same;
     kept = ap (λ (d : Picture). filter (stays i) (leases_in d c)) same;
     others = λ d other. ap (λ (x : Picture). leases_in x d) same;
   }
@@ -137,55 +139,63 @@ module _ (c i : ℕ) where
       ap (λ (a : Account). filter (stays i) a.leases) own ∙ filter_without (stays i) (is_lease j t.arena base) (older_goes i j t.arena base below) (leases_in old c) in
       record {
         current = then_so.current;
-        numbers = then_so.numbers ∙ ap (λ (a : Account). a.kept) own;
+        standing = then_so.standing ∙ ap standing_of own;
         kept = then_so.kept ∙ first;
         others = λ d other. then_so.others d other ∙ ap (λ (a : Account). a.leases) (entered_changes.others old.book mid.book (Swept c j t.arena base) d history entry other);
       }
 
-pub welcome_moves : (old new : Picture) (c i : ℕ) → IsPicture old → Welcomes c i old new → ((account_in c new.book).incarnation ≡ i) × LeasesBecome c (filter (stays i) (leases_in old c)) old new
-welcome_moves old new c i is does =
-    let history = history_of old is in
-    let entry = does.hello in
-    let own = by (cases_lt (account_in c old.book).incarnation i) in
-    let greeted : Picture = record old { book = does.greeted } in
-    let so = sweeps_so c i does.swept greeted new (Hello c i ∷ history.0, entry.history history.0 history.1) own.0 does.sweeps in
-    let all : All (λ x. stays i x ≡ true) (leases_in new c) = (λ k d lt. stays_at i (get_or (leases_in new c) k d) (does.left k d lt)) in (
-      so.current,
-      record {
-        own = sym (filter_all (stays i) (leases_in new c) all) ∙ so.kept ∙ ap (filter (stays i)) own.1;
-        others = λ d other. so.others d other ∙ ap (λ (a : Account). a.leases) (entered_changes.others old.book does.greeted (Hello c i) d history entry other);
-      },
-    )
-  where
-    by : ((account_in c old.book).incarnation < i) ⊎ (i ≤ (account_in c old.book).incarnation) → ((account_in c does.greeted).incarnation ≡ i) × ((account_in c does.greeted).leases ≡ (account_in c old.book).leases)
-    by (inl above) =
-        let own = entered_changes.hello old.book does.greeted c i (history_of old is) does.hello above in
-        (ap (λ (a : Account). a.incarnation) own, ap (λ (a : Account). a.leases) own)
-    by (inr below) =
-        let current : i ≡ (account_in c old.book).incarnation = omega (arith, below, does.current) in
-        let own = entered_changes.again old.book does.greeted c i (history_of old is) does.hello current in
-        (ap (λ (a : Account). a.incarnation) own ∙ sym current, ap (λ (a : Account). a.leases) own)
+module _ (old new : Picture) (h : HelloLine) (is : IsPicture old) (does : Welcomes h old new) where
+  abbrev was : Account
+  was = account_in h.client old.book
 
--- the numbers begin anew, or go on
-pub welcome_numbers : (old new : Picture) (c i : ℕ) → IsPicture old → Welcomes c i old new
-    → ((account_in c old.book).incarnation < i → (account_in c new.book).kept ≡ None) × ((account_in c old.book).incarnation ≡ i → (account_in c new.book).kept ≡ (account_in c old.book).kept)
-welcome_numbers old new c i is does = (
-  λ above. (
-      let own = entered_changes.hello old.book does.greeted c i history does.hello above in
-      (swept (ap (λ (a : Account). a.incarnation) own)).numbers ∙ ap (λ (a : Account). a.kept) own),
-  λ same. (
-      let own = entered_changes.again old.book does.greeted c i history does.hello (sym same) in
-      (swept (ap (λ (a : Account). a.incarnation) own ∙ same)).numbers ∙ ap (λ (a : Account). a.kept) own),
-)
-  where
-    history : HasHistory old.book
-    history = history_of old is
+  abbrev greeted : Account
+  greeted = account_in h.client does.greeted
 
-    swept : (account_in c does.greeted).incarnation ≡ i → Swept_so c i (record old { book = does.greeted }) new
-    swept current = sweeps_so c i does.swept (record old { book = does.greeted }) new (Hello c i ∷ history.0, does.hello.history history.0 history.1) current does.sweeps
+  abbrev entry : Entry
+  entry = Hello h.client h.incarnation h.protocol
+
+  history : HasHistory old.book
+  history = history_of old is
+
+  -- the numbers begin anew
+  above_greeted : was.incarnation < h.incarnation → greeted ≡ with_standing (begun h.incarnation h.protocol) was
+  above_greeted above = entered_changes.hello old.book does.greeted h.client h.incarnation h.protocol history does.hello above
+
+  -- or go on
+  again_greeted : h.incarnation ≡ was.incarnation → greeted ≡ was
+  again_greeted current = entered_changes.again old.book does.greeted h.client h.incarnation h.protocol history does.hello current
+
+  greeted_so : (greeted.incarnation ≡ h.incarnation) × (greeted.leases ≡ was.leases)
+  greeted_so = by (cases_lt was.incarnation h.incarnation)
+    where
+      by : (was.incarnation < h.incarnation) ⊎ (h.incarnation ≤ was.incarnation) → (greeted.incarnation ≡ h.incarnation) × (greeted.leases ≡ was.leases)
+      by (inl above) = (let own = above_greeted above in (ap (λ (a : Account). a.incarnation) own, ap (λ (a : Account). a.leases) own))
+      by (inr below) =
+          let current : h.incarnation ≡ was.incarnation = omega (arith, below, does.current) in
+          let own = again_greeted current in
+          (ap (λ (a : Account). a.incarnation) own ∙ sym current, ap (λ (a : Account). a.leases) own)
+
+  swept : Swept_so h.client h.incarnation (record old { book = does.greeted }) new
+  swept = sweeps_so h.client h.incarnation does.swept (record old { book = does.greeted }) new (entry ∷ history.0, does.hello.history history.0 history.1) greeted_so.0 does.sweeps
+
+  pub welcome_moves : ((account_in h.client new.book).incarnation ≡ h.incarnation) × LeasesBecome h.client (filter (stays h.incarnation) (leases_in old h.client)) old new
+  welcome_moves =
+      let all : All (λ x. stays h.incarnation x ≡ true) (leases_in new h.client) = (λ k d lt. stays_at h.incarnation (get_or (leases_in new h.client) k d) (does.left k d lt)) in (
+        swept.current,
+        record {
+          own = sym (filter_all (stays h.incarnation) (leases_in new h.client) all) ∙ swept.kept ∙ ap (filter (stays h.incarnation)) greeted_so.1;
+          others = λ d other. swept.others d other ∙ ap (λ (a : Account). a.leases) (entered_changes.others old.book does.greeted entry d history does.hello other);
+        },
+      )
+
+  pub welcome_anew : was.incarnation < h.incarnation → standing_of (account_in h.client new.book) ≡ begun h.incarnation h.protocol
+  welcome_anew above = swept.standing ∙ ap standing_of (above_greeted above)
+
+  pub welcome_on : was.incarnation ≡ h.incarnation → standing_of (account_in h.client new.book) ≡ standing_of was
+  welcome_on same = swept.standing ∙ ap standing_of (again_greeted (sym same))
 
 pub hello_moves : (old new : Picture) (h : HelloLine) → IsPicture old → (r : Reply) → HelloStep h old new r → HelloMoves h old r new
-hello_moves old new h is (reply.Welcome w) does = (does.0, (welcome_moves old new h.client h.incarnation is does.1).1)
+hello_moves old new h is (reply.Welcome w) does = (does.0, (welcome_moves old new h is does.1).1)
 hello_moves old new h is (reply.Old o) does = stay_same old new (ap (λ (d : Picture). d.book) does.2)
 hello_moves old new h is (reply.Again a) does = stay_same old new (ap (λ (d : Picture). d.book) does.2)
 hello_moves old new h is (reply.Granted x) does = absurd does

@@ -1,3 +1,4 @@
+pub mod Numbers
 pub mod Homes
 pub mod Repeats
 pub mod Naming

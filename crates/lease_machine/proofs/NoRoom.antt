@@ -1,5 +1,5 @@
 -- The laws on `nofit`, in bytes.
-use Rattle.std.proofs.Common.{◌≡◌, ◌≢◌, ℕ, ◌+◌, refl, sym, subst, ap, ◌∙◌, inl, inr, List, [], ◌∷◌, ◌++◌, length, get_or, Option, Some, None, Ok, Result, arith}
+use Rattle.std.proofs.Common.{◌≡◌, ◌≢◌, ℕ, ◌+◌, refl, sym, subst, ap, ◌∙◌, inl, inr, List, [], ◌∷◌, ◌++◌, length, get_or, Some, None, Ok, Result, arith}
 use Rattle.std.specs.Prelude.{slice_get, sum_by, codes, decimal, ◌==◌}
 use Rattle.std.specs.List.{find}
 use Rattle.std.proofs.lemmas.Bool.{cases_lt, cases_eq}
@@ -30,7 +30,7 @@ use Rattle.lease_proto.specs.declared.replies.Reply.TheVariants as reply
 use Rattle.lease_proto.specs.Frames.{with_line_feed}
 use Rattle.lease_proto.specs.Requests.{demand_of}
 use Rattle.lease_book.specs.Entry.{Hello}
-use Rattle.lease_book.specs.Receipts.{Kept}
+use Rattle.lease_book.specs.Replies.{kept_at}
 use Rattle.lease_book.specs.Account.{Account}
 use Rattle.lease_book.specs.BookState.{BookState, account_in, account_or_nobody, leased_segments, segments_of_accounts}
 use Rattle.lease_book.proofs.LawProofs.{entered_changes}
@@ -148,14 +148,12 @@ freed_is_whole old new id l x s is kept named span base own serves found =
 -- The first line of all, and the first lease.
 
 abbrev KeepsNothing : BookState → Type 0
-KeepsNothing book = (c : ℕ) → (account_in c book).kept ≡ None
-
-none_some : (o : Option Kept) (k : Kept) → o ≡ None → o ≡ Some k → ⊥
-none_some None k none some = (let e : None ≡ Some k = some in cc)
-none_some (Some j) k none some = (let e : Some j ≡ None = none in cc)
+KeepsNothing book = (c : ℕ) → (account_in c book).kept ≡ []
 
 no_kept_reply : (d : Picture) (id : RequestId) (r : Reply) → KeepsNothing d.book → IsKeptReply (arena_named d.tree) d.book id r → ⊥
-no_kept_reply d id r none known = none_some (account_in id.client d.book).kept (record { number = id.number; reply = known.0.reply; terms = known.0.terms }) (none id.client) known.1.kept
+no_kept_reply d id r none known =
+    let empty : kept_at id.number (account_in id.client d.book).kept ≡ None = ap (kept_at id.number) (none id.client) in
+    cc (sym empty ∙ known.1.kept)
 
 -- with no reply kept, the answer by a number isn't `nofit`
 no_known : (d : Picture) (id : RequestId) (r : Reply) → KeepsNothing d.book → IsKnownReply (arena_named d.tree) d.book id r → reply_bytes r ≢ reply_bytes (refusal_to id NoFit)
@@ -197,12 +195,12 @@ module _ (start : Picture) (is : IsPicture start) (empty : start.book.accounts �
       let book : BookState = greets.greeted in
       let leases : leased_segments book ≡ [] = greets.leases ∙ nothing_leased in
       let history = history_of start is in
-      let own : (account_in h.client book).kept ≡ None =
+      let own : (account_in h.client book).kept ≡ [] =
       (elim (cases_lt 0 h.incarnation) [
         | inl above ↦ ap (λ (a : Account). a.kept)
-            (entered_changes.hello start.book book h.client h.incarnation history greets.hello (omega (arith, above, ap (λ (a : Account). a.incarnation) (none_there h.client))))
+            (entered_changes.hello start.book book h.client h.incarnation h.protocol history greets.hello (omega (arith, above, ap (λ (a : Account). a.incarnation) (none_there h.client))))
         | inr zero_is ↦ ap (λ (a : Account). a.kept)
-            (entered_changes.again start.book book h.client h.incarnation history greets.hello (omega (arith, zero_is, ap (λ (a : Account). a.incarnation) (none_there h.client))))
+            (entered_changes.again start.book book h.client h.incarnation h.protocol history greets.hello (omega (arith, zero_is, ap (λ (a : Account). a.incarnation) (none_there h.client))))
             ∙ ap (λ (a : Account). a.kept) (none_there h.client)
       ]) in
       record {
@@ -210,8 +208,8 @@ module _ (start : Picture) (is : IsPicture start) (empty : start.book.accounts �
         after = no_sweeps h.client greets.swept (record start { book = book }) mid leases greets.sweeps;
         leases = leases;
         kept = λ c. elim (cases_eq c h.client) [
-          | inl same ↦ subst (λ (n : ℕ). (account_in n book).kept ≡ None) (sym same) own
-          | inr other ↦ ap (λ (a : Account). a.kept) (entered_changes.others start.book book (Hello h.client h.incarnation) c history greets.hello other) ∙ ap (λ (a : Account). a.kept) (none_there c)
+          | inl same ↦ subst (λ (n : ℕ). (account_in n book).kept ≡ []) (sym same) own
+          | inr other ↦ ap (λ (a : Account). a.kept) (entered_changes.others start.book book (Hello h.client h.incarnation h.protocol) c history greets.hello other) ∙ ap (λ (a : Account). a.kept) (none_there c)
         ];
       }
   hello_greets h mid (reply.Old o) does = absurd (omega (arith, does.1, ap (λ (a : Account). a.incarnation) (none_there h.client)))

@@ -1,5 +1,5 @@
 -- A request that comes again.
-use Rattle.std.proofs.Common.{◌≡◌, ◌≢◌, ◌⊎◌, ℕ, refl, sym, subst, ap, ◌∙◌, inl, inr, List, [], ◌∷◌, Option, Some, Ok, Err, Result, arith}
+use Rattle.std.proofs.Common.{◌≡◌, ◌≢◌, ◌⊎◌, ℕ, refl, sym, subst, ap, ◌∙◌, inl, inr, List, [], ◌∷◌, Some, Ok, Err, Result, arith}
 use Rattle.deed_core.specs.Tag.{Tag}
 use Rattle.lease_terms.specs.Requests.{RequestId}
 use Rattle.lease_proto.specs.declared.faults.LineFault.{LineFault}
@@ -19,7 +19,8 @@ use Rattle.lease_proto.specs.Operators.{served_of}
 use Rattle.lease_proto.specs.Requests.{client_of, demand_of}
 use Rattle.lease_book.specs.Entry.{Entry, Settlement, Settled, Hello, Swept, Grant, Refuse, Return, kept_settlement, subject_of}
 use Rattle.lease_book.specs.Receipts.{Kept}
-use Rattle.lease_book.specs.Account.{Account, number_of}
+use Rattle.lease_book.specs.Replies.{kept_at}
+use Rattle.lease_book.specs.Account.{Account, window_in}
 use Rattle.lease_book.specs.BookState.{BookState, HasHistory, Enters, account_in}
 use Rattle.lease_book.specs.Answers.{IsNew}
 use Rattle.lease_book.proofs.LawProofs.{entered_changes}
@@ -31,63 +32,63 @@ use Rattle.lease_machine.specs.Operators.{Performs, LeavesOff, OperatorStep}
 use Rattle.lease_machine.specs.Machine.{RequestStep, NewRequest, Sweeps, HelloStep, ClientStep, AnswersLine, LeaseStep}
 use Rattle.lease_machine.specs.Laws.{Runs}
 use Rattle.lease_machine.specs.AnswerLaws.{reply_bytes, IsKept, IsRequestLine, AreOfOthers, LinesRepeat}
-use Rattle.lease_machine.proofs.Homes.{setup_stays}
+use Rattle.lease_machine.proofs.Homes.{pictures_stay, setup_stays}
+use Rattle.lease_machine.proofs.Numbers.{not_gap, not_stale, settled_found, some_window}
 
--- the number is the client's last one, and this is kept of it
-pub record IsLast (book : BookState) (id : RequestId) (k : Kept) : Type 0 where
+-- this is kept of the number
+pub record IsKeptOf (book : BookState) (id : RequestId) (k : Kept) : Type 0 where
   pub current : id.incarnation ≡ (account_in id.client book).incarnation
-  pub last : (account_in id.client book).kept ≡ Some k
-  pub number : id.number ≡ k.number
+  pub there : kept_at id.number (account_in id.client book).kept ≡ Some k
 
 pub history_of : (d : Picture) → IsPicture d → HasHistory d.book
 history_of d is = (is.book.entries, is.book.history)
 
 -- so it is after its entry
-pub settled_now : (old new : BookState) (id : RequestId) (s : Settlement) → HasHistory old → Enters (Settled id s) old new → IsLast new id (kept_settlement id.number s)
-settled_now old new id s history entry =
+pub settled_now : (old new : BookState) (id : RequestId) (s : Settlement) → HasHistory old → IsNew (account_in id.client old) id → Enters (Settled id s) old new → IsKeptOf new id (kept_settlement id.number s)
+settled_now old new id s history fresh entry =
     let after = entered_changes.settled old new id s history entry in
+    let was : Account = account_in id.client old in
     record {
-      current = sym (ap (λ (a : Account). a.incarnation) after);
-      last = ap (λ (a : Account). a.kept) after;
-      number = refl;
+      current = fresh.current ∙ sym (ap (λ (a : Account). a.incarnation) after);
+      there = ap (λ (a : Account). kept_at id.number a.kept) after ∙ settled_found (window_in was) (kept_settlement id.number s) was.kept fresh.above (some_window was.protocol);
     }
 
 -- and then it isn't new
-pub not_new : (book : BookState) (id : RequestId) (k : Kept) → IsLast book id k → IsNew (account_in id.client book) id → ⊥
-not_new book id k is new_number = omega (arith, new_number.next, is.number, ap (λ (o : Option Kept). number_of o) is.last)
+pub not_new : (book : BookState) (id : RequestId) (k : Kept) → IsKeptOf book id k → IsNew (account_in id.client book) id → ⊥
+not_new book id k is fresh = cc (sym fresh.unsettled ∙ is.there)
 
 -- the reply to it
-by_kept : (d : Picture) (id : RequestId) (k : Kept) (r : Reply) → IsLast d.book id k → IsKeptReply (arena_named d.tree) d.book id r → r ≡ reply_to (arena_named d.tree) id k.reply
+by_kept : (d : Picture) (id : RequestId) (k : Kept) (r : Reply) → IsKeptOf d.book id k → IsKeptReply (arena_named d.tree) d.book id r → r ≡ reply_to (arena_named d.tree) id k.reply
 by_kept d id k r is known =
-    let e : Some k ≡ Some (record { number = id.number; reply = known.0.reply; terms = known.0.terms }) = sym is.last ∙ known.1.kept in
+    let e : Some k ≡ Some (record { number = id.number; reply = known.0.reply; terms = known.0.terms }) = sym is.there ∙ known.1.kept in
     let same : k ≡ record { number = id.number; reply = known.0.reply; terms = known.0.terms } = cc in
     known.2 ∙ sym (ap (λ (x : Kept). reply_to (arena_named d.tree) id x.reply) same)
 
-kept_again : (d : Picture) (id : RequestId) (k : Kept) (r : Reply) → IsLast d.book id k → IsKnownReply (arena_named d.tree) d.book id r → r ≡ reply_to (arena_named d.tree) id k.reply
-kept_again d id k (reply.Old o) is known = absurd (known.1.other is.current)
-kept_again d id k (reply.Stale o) is known = absurd (omega (arith, known.1.last, known.1.below, is.number, ap (λ (o : Option Kept). number_of o) is.last))
-kept_again d id k (reply.Gap o) is known = absurd (omega (arith, known.1.last, known.1.above, is.number, ap (λ (o : Option Kept). number_of o) is.last))
-kept_again d id k (reply.Granted g) is known = by_kept d id k (reply.Granted g) is known
-kept_again d id k (reply.Released g) is known = by_kept d id k (reply.Released g) is known
-kept_again d id k (reply.Refused g) is known = by_kept d id k (reply.Refused g) is known
-kept_again d id k (reply.Welcome g) is known = by_kept d id k (reply.Welcome g) is known
-kept_again d id k (reply.Again g) is known = by_kept d id k (reply.Again g) is known
-kept_again d id k (reply.Error g) is known = by_kept d id k (reply.Error g) is known
+kept_again : (d : Picture) → HasHistory d.book → (id : RequestId) (k : Kept) (r : Reply) → IsKeptOf d.book id k → IsKnownReply (arena_named d.tree) d.book id r → r ≡ reply_to (arena_named d.tree) id k.reply
+kept_again d history id k (reply.Old o) is known = absurd (known.1.other is.current)
+kept_again d history id k (reply.Stale o) is known = absurd (omega (arith, known.1.last, known.1.below, not_stale history.0 d.book id history.1 is.current k is.there))
+kept_again d history id k (reply.Gap o) is known = absurd (omega (arith, known.1.reached, known.1.above, not_gap history.0 d.book id history.1 is.current k is.there))
+kept_again d history id k (reply.Granted g) is known = by_kept d id k (reply.Granted g) is known
+kept_again d history id k (reply.Released g) is known = by_kept d id k (reply.Released g) is known
+kept_again d history id k (reply.Refused g) is known = by_kept d id k (reply.Refused g) is known
+kept_again d history id k (reply.Welcome g) is known = by_kept d id k (reply.Welcome g) is known
+kept_again d history id k (reply.Again g) is known = by_kept d id k (reply.Again g) is known
+kept_again d history id k (reply.Error g) is known = by_kept d id k (reply.Error g) is known
 
-pub request_again : (d new : Picture) (id : RequestId) (op : Op) (k : Kept) (r : Reply) → IsLast d.book id k → RequestStep id op d new r → (r ≡ reply_to (arena_named d.tree) id k.reply) × (new ≡ d)
-request_again d new id op k r is step = elim step [
-  | inl known ↦ (kept_again d id k r is known.0, known.1)
+pub request_again : (d new : Picture) → HasHistory d.book → (id : RequestId) (op : Op) (k : Kept) (r : Reply) → IsKeptOf d.book id k → RequestStep id op d new r → (r ≡ reply_to (arena_named d.tree) id k.reply) × (new ≡ d)
+request_again d new history id op k r is step = elim step [
+  | inl known ↦ (kept_again d history id k r is known.0, known.1)
   | inr fresh ↦ absurd (not_new d.book id k is fresh.0)
 ]
 
--- a reply that is kept is of the last number
-pub known_last : (d : Picture) (id : RequestId) (r : Reply) → IsKept r → IsKnownReply (arena_named d.tree) d.book id r → (k : Kept) × IsLast d.book id k × (r ≡ reply_to (arena_named d.tree) id k.reply)
-known_last d id r is known = by r is known
+-- a reply that is kept is of a number of which it is kept
+pub known_kept : (d : Picture) (id : RequestId) (r : Reply) → IsKept r → IsKnownReply (arena_named d.tree) d.book id r → (k : Kept) × IsKeptOf d.book id k × (r ≡ reply_to (arena_named d.tree) id k.reply)
+known_kept d id r is known = by r is known
   where
-    at : (x : Reply) → IsKeptReply (arena_named d.tree) d.book id x → (k : Kept) × IsLast d.book id k × (x ≡ reply_to (arena_named d.tree) id k.reply)
-    at x known = (record { number = id.number; reply = known.0.reply; terms = known.0.terms }, record { current = known.1.current; last = known.1.kept; number = refl }, known.2)
+    at : (x : Reply) → IsKeptReply (arena_named d.tree) d.book id x → (k : Kept) × IsKeptOf d.book id k × (x ≡ reply_to (arena_named d.tree) id k.reply)
+    at x known = (record { number = id.number; reply = known.0.reply; terms = known.0.terms }, record { current = known.1.current; there = known.1.kept }, known.2)
 
-    by : (x : Reply) → IsKept x → IsKnownReply (arena_named d.tree) d.book id x → (k : Kept) × IsLast d.book id k × (x ≡ reply_to (arena_named d.tree) id k.reply)
+    by : (x : Reply) → IsKept x → IsKnownReply (arena_named d.tree) d.book id x → (k : Kept) × IsKeptOf d.book id k × (x ≡ reply_to (arena_named d.tree) id k.reply)
     by (reply.Granted g) is known = at (reply.Granted g) known
     by (reply.Released g) is known = at (reply.Released g) known
     by (reply.Refused g) is known = at (reply.Refused g) known
@@ -100,13 +101,13 @@ known_last d id r is known = by r is known
 
 module _ (old mid : Picture) (id : RequestId) (history : HasHistory old.book) where
   abbrev WasAnswered : Reply → Type 0
-  WasAnswered r = (k : Kept) × IsLast mid.book id k × (r ≡ reply_to (arena_named old.tree) id k.reply)
+  WasAnswered r = (k : Kept) × IsKeptOf mid.book id k × (r ≡ reply_to (arena_named old.tree) id k.reply)
 
   new_lease_kept : (l : _) (r : Reply) → IsKept r → NewRequest id (ops.Lease l) old mid r → WasAnswered r
   new_lease_kept l (reply.Granted g) is does =
       let s : Settlement = Grant does.segment (record { quantum = does.arena.quantum; request = demand_of l }) in
-      (kept_settlement id.number s, settled_now old.book mid.book id s history does.granted.entry, does.reply)
-  new_lease_kept l (reply.Refused x) is does = (kept_settlement id.number (Refuse does.0), settled_now old.book mid.book id (Refuse does.0) history does.1.refused.entry, does.1.reply)
+      (kept_settlement id.number s, settled_now old.book mid.book id s history does.granted.new does.granted.entry, does.reply)
+  new_lease_kept l (reply.Refused x) is does = (kept_settlement id.number (Refuse does.0), settled_now old.book mid.book id (Refuse does.0) history does.1.refused.new does.1.refused.entry, does.1.reply)
   new_lease_kept l (reply.Again x) is does = absurd is
   new_lease_kept l (reply.Released x) is does = absurd does
   new_lease_kept l (reply.Old x) is does = absurd is
@@ -118,8 +119,8 @@ module _ (old mid : Picture) (id : RequestId) (history : HasHistory old.book) wh
   new_release_kept : (l : _) (r : Reply) → IsKept r → NewRequest id (ops.Release l) old mid r → WasAnswered r
   new_release_kept l (reply.Released p) is does =
       let s : Settlement = Return does.1.index l.base in
-      (kept_settlement id.number s, settled_now old.book mid.book id s history does.1.released.entry, ap (λ (x : RequestId). reply.Released x) does.0)
-  new_release_kept l (reply.Refused x) is does = (kept_settlement id.number (Refuse does.0), settled_now old.book mid.book id (Refuse does.0) history does.1.refused.entry, does.1.reply)
+      (kept_settlement id.number s, settled_now old.book mid.book id s history does.1.released.new does.1.released.entry, ap (λ (x : RequestId). reply.Released x) does.0)
+  new_release_kept l (reply.Refused x) is does = (kept_settlement id.number (Refuse does.0), settled_now old.book mid.book id (Refuse does.0) history does.1.refused.new does.1.refused.entry, does.1.reply)
   new_release_kept l (reply.Granted x) is does = absurd does
   new_release_kept l (reply.Again x) is does = absurd is
   new_release_kept l (reply.Old x) is does = absurd is
@@ -135,8 +136,8 @@ module _ (old mid : Picture) (id : RequestId) (history : HasHistory old.book) wh
   pub request_kept : (op : Op) (r : Reply) → RequestStep id op old mid r → IsKept r → WasAnswered r
   request_kept op r step is = elim step [
     | inl known ↦
-        let last = known_last old id r is known.0 in
-        (last.0, subst (λ (d : Picture). IsLast d.book id last.0) (sym known.1) last.1, last.2)
+        let was = known_kept old id r is known.0 in
+        (was.0, subst (λ (d : Picture). IsKeptOf d.book id was.0) (sym known.1) was.1, was.2)
     | inr fresh ↦ new_kept op r is fresh.1
   ]
 
@@ -165,7 +166,7 @@ module _ (c : ℕ) where
   hello_keeps h other old new history (reply.Welcome w) does =
       let welcomes = does.1 in
       let far : c ≢ h.client = (λ e. other (sym e)) in
-      let first = kept_by c (Hello h.client h.incarnation) old.book welcomes.greeted history welcomes.hello far in
+      let first = kept_by c (Hello h.client h.incarnation h.protocol) old.book welcomes.greeted history welcomes.hello far in
       sweeps_keep c h.client far welcomes.swept (record old { book = welcomes.greeted }) new first.1 welcomes.sweeps ∙ first.0
   hello_keeps h other old new history (reply.Old o) does = same_picture old new does.2
   hello_keeps h other old new history (reply.Again a) does = same_picture old new does.2
@@ -257,11 +258,10 @@ run_keeps c (Ok line ∷ frames) old new text is others run =
     run_keeps c frames run.2 new run.1 (run.3).picture others.1 run.5 ∙ answer_keeps c (served_of line) others.0 old run.2 run.0 (history_of old is) (run.3).answer
 run_keeps c (Err fault ∷ frames) old new text is others run = run_keeps c frames old new run.0 is others.1 run.2
 
-still_last : (id : RequestId) (k : Kept) (old new : BookState) → account_in id.client new ≡ account_in id.client old → IsLast old id k → IsLast new id k
-still_last id k old new same last = record {
-  current = last.current ∙ sym (ap (λ (a : Account). a.incarnation) same);
-  last = ap (λ (a : Account). a.kept) same ∙ last.last;
-  number = last.number;
+still_kept : (id : RequestId) (k : Kept) (old new : BookState) → account_in id.client new ≡ account_in id.client old → IsKeptOf old id k → IsKeptOf new id k
+still_kept id k old new same is = record {
+  current = is.current ∙ sym (ap (λ (a : Account). a.incarnation) same);
+  there = ap (λ (a : Account). kept_at id.number a.kept) same ∙ is.there;
 }
 
 pub kept_or : (r : Reply) → IsKept r ⊎ (¬ IsKept r)
@@ -286,10 +286,11 @@ lines_repeat old mid late new id op again line text between repeat bytes frames 
     elim (kept_or a.0) [
       | inr not ↦ inr (a.0, a.1, not)
       | inl is_kept ↦
-          let last = request_kept old mid id (history_of old is) op a.0 a.2 is_kept in
-          let late_last = still_last id last.0 mid.book late.book (run_keeps id.client frames mid late between first.picture others run) last.1 in
-          let two = request_again late new id again last.0 b.0 late_last b.2 in
+          let was = request_kept old mid id (history_of old is) op a.0 a.2 is_kept in
+          let still = still_kept id was.0 mid.book late.book (run_keeps id.client frames mid late between first.picture others run) was.1 in
+          let late_is = pictures_stay mid late frames between first.picture run in
+          let two = request_again late new (history_of late late_is) id again was.0 b.0 still b.2 in
           let tree : late.tree ≡ old.tree = (setup_stays mid late frames between run).tree ∙ first.setup.tree in
-          let same : b.0 ≡ a.0 = two.0 ∙ ap (λ (xs : List TreeArena). reply_to (arena_named xs) id last.0.reply) tree ∙ sym last.2 in
+          let same : b.0 ≡ a.0 = two.0 ∙ ap (λ (xs : List TreeArena). reply_to (arena_named xs) id was.0.reply) tree ∙ sym was.2 in
           inl (b.1 ∙ ap reply_bytes same ∙ sym a.1, two.1)
     ]

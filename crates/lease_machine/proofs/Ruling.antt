@@ -18,7 +18,9 @@ use Rattle.lease_proto.specs.declared.replies.Granted.{Granted}
 use Rattle.lease_proto.specs.declared.replies.RefusedRequest.{RefusedRequest}
 use Rattle.lease_proto.specs.declared.replies.Reply.{Reply}
 use Rattle.lease_proto.specs.declared.replies.Reply.TheVariants as reply
+use Rattle.lease_book.specs.BookState.{account_in}
 use Rattle.lease_book.specs.Entry.{Grant}
+use Rattle.lease_book.proofs.LawProofs.{found_number}
 use Rattle.lease_history.specs.Told.{reply_to}
 use Rattle.lease_machine.specs.Picture.{Picture, IsPicture}
 use Rattle.arena_tree.specs.Trees.{arena_named}
@@ -30,14 +32,14 @@ use Rattle.lease_machine.specs.Machine.{NewLease, NewRelease, NewRequest, Refuse
 use Rattle.lease_machine.specs.AnswerLaws.{IsKept}
 use Rattle.lease_machine.specs.LeaseLaws.{grant_told}
 use Rattle.lease_machine.specs.RoomLaws.{HasRun}
-use Rattle.lease_machine.specs.Rules.{NothingServes, WhyNoLease, LeaseRule, ReleaseRule, RequestRule, HelloRule, IsLastReply, StepsKeepRules, RunsKeepRules}
+use Rattle.lease_machine.specs.Rules.{NothingServes, WhyNoLease, LeaseRule, ReleaseRule, RequestRule, HelloRule, IsReplyKept, StepsKeepRules, RunsKeepRules}
 use Rattle.lease_machine.proofs.Homes.{leases_are_apart, units_have_one_home}
 use Rattle.lease_machine.proofs.Repeats.{history_of, request_answer, request_kept, operator_keeps, answer_keeps}
 use Rattle.lease_machine.proofs.Fitting.{not_known}
 use Rattle.lease_machine.proofs.Rooms.{run_serves, base_serves}
 use Rattle.lease_machine.proofs.NoRoom.{runs_up}
 use Rattle.lease_machine.proofs.CachedReach.{grants_were_reachable}
-use Rattle.lease_machine.proofs.Leases.{lease_moves, release_moves, hello_moves, welcome_moves, welcome_numbers, settled_becomes, answer_to}
+use Rattle.lease_machine.proofs.Leases.{lease_moves, release_moves, hello_moves, welcome_moves, welcome_anew, welcome_on, settled_becomes, answer_to}
 
 nothing_serves : (old : Picture) (index : ℕ) (x : TreeArena) (l : LeaseLine) → IsPicture old → slice_get old.tree index ≡ Some x → ¬ CanServe old index x (demand_of l) → NothingServes index x l old
 nothing_serves old index x l is here none = record {
@@ -112,9 +114,9 @@ hello_rule : (old new : Picture) (h : HelloLine) → IsPicture old → (r : Repl
 hello_rule old new h is (reply.Welcome w) does = (
   record {
     current = does.1.current;
-    becomes = (welcome_moves old new h.client h.incarnation is does.1).0;
-    anew = λ above. (welcome_numbers old new h.client h.incarnation is does.1).0 above;
-    goes_on = λ same. (welcome_numbers old new h.client h.incarnation is does.1).1 same;
+    becomes = (welcome_moves old new h is does.1).0;
+    anew = λ above. welcome_anew old new h is does.1 above;
+    goes_on = λ same. welcome_on old new h is does.1 same;
   },
   hello_moves old new h is (reply.Welcome w) does,
 )
@@ -128,15 +130,15 @@ hello_rule old new h is (reply.Gap x) does = does
 hello_rule old new h is (reply.Error x) does = does
 
 -- what settles a request is kept
-last_reply : (old new : Picture) (id : RequestId) (op : Op) (r : Reply) → IsPicture old → new.tree ≡ old.tree → RequestStep id op old new r → IsKept r → IsLastReply new id r
-last_reply old new id op r is tree step settles =
-    let last = request_kept old new id (history_of old is) op r step settles in
+reply_kept : (old new : Picture) (id : RequestId) (op : Op) (r : Reply) → IsPicture old → new.tree ≡ old.tree → RequestStep id op old new r → IsKept r → IsReplyKept new id r
+reply_kept old new id op r is tree step settles =
+    let was = request_kept old new id (history_of old is) op r step settles in
     record {
-      incarnation = sym last.1.current;
-      last = last.0;
-      number = sym last.1.number;
-      kept = last.1.last;
-      reply = last.2 ∙ ap (λ (xs : List TreeArena). reply_to (arena_named xs) id last.0.reply) (sym tree);
+      incarnation = sym was.1.current;
+      kept = was.0;
+      number = sym (found_number (account_in id.client new.book).kept id.number was.0 was.1.there).0;
+      there = was.1.there;
+      reply = was.2 ∙ ap (λ (xs : List TreeArena). reply_to (arena_named xs) id was.0.reply) (sym tree);
     }
 
 pub steps_keep_rules : StepsKeepRules
@@ -147,7 +149,7 @@ steps_keep_rules old new line text is step = record {
       let a = request_answer old new id op line text read step in
       elim a.2 [
         | inl known ↦ absurd (not_known old id a.0 fresh known.0)
-        | inr does ↦ (a.0, a.1, request_rule old new id op is a.0 does.1, last_reply old new id op a.0 is step.setup.tree a.2)
+        | inr does ↦ (a.0, a.1, request_rule old new id op is a.0 does.1, reply_kept old new id op a.0 is step.setup.tree a.2)
       ]);
   repeat = λ id op read again. (
       let a = request_answer old new id op line text read step in

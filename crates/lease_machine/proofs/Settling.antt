@@ -1,5 +1,5 @@
 -- A new request that is refused has an answer: its refusal is entered, and nothing else changes.
-use Rattle.std.proofs.Common.{◌≡◌, ℕ, ◌+◌, Bool, true, false, cond, ◌==◌, refl, sym, subst, ap, ◌∙◌, inl, inr, List, [], ◌∷◌, ◌++◌, map, Some, Result}
+use Rattle.std.proofs.Common.{◌≡◌, ℕ, Bool, true, false, cond, ◌==◌, refl, sym, subst, ap, ◌∙◌, inl, inr, List, [], ◌∷◌, ◌++◌, map, Result}
 use Rattle.std.proofs.lemmas.Bool.{cases_eq}
 use Rattle.deed_core.specs.Tag.{Tag}
 use Rattle.lease_terms.specs.Requests.{RequestId, IsRequestId}
@@ -11,11 +11,12 @@ use Rattle.lease_proto.specs.declared.lines.LeaseLine.{LeaseLine}
 use Rattle.lease_proto.specs.declared.lines.Op.{Op}
 use Rattle.lease_proto.specs.declared.lines.Op.TheVariants as ops
 use Rattle.lease_proto.specs.declared.operators.ServedLine.{ServedLine}
-use Rattle.lease_book.specs.Account.{Account, Lease, last_number}
+use Rattle.lease_book.specs.Account.{Account, Lease}
 use Rattle.lease_book.specs.Answers.{IsNew, receipt}
 use Rattle.lease_book.specs.BookState.{BookState, Enters, IsHistory, account_in, leased_segments, segments, segments_of_accounts}
 use Rattle.lease_book.specs.Entry.{Entry, Refuse, Settled, kept_settlement}
 use Rattle.lease_book.specs.History.{AreOrderly, account, clients_of, leases_of}
+use Rattle.lease_book.specs.Shelf.{with_settled}
 use Rattle.lease_book.proofs.LawProofs.{account_is, settled_changes}
 use Rattle.lease_machine.specs.Picture.{Picture, IsPicture}
 use Rattle.lease_machine.specs.Machine.{AnswersLine, NewRequest, RefusesLease, SettlesRefusal}
@@ -23,7 +24,8 @@ use Rattle.lease_machine.specs.RoomLaws.{refusal_to}
 use Rattle.lease_machine.specs.AnswerLaws.{reply_bytes}
 use Rattle.lease_machine.specs.StepLaws.{RefusesStill, RefusalsAreAnswered}
 use Rattle.lease_machine.proofs.BookMoves.{same_leases}
-use Rattle.lease_machine.proofs.Replied.{line_is}
+use Rattle.lease_machine.proofs.Naming.{line_is}
+use Rattle.lease_machine.proofs.Numbers.{new_outcome, new_within}
 
 map_same : (f g : ℕ → Account) (xs : List ℕ) → ((x : ℕ) → f x ≡ g x) → map f xs ≡ map g xs
 map_same f g [] each = refl
@@ -55,7 +57,8 @@ module _ (d : Picture) (is : IsPicture d) (id : RequestId) (in_range : IsRequest
       let own = account_is es d.book id.client h in (
         (in_range, tt),
         fresh.current ∙ ap (λ (a : Account). a.incarnation) own,
-        fresh.next ∙ ap (λ (a : Account). last_number a + 1) own,
+        new_outcome es d.book id h fresh.current fresh,
+        new_within es d.book id h fresh.current fresh,
         h.orderly,
       )
 
@@ -74,7 +77,7 @@ module _ (d : Picture) (is : IsPicture d) (id : RequestId) (in_range : IsRequest
         | inl own ↦
             let both : account (entry ∷ es) id.client ≡ account (entry ∷ fs) id.client =
             settled_changes.own es id (Refuse why) (orderly es h)
-            ∙ ap (λ (a : Account). record { client = id.client; incarnation = id.incarnation; kept = Some (kept_settlement id.number (Refuse why)); leases = a.leases }) (before id.client)
+            ∙ ap (with_settled (kept_settlement id.number (Refuse why))) (before id.client)
             ∙ sym (settled_changes.own fs id (Refuse why) (orderly fs g)) in
             subst (λ (n : ℕ). account (entry ∷ es) n ≡ account (entry ∷ fs) n) (sym own) both
         | inr other ↦ settled_changes.others es id (Refuse why) c other ∙ before c ∙ sym (settled_changes.others fs id (Refuse why) c other)

@@ -26,6 +26,7 @@ use Rattle.lease_proto.specs.Operators.{served_of}
 use Rattle.lease_proto.specs.Replies.{reply_of, reply_text}
 use Rattle.lease_proto.specs.Requests.{client_of, request_named, demand_of}
 use Rattle.lease_book.specs.Receipts.{Kept}
+use Rattle.lease_book.specs.Replies.{kept_at}
 use Rattle.lease_book.specs.BookState.{account_in}
 use Rattle.lease_book.specs.Answers.{IsNew}
 use Rattle.lease_book.specs.declared.receipts.Terms.{Terms}
@@ -88,7 +89,7 @@ NamesRequest id r = request_named r ≡ Some id
 
 -- the reply is to this hello, and says so; `old` names its client alone
 abbrev pub NamesHello : HelloLine → Reply → Type 0
-NamesHello h (reply.Welcome w) = w ≡ record { client = h.client; incarnation = h.incarnation }
+NamesHello h (reply.Welcome w) = (w.client ≡ h.client) × (w.incarnation ≡ h.incarnation)
 NamesHello h (reply.Old o) = o.client ≡ h.client
 NamesHello h (reply.Again a) =
     a ≡ record { client = h.client; incarnation = h.incarnation; number = 0 }
@@ -147,8 +148,8 @@ IsFitting d k = (arena base len : ℕ) → k.reply ≡ kept.Granted arena base l
 
 -- so is each kept reply, however long ago its number was settled
 abbrev pub KeptGrantsFit : Type 0
-KeptGrantsFit = (d : Picture) (c : ℕ) (k : Kept) → IsPicture d
-    → (account_in c d.book).kept ≡ Some k → IsFitting d k
+KeptGrantsFit = (d : Picture) (c n : ℕ) (k : Kept) → IsPicture d
+    → kept_at n (account_in c d.book).kept ≡ Some k → IsFitting d k
 
 abbrev pub caches_or_none : Option NumberedCpu → List OwnCacheState
 caches_or_none None = []

@@ -45,8 +45,8 @@ abbrev pub CanName : {D : Type 0} → List TreeArena → Answer D → Type 0
 CanName tree (answer.Kept r) = IsTellable (length tree) r.reply
 CanName tree (answer.Refused r) = IsTellable (length tree) r.reply
 CanName tree (answer.Old current) = Unit {0}
-CanName tree (answer.Stale last) = Unit {0}
-CanName tree (answer.Gap last) = Unit {0}
+CanName tree (answer.Stale greatest) = Unit {0}
+CanName tree (answer.Gap low) = Unit {0}
 CanName tree answer.Again = Unit {0}
 
 -- or that the request came to
@@ -89,8 +89,11 @@ pub record Greets (h : HelloLine) (old new : Picture) (r : Reply) : Type 0 where
 
 -- no lease of an older incarnation is left, where it is taken
 abbrev pub AnswersHello : HelloLine → Picture → Picture → HelloEnd → Type 0
-AnswersHello h old new (Ok Welcome) = Greets h old new
-    (reply.Welcome (record { client = h.client; incarnation = h.incarnation }))
+AnswersHello h old new (Ok (Welcome stands)) = Greets h old new (reply.Welcome (record {
+  client = h.client;
+  incarnation = h.incarnation;
+  protocol = stands;
+}))
 AnswersHello h old new (Ok (Late f)) = Greets h old new (hello_refusal h f)
 AnswersHello h old new (Ok Unswept) = ⊥
 AnswersHello h old new (Err e) = ⊥

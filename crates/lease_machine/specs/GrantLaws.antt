@@ -4,6 +4,8 @@ use Rattle.deed_core.specs.Extent.{Extent, Covers}
 use Rattle.arena_tree.specs.declared.trees.TreeArena.{TreeArena}
 use Rattle.arena_tree.specs.Trees.{index_in}
 use Rattle.lease_terms.specs.Requests.{RequestId}
+use Rattle.lease_terms.specs.declared.protocols.Protocol.{Protocol}
+use Rattle.lease_terms.specs.declared.protocols.Protocol.TheVariants.{One}
 use Rattle.lease_proto.specs.declared.lines.Line.TheVariants as lines
 use Rattle.lease_proto.specs.declared.lines.HelloLine.{HelloLine}
 use Rattle.lease_proto.specs.declared.lines.ReleaseLine.{ReleaseLine}
@@ -15,44 +17,52 @@ use Rattle.lease_proto.specs.declared.replies.Reply.TheVariants as reply
 use Rattle.lease_proto.specs.Frames.{Frame}
 use Rattle.lease_proto.specs.Operators.{served_of}
 use Rattle.lease_proto.specs.Serving.{ServesLines}
+use Rattle.lease_book.specs.Answers.{IsNew}
+use Rattle.lease_book.specs.BookState.{account_in}
 use Rattle.lease_machine.specs.Picture.{Picture, IsPicture}
 use Rattle.lease_machine.specs.Machine.{LeaseStep}
 use Rattle.lease_machine.specs.Laws.{Runs}
 use Rattle.lease_machine.specs.AnswerLaws.{reply_bytes, IsRequestLine, IsReadAs, AreNamed}
 
--- the line is a request, new or not, and is answered with this grant
+-- the line is a request, and is answered with this grant: it is new, or its client asks again by
+-- the first protocol (by the second a reply is told again after its lease ended, too)
 pub record AnswersGranted (old : Picture) (line text : List ℕ) (g : Granted) (new : Picture)
     : Type 0 where
   pub id : RequestId
   pub op : Op
   pub read : IsRequestLine line id op
+  pub counts : IsNew (account_in id.client old.book) id
+      ⊎ ((account_in id.client old.book).protocol ≡ One)
   pub step : LeaseStep old line text new
   pub told : IsReadAs text (reply.Granted g)
 
--- the line releases what was granted, and is answered so; no older release of the same base is
--- answered so again, since its number isn't the client's last any more
-abbrev pub GivesBack : Granted → List ℕ → List ℕ → Type 0
-GivesBack g line text = (id : RequestId) × (l : ReleaseLine) × IsRequestLine line id (ops.Release l)
+-- the line is new, releases what was granted, and is answered so; an older release of the same base
+-- that is asked again, and answered so again, ends nothing
+abbrev pub GivesBack : Granted → Picture → List ℕ → List ℕ → Type 0
+GivesBack g old line text = (id : RequestId) × (l : ReleaseLine)
+    × IsRequestLine line id (ops.Release l) × IsNew (account_in id.client old.book) id
     × (id.client ≡ g.id.client) × (id.incarnation ≡ g.id.incarnation)
     × (l.arena ≡ g.arena) × (l.base ≡ g.base)
     × (text ≡ reply_bytes (reply.Released id))
 
--- the line is a hello of a greater incarnation of the client that it was granted to, and is welcome
+-- the line is a hello of a greater incarnation of the client that it was granted to, and is welcome,
+-- by whichever protocol
 abbrev pub SweepsAway : Granted → List ℕ → List ℕ → Type 0
 SweepsAway g line text = (h : HelloLine) × (served_of line ≡ Ok (served.Client (lines.Hello h)))
     × (h.client ≡ g.id.client) × (g.id.incarnation < h.incarnation)
-    × (text ≡ reply_bytes (reply.Welcome (record {
+    × ((stands : Protocol) × (text ≡ reply_bytes (reply.Welcome (record {
       client = h.client;
       incarnation = h.incarnation;
-    })))
+      protocol = stands;
+    }))))
 
 -- the line ends the lease that was granted
-abbrev pub EndsLease : Granted → List ℕ → List ℕ → Type 0
-EndsLease g line text = GivesBack g line text ⊎ SweepsAway g line text
+abbrev pub EndsLease : Granted → Picture → List ℕ → List ℕ → Type 0
+EndsLease g old line text = GivesBack g old line text ⊎ SweepsAway g line text
 
 -- the line is answered, and doesn't end it
 abbrev pub StepKeeps : Granted → Picture → List ℕ → List ℕ → Picture → Type 0
-StepKeeps g old line text new = LeaseStep old line text new × (¬ EndsLease g line text)
+StepKeeps g old line text new = LeaseStep old line text new × (¬ EndsLease g old line text)
 
 -- these frames were answered with this text, one after another, and none of them ended it
 abbrev pub RunKeeps : Granted → Picture → List Frame → List ℕ → Picture → Type 0
@@ -90,9 +100,8 @@ pub record GrantsTwice (old : Picture) (g h : Granted) : Type 0 where
   pub new : Picture
   pub second : AnswersGranted late next reply h new
 
--- What two requests are granted so doesn't overlap, be they two clients' or one's, and be either
--- line the first that asks or one that asks again; whatever lines came before, from an empty book
--- on.
+-- What two requests are granted so doesn't overlap, be they two clients' or one's; whatever lines
+-- came before, from an empty book on.
 abbrev pub GrantsStayApart : Type 0
 GrantsStayApart = (start old : Picture) (frames : List Frame) (text : List ℕ) (g h : Granted)
     → IsPicture start → start.book.accounts ≡ [] → AreNamed start.tree → Runs start frames text old

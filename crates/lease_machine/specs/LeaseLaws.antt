@@ -22,7 +22,7 @@ use Rattle.lease_book.specs.BookState.{account_in}
 use Rattle.lease_book.specs.Answers.{IsNew}
 use Rattle.lease_machine.specs.Picture.{Picture, IsPicture}
 use Rattle.arena_tree.specs.Trees.{arena_named}
-use Rattle.lease_machine.specs.Machine.{LeaseStep}
+use Rattle.lease_machine.specs.Machine.{LeaseStep, welcome_by}
 use Rattle.lease_machine.specs.AnswerLaws.{reply_bytes, IsRequestLine}
 
 -- the leases of a client, in order of grant, each with its incarnation and number
@@ -72,8 +72,7 @@ ReleaseMoves id l old r new = LeasesStay old new
 -- a hello that is welcome ends all leases of its client's older incarnations, and no other; any
 -- other answer changes none
 abbrev pub HelloMoves : HelloLine → Picture → Reply → Picture → Type 0
-HelloMoves h old (reply.Welcome w) new =
-    (w ≡ record { client = h.client; incarnation = h.incarnation })
+HelloMoves h old (reply.Welcome w) new = (w ≡ welcome_by new h)
     × LeasesBecome h.client
     (filter (λ l. not (is_older h.incarnation l)) (leases_in old h.client)) old new
 HelloMoves h old r new = LeasesStay old new

@@ -7,6 +7,7 @@ use Rattle.deed_core.specs.Request.{IsGood}
 use Rattle.arena_tree.specs.declared.trees.TreeArena.{TreeArena}
 use Rattle.arena_tree.specs.Trees.{index_in}
 use Rattle.lease_terms.specs.Requests.{RequestId}
+use Rattle.lease_terms.specs.declared.protocols.Protocol.TheVariants.{Two}
 use Rattle.lease_terms.specs.declared.refusals.Refusal.{Refusal}
 use Rattle.lease_terms.specs.declared.refusals.Refusal.TheVariants.{NoFit, BadRequest, NoArena}
 use Rattle.lease_terms.specs.declared.refusals.Refusal.TheVariants.{NotYours, Leases}
@@ -21,13 +22,14 @@ use Rattle.lease_proto.specs.declared.lines.ReleaseLine.{ReleaseLine}
 use Rattle.lease_proto.specs.declared.operators.ServedLine.{ServedLine}
 use Rattle.lease_proto.specs.declared.operators.ServedLine.TheVariants as served
 use Rattle.lease_proto.specs.declared.replies.Reply.{Reply}
+use Rattle.lease_proto.specs.declared.replies.Welcome.{Welcome}
 use Rattle.lease_proto.specs.declared.replies.Reply.TheVariants as reply
 use Rattle.lease_proto.specs.Faults.{error_line}
 use Rattle.lease_proto.specs.Frames.{with_line_feed}
 use Rattle.lease_proto.specs.Operators.{served_of}
 use Rattle.lease_proto.specs.Replies.{reply_text}
 use Rattle.lease_proto.specs.Requests.{demand_of, again_of}
-use Rattle.lease_book.specs.Account.{is_lease}
+use Rattle.lease_book.specs.Account.{Account, is_lease}
 use Rattle.lease_book.specs.Receipts.{ReceiptState}
 use Rattle.lease_book.specs.Entry.{Hello, Grant, Refuse}
 use Rattle.lease_book.specs.BookState.{BookState, Enters, account_in, leased_segments}
@@ -142,26 +144,37 @@ Sweeps c (t ∷ ts) old new = (id : RequestId) × (mid : Picture)
     × IsSwept old.book mid.book c id t × GoesBack t old mid × Sweeps c ts mid new
 
 -- the hello is taken, and then all leases of the client's older incarnations end
-pub record Welcomes (c i : ℕ) (old new : Picture) : Type 0 where
-  pub current : (account_in c old.book).incarnation ≤ i
+pub record Welcomes (h : HelloLine) (old new : Picture) : Type 0 where
+  pub current : (account_in h.client old.book).incarnation ≤ h.incarnation
   pub greeted : BookState
-  pub hello : Enters (Hello c i) old.book greeted
+  pub hello : Enters (Hello h.client h.incarnation h.protocol) old.book greeted
   pub leases : leased_segments greeted ≡ leased_segments old.book
   pub swept : List Tag
-  pub sweeps : Sweeps c swept (record old { book = greeted }) new
-  pub left : All (λ l. i ≤ l.incarnation) (account_in c new.book).leases
+  pub sweeps : Sweeps h.client swept (record old { book = greeted }) new
+  pub left : All (λ l. h.incarnation ≤ l.incarnation) (account_in h.client new.book).leases
 
--- the answer to a hello; it is out of memory only where the client said none before
+-- the welcome to a hello, with the protocol that stands for its incarnation
+abbrev pub welcome_by : Picture → HelloLine → Welcome
+welcome_by d h = record {
+  client = h.client;
+  incarnation = h.incarnation;
+  protocol = (account_in h.client d.book).protocol;
+}
+
+-- the hello begins an incarnation of its client, its first one or one by the second protocol: only
+-- then memory is taken
+abbrev pub TakesMemory : HelloLine → Account → Type 0
+TakesMemory h a = (a.incarnation < h.incarnation) × (0 < a.incarnation → h.protocol ≡ Two)
+
+-- the answer to a hello
 abbrev pub HelloStep : HelloLine → Picture → Picture → Reply → Type 0
-HelloStep h old new (reply.Welcome w) =
-    (w ≡ record { client = h.client; incarnation = h.incarnation })
-    × Welcomes h.client h.incarnation old new
+HelloStep h old new (reply.Welcome w) = (w ≡ welcome_by new h) × Welcomes h old new
 HelloStep h old new (reply.Old o) =
     (o ≡ record { client = h.client; current = (account_in h.client old.book).incarnation })
     × (h.incarnation < (account_in h.client old.book).incarnation) × (new ≡ old)
 HelloStep h old new (reply.Again a) =
     (a ≡ record { client = h.client; incarnation = h.incarnation; number = 0 })
-    × ((account_in h.client old.book).incarnation ≡ 0) × (new ≡ old)
+    × TakesMemory h (account_in h.client old.book) × (new ≡ old)
 HelloStep h old new r = ⊥
 
 -- the answer to a client's line

@@ -58,7 +58,7 @@ IsSettledIn tree (Return arena base) = Unit {0}
 IsSettledIn tree (Refuse why) = Unit {0}
 
 abbrev pub IsEnteredIn : List TreeArena → Entry → Type 0
-IsEnteredIn tree (Hello c i) = Unit {0}
+IsEnteredIn tree (Hello c i p) = Unit {0}
 IsEnteredIn tree (Settled id s) = IsSettledIn tree s
 IsEnteredIn tree (Swept c i arena base) = Unit {0}
 

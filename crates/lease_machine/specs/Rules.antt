@@ -1,7 +1,7 @@
 -- The rules of leases: who is answered what, when, and what becomes of all leases. Each step of the
 -- lease machine keeps them.
 use Rattle.std.specs.Prelude.{◌≡◌, ℕ, ◌<◌, ◌≤◌, List, [], ◌∷◌, ◌++◌, ◌≢◌, AllPairs, length}
-use Rattle.std.specs.Prelude.{None, Some, Ok, Err}
+use Rattle.std.specs.Prelude.{Some, None, Ok, Err}
 use Rattle.deed_core.specs.Request.{Fits, IsGood, IsPlain}
 use Rattle.deed_core.specs.Tag.{Tag}
 use Rattle.arena_tree.specs.declared.trees.TreeArena.{TreeArena}
@@ -31,6 +31,9 @@ use Rattle.lease_proto.specs.Operators.{served_of}
 use Rattle.lease_proto.specs.Requests.{client_of, demand_of, again_of}
 use Rattle.lease_book.specs.Account.{Account, lease_of}
 use Rattle.lease_book.specs.Receipts.{Kept}
+use Rattle.lease_book.specs.Replies.{kept_at}
+use Rattle.lease_book.specs.Shelf.{standing_of}
+use Rattle.lease_book.specs.Standings.{begun}
 use Rattle.lease_book.specs.BookState.{account_in, leased_segments}
 use Rattle.lease_book.specs.Answers.{IsNew}
 use Rattle.lease_book.specs.declared.books.TheConstants.{MOST_LEASES}
@@ -40,7 +43,7 @@ use Rattle.lease_machine.specs.Picture.{Picture, IsPicture, Finds, SameSetup}
 use Rattle.arena_tree.specs.Trees.{arena_named}
 use Rattle.lease_machine.specs.Serving.{CanServe}
 use Rattle.lease_machine.specs.Operators.{OperatorStep}
-use Rattle.lease_machine.specs.Machine.{LeaseStep, TakesDemand, RefusesRelease}
+use Rattle.lease_machine.specs.Machine.{LeaseStep, TakesDemand, RefusesRelease, TakesMemory}
 use Rattle.lease_machine.specs.Laws.{Runs, UnitsAtHome}
 use Rattle.lease_machine.specs.AnswerLaws.{reply_bytes, IsKept, IsRequestLine, WasReachable}
 use Rattle.lease_machine.specs.LeaseLaws.{leases_in, LeasesStay, LeasesBecome, LosesLease}
@@ -109,16 +112,17 @@ abbrev pub RequestRule : RequestId → Op → Picture → Reply → Picture → 
 RequestRule id (ops.Lease l) old r new = LeaseRule id l old r new
 RequestRule id (ops.Release l) old r new = ReleaseRule id l old r new
 
--- its incarnation is the client's: where it is a greater one numbers begin anew, with no reply
--- kept; where it was that before they go on
+-- its incarnation is the client's: where it is a greater one numbers begin anew, by the protocol
+-- that it asks for, with no reply kept; where it was that before its protocol stands, and they go on
 pub record Greets (h : HelloLine) (old new : Account) : Type 0 where
   pub current : old.incarnation ≤ h.incarnation
   pub becomes : new.incarnation ≡ h.incarnation
-  pub anew : old.incarnation < h.incarnation → new.kept ≡ None
-  pub goes_on : old.incarnation ≡ h.incarnation → new.kept ≡ old.kept
+  pub anew : old.incarnation < h.incarnation → standing_of new ≡ begun h.incarnation h.protocol
+  pub goes_on : old.incarnation ≡ h.incarnation → standing_of new ≡ standing_of old
 
--- a hello is welcome unless its incarnation is an older one than the client's; to a client that
--- said none before it may be out of memory
+-- a hello is welcome, by the protocol that stands then, unless its incarnation is an older one than
+-- the client's; where it begins an incarnation, the client's first one or one by the second
+-- protocol, it may be out of memory
 abbrev pub HelloRule : HelloLine → Picture → Reply → Picture → Type 0
 HelloRule h old (reply.Welcome w) new =
     Greets h (account_in h.client old.book) (account_in h.client new.book)
@@ -128,16 +132,16 @@ HelloRule h old (reply.Old o) new =
     × (h.incarnation < (account_in h.client old.book).incarnation) × (new ≡ old)
 HelloRule h old (reply.Again a) new =
     (a ≡ record { client = h.client; incarnation = h.incarnation; number = 0 })
-    × ((account_in h.client old.book).incarnation ≡ 0) × (new ≡ old)
+    × TakesMemory h (account_in h.client old.book) × (new ≡ old)
 HelloRule h old r new = ⊥
 
--- the reply is what is kept of the client's last number
-pub record IsLastReply (d : Picture) (id : RequestId) (r : Reply) : Type 0 where
+-- the reply is what is kept of the request's number
+pub record IsReplyKept (d : Picture) (id : RequestId) (r : Reply) : Type 0 where
   pub incarnation : (account_in id.client d.book).incarnation ≡ id.incarnation
-  pub last : Kept
-  pub number : last.number ≡ id.number
-  pub kept : (account_in id.client d.book).kept ≡ Some last
-  pub reply : r ≡ reply_to (arena_named d.tree) id last.reply
+  pub kept : Kept
+  pub number : kept.number ≡ id.number
+  pub there : kept_at id.number (account_in id.client d.book).kept ≡ Some kept
+  pub reply : r ≡ reply_to (arena_named d.tree) id kept.reply
 
 -- One line: from old it is answered with the text, and new is what holds then.
 pub record KeepsRules (old : Picture) (line text : List ℕ) (new : Picture) : Type 0 where
@@ -150,8 +154,8 @@ pub record KeepsRules (old : Picture) (line text : List ℕ) (new : Picture) : T
   pub request : (id : RequestId) (op : Op) → IsRequestLine line id op
       → IsNew (account_in id.client old.book) id
       → (r : Reply) × (text ≡ reply_bytes r) × RequestRule id op old r new
-      × (IsKept r → IsLastReply new id r)
-  -- any other is answered by its number: the last one by its kept reply
+      × (IsKept r → IsReplyKept new id r)
+  -- any other is answered by its number: a settled one by its reply, as long as that is kept
   pub repeat : (id : RequestId) (op : Op) → IsRequestLine line id op
       → ¬ IsNew (account_in id.client old.book) id
       → (r : Reply) × (text ≡ reply_bytes r)
@@ -159,7 +163,7 @@ pub record KeepsRules (old : Picture) (line text : List ℕ) (new : Picture) : T
   -- an operator's is answered as `OperatorStep` says, and changes nothing of the book
   pub operator : (o : OperatorLine) → served_of line ≡ Ok (served.Operator o)
       → OperatorStep o old text new × (new.book ≡ old.book)
-  -- a line changes no other client's incarnation, numbers, kept reply and leases
+  -- a line changes no other client's incarnation, protocol, numbers, kept replies and leases
   pub others : (c : ℕ) → ((l : Line) → served_of line ≡ Ok (served.Client l) → client_of l ≢ c)
       → account_in c new.book ≡ account_in c old.book
   -- afterwards no two leases overlap whose arenas have one top, each unit is in one home, the

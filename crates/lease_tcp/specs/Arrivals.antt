@@ -1,8 +1,30 @@
 -- Connections that come, one after another, and what becomes of each.
-use Rattle.std.specs.Prelude.{◌≡◌, Bool, true, false, List, [], ◌∷◌, Result, Ok, Err}
+use Rattle.std.specs.Prelude.{◌≡◌, Bool, true, false, List, [], ◌∷◌, Option, Some, None}
+use Rattle.std.specs.Prelude.{Result, Ok, Err}
 
--- By what may come, what may be found of the door, and what may become of a connection, or of what
--- couldn't be accepted.
+-- By what may come, what may be found of the door, and what may become of what couldn't be
+-- accepted.
+module _ {A C F : Type 0} (may_accept : A → Result C F → A → Type 0)
+    (may_find : A → Bool → Type 0) (may_miss : A → F → A → Type 0) where
+  -- these couldn't be accepted, one after another, and of each the door was found open, and it was
+  -- missed, before the next came
+  abbrev pub MissesEach : A → List F → A → Type 0
+  MissesEach old [] new = new ≡ old
+  MissesEach old (fault ∷ more) new = (here : A) × (missed : A)
+      × may_accept old (Err fault) here × may_find here false × may_miss here fault missed
+      × MissesEach missed more new
+
+  -- the connection was accepted, and the door found open; or whatever came, it was found closed
+  abbrev pub ComesLast : A → Option C → A → Type 0
+  ComesLast old (Some connection) new = may_accept old (Ok connection) new × may_find new false
+  ComesLast old None new = (last : Result C F) × may_accept old last new × may_find new true
+
+  -- so it is after those that couldn't be accepted
+  abbrev pub ComesNext : A → Option C → A → Type 0
+  ComesNext old next new = (faults : List F) × (mid : A) × MissesEach old faults mid
+      × ComesLast mid next new
+
+-- The same, with what may become of a connection.
 module _ {A C F : Type 0} (may_accept : A → Result C F → A → Type 0)
     (may_find : A → Bool → Type 0) (may_serve : A → C → A → Type 0) (may_miss : A → F → A → Type 0)
   where

@@ -1,5 +1,5 @@
 //! Connections that come one after another, wherever they come from.
-ghost use Rattle.lease_tcp.specs.Arrivals.{Meets, ServesEach};
+ghost use Rattle.lease_tcp.specs.Arrivals.{ComesNext, ServesEach};
 
 use std::sync::Wait;
 
@@ -19,10 +19,7 @@ pub trait Arrivals {
     // whether the door may be found closed
     ghost may_find: { Self → Bool → Type 0 };
 
-    // before and after, what may become of a connection
-    ghost may_serve: { Self → Self.Connection → Self → Type 0 };
-
-    // and of what couldn't be accepted
+    // before and after, what may become of what couldn't be accepted
     ghost may_miss: { Self → Self.Fault → Self → Type 0 };
 
     /// Waits for a connection.
@@ -33,36 +30,49 @@ pub trait Arrivals {
     fn is_closed(&self) -> bool
         ensures { may_find self.now result };
 
-    /// Serves a connection, or begins to.
-    fn serve(&mut self, connection: Self::Connection)
-        ensures { may_serve self.old connection self.new };
-
     /// A connection couldn't be accepted.
     fn miss(&mut self, fault: Self::Fault)
         ensures { may_miss self.old fault self.new };
 }
 
-/// Serves one connection after another until the door is closed: it looks at the door after each
-/// that came, and serves none that came later.
-pub fn serve_each<R: Wait, A: Arrivals>(rt: &R, arrivals: &mut A)
-    ensures { ServesEach A.may_accept A.may_find A.may_serve A.may_miss arrivals.old arrivals.new }
+/// What connections come to, and what serves them.
+pub trait Server: Arrivals {
+    // before and after, what may become of a connection
+    ghost may_serve: { Self → Self.Connection → Self → Type 0 };
+
+    /// Serves a connection, or begins to.
+    fn serve(&mut self, connection: Self::Connection)
+        ensures { may_serve self.old connection self.new };
+}
+
+/// The next connection that is accepted, or None once the door is closed: it looks at the door
+/// after each that came, and misses each that couldn't be accepted.
+pub fn next_open<R: Wait, A: Arrivals>(rt: &R, arrivals: &mut A) -> Option<A::Connection>
+    ensures { ComesNext A.may_accept A.may_find A.may_miss arrivals.old result arrivals.new }
 {
     for _ in rt.forever() {
         let came = arrivals.accept();
         if arrivals.is_closed() {
-            return;
+            return None;
         }
-        meet(arrivals, came);
+        match came {
+            Ok(connection) => return Some(connection),
+            Err(fault) => arrivals.miss(fault),
+        }
     }
     unreachable!()
 }
 
-/// Serves a connection, or tells that it couldn't be accepted.
-fn meet<A: Arrivals>(arrivals: &mut A, came: Result<A::Connection, A::Fault>)
-    ensures { Meets A.may_accept A.may_find A.may_serve A.may_miss arrivals.old came arrivals.new }
+/// Serves one connection after another until the door is closed: it looks at the door after each
+/// that came, and serves none that came later.
+pub fn serve_each<R: Wait, S: Server>(rt: &R, server: &mut S)
+    ensures { ServesEach S.may_accept S.may_find S.may_serve S.may_miss server.old server.new }
 {
-    match came {
-        Ok(connection) => arrivals.serve(connection),
-        Err(fault) => arrivals.miss(fault),
+    for _ in rt.forever() {
+        let Some(connection) = next_open(rt, server) else {
+            return;
+        };
+        server.serve(connection);
     }
+    unreachable!()
 }

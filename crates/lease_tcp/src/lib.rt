@@ -5,10 +5,11 @@
 //! `ClientLines` (replying) makes a responder of one, which reads lines and writes replies, so that
 //! the line server can serve any stream by it. `serve_connection` (connections) serves one, over
 //! any reader, writer and `Link` (links), by which its peer is told where the answers end.
-//! `serve_each` (arrivals) serves whatever connections come, one after another. `worker_loop`
-//! (loops) does so for a worker with those of a `Door` (doors), each through a reader and a writer
-//! that wait for its peer no longer than a `Pace` allows (pacing), and while it stands on a `Roll`
-//! (rolls), by which all can be ended.
+//! `next_open` (arrivals) gives the next connection that is accepted while a door is open, and
+//! `serve_each` serves whatever connections come so, one after another. `worker_loop` (loops) does
+//! so for a worker with those of a `Door` (doors), each through a reader and a writer that wait for
+//! its peer no longer than a `Pace` allows (pacing), and while it stands on a `Roll` (rolls), by
+//! which all can be ended.
 //! `SystemWorker` (system_workers) is a worker of a running system, and `accept_loop` its loop.
 //!
 //! `serve_talks` (talks) gives each connection of a `House` (houses) a thread, up to as many as its
@@ -50,7 +51,7 @@ mod system_workers;
 mod talks;
 mod workers;
 
-pub use arrivals::{Arrivals, serve_each};
+pub use arrivals::{Arrivals, Server, next_open, serve_each};
 pub use connections::serve_connection;
 pub use doors::Door;
 pub use houses::House;

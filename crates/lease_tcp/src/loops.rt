@@ -1,6 +1,6 @@
 //! The connections of a door, which a worker serves one after another.
 
-use crate::arrivals::{Arrivals, serve_each};
+use crate::arrivals::{Arrivals, Server, serve_each};
 use crate::connections::serve_connection;
 use crate::doors::Door;
 use crate::pacing::{Pace, PacedReader, PacedWriter};
@@ -37,8 +37,6 @@ impl<R: Wait + Clock, K: Worker> Arrivals for AtDoor<'_, R, K> {
 
     ghost may_find = { λ _ _. ⊤ };
 
-    ghost may_serve = { λ _ _ _. ⊤ };
-
     ghost may_miss = { λ _ _ _. ⊤ };
 
     fn accept(&mut self) -> io::Result<TcpStream> {
@@ -49,12 +47,18 @@ impl<R: Wait + Clock, K: Worker> Arrivals for AtDoor<'_, R, K> {
         self.door.is_closed()
     }
 
-    fn serve(&mut self, stream: TcpStream) {
-        serve_entered(self.rt, self.alloc, stream, &mut self.lines, self.door);
-    }
-
     fn miss(&mut self, _fault: io::Error) {
         pause(self.rt);
+    }
+}
+
+impl<R: Wait + Clock, K: Worker> Server for AtDoor<'_, R, K> {
+    ghost use Rattle.std.specs.Prelude.{⊤};
+
+    ghost may_serve = { λ _ _ _. ⊤ };
+
+    fn serve(&mut self, stream: TcpStream) {
+        serve_entered(self.rt, self.alloc, stream, &mut self.lines, self.door);
     }
 }
 

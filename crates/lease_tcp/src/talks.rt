@@ -5,6 +5,8 @@ ghost use Rattle.lease_proto.specs.Faults.{error_text};
 ghost use Rattle.lease_server.specs.Serving.{WritesFront};
 ghost use Rattle.lease_server.specs.Watching.{inner_of};
 
+use crate::arrivals::{Arrivals, next_open};
+use crate::doors::Door;
 use crate::houses::House;
 use crate::links::Link;
 use crate::loops::{pause, serve_stream};
@@ -20,15 +22,53 @@ use std::io::{Error, Read, Write};
 use std::net::TcpStream;
 use std::sync::atomic::Ordering;
 use std::sync::{Arc, Wait};
-use std::thread;
 use std::thread::{Builder, Scope, Threads};
 use std::time::Clock;
+use std::{io, thread};
 
 /// How large a stack a connection's thread has, in bytes.
 const STACK: usize = 256 * 1024;
 
 /// The system's errors for no descriptor: none is left at all, or for this program.
 const NO_DESCRIPTOR: [i32; 2] = [23, 24];
+
+/// Who accepts the connections of a house.
+#[derive(Drop)]
+struct AtHouse<'a, R, O> {
+    rt: &'a R,
+    door: Door<'a>,
+    overseer: &'a O,
+}
+
+impl<R: Wait + Clock, O: Overseer> Arrivals for AtHouse<'_, R, O> {
+    ghost use Rattle.std.specs.Prelude.{⊤};
+
+    type Connection = TcpStream;
+
+    type Fault = Error;
+
+    // (of a socket no contract can say what it gives or takes, nor of a flag what threads make it)
+    ghost may_accept = { λ _ _ _. ⊤ };
+
+    ghost may_find = { λ _ _. ⊤ };
+
+    ghost may_miss = { λ _ _ _. ⊤ };
+
+    fn accept(&mut self) -> io::Result<TcpStream> {
+        self.door.accept()
+    }
+
+    fn is_closed(&self) -> bool {
+        self.door.is_closed()
+    }
+
+    fn miss(&mut self, error: Error) {
+        if is_short(&error) {
+            self.overseer.lacks(Shortage::Descriptor);
+        }
+        pause(self.rt);
+    }
+}
 
 /// Serves each connection of the house's door by a thread of its own, and comes back once the door
 /// is closed and all connections have ended. One that comes where there are as many as there may be
@@ -45,7 +85,7 @@ pub fn serve_talks<
     house.over.store(true, Ordering::SeqCst);
 }
 
-/// Starts a thread for each connection, until the door is closed.
+/// Starts a thread for each connection, as they come by `next_open`, until the door is closed.
 fn accept_talks<
     's,
     E,
@@ -53,20 +93,16 @@ fn accept_talks<
     R: Threads + Wait + Clock + Sync + AllocGlobal,
     O: Overseer,
 >(rt: &'s R, scope: &Scope<'s, E>, house: &'s House<'s, N>, overseer: &O) {
+    let mut at_house = AtHouse {
+        rt,
+        door: house.door,
+        overseer,
+    };
     for _ in rt.forever() {
-        let accepted = house.door.accept();
-        if house.door.is_closed() {
+        let Some(stream) = next_open(rt, &mut at_house) else {
             break;
-        }
-        match accepted {
-            Ok(stream) => admit(rt, scope, house, overseer, stream),
-            Err(error) => {
-                if is_short(&error) {
-                    overseer.lacks(Shortage::Descriptor);
-                }
-                pause(rt);
-            }
-        }
+        };
+        admit(rt, scope, house, overseer, stream);
     }
 }
 

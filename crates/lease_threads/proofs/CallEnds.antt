@@ -5,6 +5,7 @@ use Rattle.std.proofs.lemmas.List.Quantifiers.{position-Some}
 use Rattle.std.specs.Str.{bytes_eq}
 use Rattle.deed_core.specs.Tag.{Tag}
 use Rattle.lease_terms.specs.Requests.{RequestId}
+use Rattle.lease_terms.specs.declared.protocols.Protocol.{Protocol}
 use Rattle.lease_terms.specs.declared.refusals.Refusal.{Refusal}
 use Rattle.lease_terms.specs.declared.refusals.Refusal.TheVariants.{NoArena, NotYours, Leases, BadRequest, NoFit}
 use Rattle.arena_tree.specs.Chains.{quantum_in}
@@ -86,18 +87,18 @@ module _ (D : Type 0) (arenas : List TreeArena) where
   hand_first_ends P (Some t) rest w = place_first_ends P t rest w
 
   module _ (h : HelloLine) where
-    sweep_ends : (client turns : ℕ) → EndsWell SoundIn Locked (λ r. IfOk r (IsGreetedSo h)) (sweep_plan arenas client turns)
-    sweep_ends client zero = tt
-    sweep_ends client (suc turns) = by (sweep_ends client turns)
+    sweep_ends : (stands : Protocol) (client turns : ℕ) → EndsWell SoundIn Locked (λ r. IfOk r (IsGreetedSo h)) (sweep_plan arenas stands client turns)
+    sweep_ends stands client zero = tt
+    sweep_ends stands client (suc turns) = by (sweep_ends stands client turns)
       where
-        by : EndsWell SoundIn Locked (λ r. IfOk r (IsGreetedSo h)) (sweep_plan arenas client turns) → (x : Result (Option (RequestId × Tag)) Stopped) → Locked (Sweep client) x → EndsWell SoundIn Locked (λ r. IfOk r (IsGreetedSo h)) (on_sweep arenas (sweep_plan arenas client turns) x)
+        by : EndsWell SoundIn Locked (λ r. IfOk r (IsGreetedSo h)) (sweep_plan arenas stands client turns) → (x : Result (Option (RequestId × Tag)) Stopped) → Locked (Sweep client) x → EndsWell SoundIn Locked (λ r. IfOk r (IsGreetedSo h)) (on_sweep arenas stands (sweep_plan arenas stands client turns) x)
         by w (Ok None) k = tt
-        by w (Ok (Some r)) k = place_first_ends (IsGreetedSo h) r.1 (sweep_plan arenas client turns) w
+        by w (Ok (Some r)) k = place_first_ends (IsGreetedSo h) r.1 (sweep_plan arenas stands client turns) w
         by w (Err e) k = tt
 
-    greet_ends : (turns : ℕ) (x : Result (Unit {0}) NotGreeted) → Locked (Hello h.client h.incarnation) x → EndsWell SoundIn Locked (λ r. IfOk r (IsGreetedSo h)) (on_hello arenas h.client turns x)
-    greet_ends turns (Ok u) k = sweep_ends h.client turns
-    greet_ends turns (Err (greeting.Late f)) k = late (account_in h.client k.old).incarnation h.incarnation f k.event.0
+    greet_ends : (turns : ℕ) (x : Result Protocol NotGreeted) → Locked (Hello h.client h.incarnation h.protocol) x → EndsWell SoundIn Locked (λ r. IfOk r (IsGreetedSo h)) (on_hello arenas h.client turns x)
+    greet_ends turns (Ok stands) k = sweep_ends stands h.client turns
+    greet_ends turns (Err (greeting.Late f)) k = late (account_in h.client k.old).incarnation h.incarnation h.protocol f k.event.0
     greet_ends turns (Err greeting.Stopped) k = tt
 
     hello_ends : (hand : Option Tag) (turns : ℕ) → EndsWell SoundIn Locked (λ r. IfOk r (IsGreetedSo h)) (hello_plan arenas hand h turns)

@@ -121,14 +121,15 @@ StopsOrEnds ended (Err stopped) hand = ended ≡ Err (calling.Stopped hand)
 
 -- what a hello comes to is the book's
 abbrev pub IsGreetedSo : HelloLine → Greeting → Type 0
-IsGreetedSo h Welcome = Unit {0}
+IsGreetedSo h (Welcome stands) = Unit {0}
 IsGreetedSo h (Late f) = IsLateHello h.incarnation f
 IsGreetedSo h Unswept = Unit {0}
 
--- and is told so; where leases of older incarnations may be left, the hello may be sent once more
+-- and is told so, a welcome by the protocol that stands in the book; where leases of older
+-- incarnations may be left, the hello may be sent once more
 abbrev pub greeting_of : HelloLine → Greeting → Reply
-greeting_of h Welcome =
-    reply.Welcome (record { client = h.client; incarnation = h.incarnation })
+greeting_of h (Welcome stands) = reply.Welcome
+    (record { client = h.client; incarnation = h.incarnation; protocol = stands })
 greeting_of h (Late f) = hello_refusal h f
 greeting_of h Unswept = hello_again_of h
 

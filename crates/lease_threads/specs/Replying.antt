@@ -28,13 +28,14 @@ pub record IsReceiptOf (id : RequestId) (v : ReceiptState) : Type 0 where
   pub earned : IsEarned v.reply v.terms
 
 -- the book's answer to the request: a receipt of it, or that it is of another incarnation than the
--- current one, or that its number doesn't come after the last one
+-- current one, or that its number lies below the greatest settled one, or further above the low one
+-- than the next
 abbrev pub IsBookAnswerTo : {D : Type 0} → RequestId → Answer D → Type 0
 IsBookAnswerTo id (answer.Kept v) = IsReceiptOf id v
 IsBookAnswerTo id (answer.Refused v) = IsReceiptOf id v
 IsBookAnswerTo id (answer.Old current) = id.incarnation ≢ current
-IsBookAnswerTo id (answer.Stale last) = id.number < last
-IsBookAnswerTo id (answer.Gap last) = last + 1 < id.number
+IsBookAnswerTo id (answer.Stale greatest) = id.number < greatest
+IsBookAnswerTo id (answer.Gap low) = low + 1 < id.number
 IsBookAnswerTo id answer.Again = Unit {0}
 
 -- why a hello of this incarnation isn't taken
@@ -95,17 +96,18 @@ TellsAnswer arenas id (answer.Kept v) r w = IsToldAs arenas id v r w
 TellsAnswer arenas id (answer.Refused v) r w = IsToldAs arenas id v r w
 TellsAnswer arenas id (answer.Old current) r w =
     (r ≡ reply.Old (record { client = id.client; current = current })) × (w ≡ None)
-TellsAnswer arenas id (answer.Stale last) r w =
-    (r ≡ reply.Stale (record { id = id; last = last })) × (w ≡ None)
-TellsAnswer arenas id (answer.Gap last) r w =
-    (r ≡ reply.Gap (record { id = id; last = last })) × (w ≡ None)
+TellsAnswer arenas id (answer.Stale greatest) r w =
+    (r ≡ reply.Stale (record { id = id; last = greatest })) × (w ≡ None)
+TellsAnswer arenas id (answer.Gap low) r w =
+    (r ≡ reply.Gap (record { id = id; last = low })) × (w ≡ None)
 TellsAnswer arenas id answer.Again r w = (r ≡ again_of id) × (w ≡ None)
 
 abbrev pub IsReplyTo : List TreeArena → RequestId → Reply → Option ReceiptState → Type 0
 IsReplyTo arenas id r (Some v) = IsSettledBy arenas id r v
 IsReplyTo arenas id r None = IsUnsettledTo id r
 
--- the reply to a hello; of an `again` the number is 0
+-- the reply to a hello, where which protocol stands is the book's to say; of an `again` the number
+-- is 0
 abbrev pub IsGreeting : HelloLine → Reply → Type 0
 IsGreeting h (reply.Welcome w) = (w.client ≡ h.client) × (w.incarnation ≡ h.incarnation)
 IsGreeting h (reply.Old o) = (o.client ≡ h.client) × (h.incarnation < o.current)

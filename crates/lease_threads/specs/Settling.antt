@@ -31,8 +31,8 @@ abbrev pub new_receipt : {D : Type 0} → Answer D → Option ReceiptState
 new_receipt (answer.Refused v) = Some v
 new_receipt (answer.Kept v) = None
 new_receipt (answer.Old current) = None
-new_receipt (answer.Stale last) = None
-new_receipt (answer.Gap last) = None
+new_receipt (answer.Stale greatest) = None
+new_receipt (answer.Gap low) = None
 new_receipt answer.Again = None
 
 -- the receipt says that the request is refused so

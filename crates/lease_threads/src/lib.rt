@@ -10,7 +10,8 @@
 //! it (shared_books), and tells what that ended with (replies). A segment that it left is the CPU's
 //! hand (hands). `tick`, `resize` and `reap` (upkeep) keep the system in shape, and `retire`
 //! (retiring) ends a CPU. `shut` (shutting) ends a system: all that lies in its parts is placed
-//! (emptying), its roots are closed (closing), and its parts and its book are ended (ending).
+//! (emptying), its roots are closed (closing), and its parts and its book are ended (ending). `sums` tells those who watch a system
+//! where an arena's units were seen.
 //!
 //! What contracts see of a system and a CPU stands in `specs/Systems.antt`, what a line may be
 //! answered in `Replying.antt` and `Settling.antt`, that its list of steps was gone through in
@@ -40,6 +41,7 @@ mod requests;
 mod retiring;
 mod shared_books;
 mod shutting;
+mod sums;
 mod systems;
 mod upkeep;
 
@@ -50,4 +52,5 @@ pub use openings::SystemFault;
 pub use quantum_cache::Reaping;
 pub use replies::{LineAnswer, Told};
 pub use shutting::{Halted, StoppedAt};
+pub use sums::SystemSums;
 pub use systems::System;

@@ -1,8 +1,8 @@
 //! The book of leases as its lock keeps it.
-ghost use Rattle.std.specs.Prelude.{◌≡◌, ◌↔◌, [], IsNone, IfNone, IfSome, Ok};
+ghost use Rattle.std.specs.Prelude.{◌≡◌, ◌↔◌, [], IsNone, IfNone, IfSome, Ok, sum_by};
 ghost use Rattle.deed_core.specs.Request.{Fits};
 ghost use Rattle.deed_table.specs.declared.deeds.SeatDeed.{SeatDeed};
-ghost use Rattle.lease_book.specs.BookState.{leased_segments};
+ghost use Rattle.lease_book.specs.BookState.{leased_segments, units_of_arena};
 ghost use Rattle.lease_book.specs.Calls.{IsEnded};
 ghost use Rattle.lease_call.specs.BookEvents.{BookEvent};
 ghost use Rattle.lease_call.specs.Calls.{Look, Settle, Refuse, Release, Hello, Sweep};
@@ -14,7 +14,7 @@ use deed_core::{Request, Segment};
 use deed_table::{Name, Root, SeatDeed, close};
 use lease_book::{Answer, Book, Receipt};
 use lease_call::{NotGreeted, NotReleased, NotSettled};
-use lease_terms::{ClientId, Ordinal, Quantity, Refusal, RequestId};
+use lease_terms::{ClientId, Ordinal, Protocol, Quantity, Refusal, RequestId};
 use std::marker::Model;
 
 /// The book, with the root of its mark: the one after those of all arenas. Its calls alone reach
@@ -65,12 +65,18 @@ impl<N: Name> MarkedBook<N> {
         let _ = self.mark.number();
     }
 
-    /// Takes a hello.
-    pub(crate) fn hello(&mut self, client: ClientId, incarnation: Ordinal) -> Result<(), NotGreeted>
-        ensures { BookEvent (SeatDeed N) self.old (Hello client incarnation) result self.new }
+    /// Takes a hello that asks for a protocol, and gives the one that stands for its incarnation.
+    pub(crate) fn hello(
+        &mut self,
+        client: ClientId,
+        incarnation: Ordinal,
+        protocol: Protocol,
+    ) -> Result<Protocol, NotGreeted>
+        ensures { BookEvent (SeatDeed N) self.old (Hello client incarnation protocol) result
+            self.new }
     {
-        match self.book.hello(client, incarnation) {
-            Ok(()) => Ok(()),
+        match self.book.hello(client, incarnation, protocol) {
+            Ok(stands) => Ok(stands),
             Err(fault) => Err(NotGreeted::Late(fault)),
         }
     }
@@ -92,6 +98,13 @@ impl<N: Name> MarkedBook<N> {
             Some((_, segment)) => Some(segment),
             None => None,
         }
+    }
+
+    /// The units of the arena that are leased.
+    pub(crate) fn units(&self, arena: u32) -> u128
+        ensures { result ≡ sum_by (units_of_arena arena) (leased_segments self.now) }
+    {
+        self.book.units(arena)
     }
 
     /// The answer to a request whose number isn't new.

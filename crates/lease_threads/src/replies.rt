@@ -38,9 +38,10 @@ pub(crate) fn greeted(hello: &HelloLine, greeting: Greeting) -> Reply
     ensures exactly { result ≡ greeting_of hello.now greeting }
 {
     match greeting {
-        Greeting::Welcome => Reply::Welcome(Welcome {
+        Greeting::Welcome(protocol) => Reply::Welcome(Welcome {
             client: hello.client,
             incarnation: hello.incarnation,
+            protocol,
         }),
         Greeting::Late(fault) => not_welcome(hello, fault),
         Greeting::Unswept => Reply::hello_again(hello),
@@ -153,8 +154,8 @@ fn answered<N: Name>(tree: &Tree, id: RequestId, answer: Answer<SeatDeed<N>>) ->
             client: id.client,
             current,
         })),
-        Answer::Stale(last) => unsettled(Reply::Stale(OutOfTurn { id, last })),
-        Answer::Gap(last) => unsettled(Reply::Gap(OutOfTurn { id, last })),
+        Answer::Stale(greatest) => unsettled(Reply::Stale(OutOfTurn { id, last: greatest })),
+        Answer::Gap(low) => unsettled(Reply::Gap(OutOfTurn { id, last: low })),
         Answer::Again => again(id),
     }
 }

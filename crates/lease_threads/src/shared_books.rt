@@ -14,7 +14,7 @@ use deed_core::{Request, Segment};
 use deed_table::{Name, SeatDeed};
 use lease_book::{Answer, Receipt};
 use lease_call::{Books, NotGreeted, NotReleased, NotSettled};
-use lease_terms::{ClientId, Ordinal, Quantity, Refusal, RequestId};
+use lease_terms::{ClientId, Ordinal, Protocol, Quantity, Refusal, RequestId};
 use locked_parts::{EventName, Gate, Running};
 use std::sync::{Mutex, Wait};
 
@@ -91,11 +91,12 @@ impl<N: Name, R: Wait, G: Gate> Books<Segment<SeatDeed<N>>, SeatDeed<N>, Running
         parts: &mut Running<'_, N, R, G>,
         client: ClientId,
         incarnation: Ordinal,
-    ) -> Result<(), NotGreeted> {
+        protocol: Protocol,
+    ) -> Result<Protocol, NotGreeted> {
         if parts.steps.stops(parts.gate, EventName::Look) {
             return Err(NotGreeted::Stopped);
         }
-        hello_in(self.book, parts.rt, client, incarnation)
+        hello_in(self.book, parts.rt, client, incarnation, protocol)
     }
 
     fn sweep(
@@ -181,12 +182,13 @@ fn hello_in<N: Name, R: Wait>(
     rt: &R,
     client: ClientId,
     incarnation: Ordinal,
-) -> Result<(), NotGreeted>
-    ensures { IsLockedCall (SeatDeed N) (Hello client incarnation) result }
+    protocol: Protocol,
+) -> Result<Protocol, NotGreeted>
+    ensures { IsLockedCall (SeatDeed N) (Hello client incarnation protocol) result }
 {
     let mut book = book.lock(rt);
     book.check();
-    book.hello(client, incarnation)
+    book.hello(client, incarnation, protocol)
 }
 
 /// `MarkedBook::sweep`, under the lock.

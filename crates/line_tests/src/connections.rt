@@ -63,10 +63,10 @@ impl Write for Gone {
 }
 
 const LINES: &[u8] =
-    b"hello 1 1\nlease 1 1 1 m 8\nrelease 1 1 2 m 0\naudit\nhello 1  1\n\nhello 2 1";
+    b"hello 1 1\nlease 1 1 1 m 8\nrelease 1 1 2 m 0\naudit\nhello 1  1\nhello 1 1 2\n\nhello 2 1";
 
 const ANSWERS: &[u8] = b"welcome 1 1\nreleased 1 1 1\nreleased 1 1 2\nerror word\nerror badline\n\
-error badline\nerror badline\n";
+welcome 1 1 2\nerror badline\nerror badline\n";
 
 /// The end of a connection: whether its peer was told.
 #[derive(Drop)]
@@ -132,7 +132,7 @@ fn a_fault_ends_its_connection_alone(rt: HostRuntime) -> Result<(), Fail> {
     is_deaf(&rt, alloc, &mut lines, LINES);
     talks(&rt, alloc, &mut lines, LINES);
     let wanted = Counted {
-        replies: 9,
+        replies: 12,
         tidies: 4,
     };
     assert_eq!(rt; lines.into_worker(), wanted);

@@ -180,6 +180,49 @@ fn repeat_gets_the_first_reply(rt: HostRuntime) {
 }
 
 #[test]
+fn eight_at_once(rt: HostRuntime) {
+    let mut desk = desk_of(&rt, "m", 0, 64, 1, Policy::Best);
+    ask(
+        &rt,
+        &mut desk,
+        &[
+            ("hello 1 1 2", "welcome 1 1 2\n"),
+            ("hello 1 1", "welcome 1 1 2\n"),
+            ("hello 2 1 3", "error number\n"),
+            ("lease 1 1 2 m 4", "granted 1 1 2 m 0 4\n"),
+            ("lease 1 1 9 m 4", "gap 1 1 9 0\n"),
+            ("lease 1 1 8 m 4", "granted 1 1 8 m 4 4\n"),
+            ("lease 1 1 1 m 8", "granted 1 1 1 m 8 8\n"),
+            ("lease 1 1 2 m 4", "granted 1 1 2 m 0 4\n"),
+            ("lease 1 1 10 m 4", "granted 1 1 10 m 16 4\n"),
+            ("lease 1 1 11 m 4", "gap 1 1 11 2\n"),
+            ("lease 1 1 2 m 4", "stale 1 1 2 10\n"),
+            ("clients", "client 1 1 10 4\n"),
+        ],
+    );
+    desk.close();
+}
+
+#[test]
+fn a_protocol_stands_for_its_incarnation(rt: HostRuntime) {
+    let mut desk = desk_of(&rt, "m", 0, 64, 1, Policy::Best);
+    ask(
+        &rt,
+        &mut desk,
+        &[
+            ("hello 1 1", "welcome 1 1\n"),
+            ("hello 1 1 2", "welcome 1 1\n"),
+            ("lease 1 1 2 m 4", "gap 1 1 2 0\n"),
+            ("hello 1 2 2", "welcome 1 2 2\n"),
+            ("lease 1 2 2 m 4", "granted 1 2 2 m 0 4\n"),
+            ("hello 1 3", "welcome 1 3\n"),
+            ("lease 1 3 2 m 4", "gap 1 3 2 0\n"),
+        ],
+    );
+    desk.close();
+}
+
+#[test]
 fn new_incarnation_ends_leases(rt: HostRuntime) {
     let mut desk = desk_of(&rt, "p", 1, 4, 1, Policy::Best);
     ask(

@@ -171,10 +171,12 @@ fn a_refused_growth_is_made_up_for(rt: HostRuntime) {
         ("lease 1 1 4 b 4", "refused 1 1 4 noarena\n"),
         ("hello 2 8", "welcome 2 8\n"),
         ("lease 2 8 1 a 61", "granted 2 8 1 a 128 64\n"),
+        ("hello 2 9 2", "welcome 2 9 2\n"),
+        ("lease 2 9 8 a 61", "granted 2 9 8 a 128 64\n"),
         ("cpu 9", "ok\n"),
         ("offline 9", "ok\n"),
         ("reap", "reaped 0\n"),
-        ("clients", "client 1 1 4 1\nclient 2 8 1 1\n"),
+        ("clients", "client 1 1 4 1\nclient 2 9 8 1\n"),
         (
             "audit",
             "arena a free 56 slab 0 magazine 0 exported 0 leased 72 hand 0\n",

@@ -23,6 +23,7 @@ mod cpu_setups;
 mod laws;
 mod locals;
 mod own_changes;
+mod sums;
 
 pub use cpu_caches::CpuCaches;
 pub use laws::{empty_cpu_law, local_laws, pop_law};

@@ -1,6 +1,9 @@
 //! An arena as its lock keeps it. What lies there when the lock is taken is known by its type
 //! alone, so that each event looks whether it is the arena that is meant.
-ghost use Rattle.std.specs.Prelude.{◌≡◌, ◌<◌, ◌≤◌, ◌↔◌, List, [], Some, Ok, IsOk, OnErr, IfOk};
+ghost use Rattle.std.specs.Prelude.{◌≡◌, ◌≢◌, ◌<◌, ◌≤◌, ◌↔◌, List, [], Some, Ok, IsOk, OnErr};
+ghost use Rattle.std.specs.Prelude.{IfOk};
+ghost use Rattle.deed_core.specs.Covering.{units_held};
+ghost use Rattle.tag_arena.specs.ArenaState.{ranges_of};
 ghost use Rattle.std.specs.Prelude.{IfErr};
 ghost use Rattle.tag_arena.specs.Calls.{IsTagged, RefusesCarve, RefusesSpan};
 ghost use Rattle.deed_core.specs.Request.{rounding_of, plain_of};
@@ -122,6 +125,20 @@ impl<N: Name> ArenaPart<N> {
         let _ = span.range();
         let request = Request::plain(size);
         self.arena.add_span_and_carve(span, &request)
+    }
+
+    /// The units of its free ranges and of its allocated ones; none where another arena stands here.
+    pub(crate) fn units_of(&self, id: u32) -> (u128, u128)
+        ensures free { self.now.arena.id ≡ id → result.0 ≡ units_held self.now.arena.free }
+        ensures allocated { self.now.arena.id ≡ id
+            → result.1 ≡ units_held (ranges_of self.now.arena.allocated) }
+        ensures other { self.now.arena.id ≢ id → (result.0 ≡ 0) × (result.1 ≡ 0) }
+    {
+        if self.arena.id() != id {
+            return (0, 0);
+        }
+        let report = self.arena.report();
+        (report.free, report.allocated)
     }
 
     /// Takes out the lowest owned span that is wholly free.

@@ -1,6 +1,7 @@
 //! A depot as its lock keeps it, and its exchanges with a CPU.
 ghost use Rattle.std.specs.Prelude.{◌≡◌, ◌≢◌, ◌<◌, ◌↔◌, [], IsOk, IfSome, IfErr};
-ghost use Rattle.std.specs.Prelude.{◌≤◌, true, false, None};
+ghost use Rattle.std.specs.Prelude.{◌≤◌, ◌-◌, ◌^◌, true, false, None, min};
+ghost use Rattle.deed_core.specs.Covering.{units_tagged};
 ghost use Rattle.magazine_layer.specs.Magazines.{IsSize};
 ghost use Rattle.magazine_layer.specs.Depots.{new_depot, after_tick, after_resize, depot_rounds};
 ghost use Rattle.magazine_layer.specs.Calls.{DepotReapOf, ResizeOf};
@@ -151,6 +152,20 @@ impl<D: Deed> KindDepot<D> {
             Ok(()) => true,
             Err(NotGreater) => false,
         }
+    }
+
+    /// The units of its rounds where it is the depot of this quantum cache, or 2^128 - 1 where they
+    /// are more; another tells none. It takes constant time.
+    pub(crate) fn units_of(&self, kind: &CacheKind) -> u128
+        ensures told { self.now.kind ≡ kind.now
+            → result ≡ min (units_tagged (depot_rounds self.now.depot)) (2 ^ 128 - 1) }
+        ensures other { self.now.kind ≢ kind.now → result ≡ 0 }
+    {
+        if !self.kind.is(kind) {
+            return 0;
+        }
+        let chunk = u128::from(kind.number) * u128::from(kind.quantum);
+        self.depot.rounds().saturating_mul(chunk)
     }
 
     /// Takes a round that may be reaped, if there is one.

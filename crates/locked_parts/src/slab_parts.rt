@@ -5,6 +5,8 @@ ghost use Rattle.std.specs.Prelude.{OnErr};
 ghost use Rattle.std.specs.Prelude.{IfNone};
 ghost use Rattle.slab_layer.specs.Calls.{TakeOf, AddOf, ReapOf};
 ghost use Rattle.slab_layer.specs.Slab.{IsAllOut, IsComplete};
+ghost use Rattle.slab_layer.specs.Cache.{deeds_of};
+ghost use Rattle.deed_core.specs.Covering.{units_held};
 ghost use Rattle.arena_tree.specs.Events.{segment_of_slab_add};
 ghost use Rattle.locked_parts.specs.Answers.{IsSpanOfKind};
 ghost use Rattle.locked_parts.specs.Kinds.{IsOfKind, AreSlabsOf};
@@ -66,4 +68,16 @@ pub(crate) fn reap_slab<D: Deed>(slab: &mut SlabCache<D>, kind: &CacheKind) -> O
         return None;
     }
     slab.reap()
+}
+
+/// The units that lie in the slabs; none where they are of another cache.
+pub(crate) fn slab_units<D: Deed>(slab: &SlabCache<D>, kind: &CacheKind) -> u128
+    ensures told { AreSlabsOf kind.now slab.now → result ≡ units_held (deeds_of slab.now) }
+    ensures other { ¬ AreSlabsOf kind.now slab.now → result ≡ 0 }
+{
+    if !is_kind(slab, kind) {
+        return 0;
+    }
+    let report = slab.report();
+    u128::from(report.idle) + u128::from(report.gap) + u128::from(report.tail)
 }

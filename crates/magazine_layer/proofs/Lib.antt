@@ -1,4 +1,5 @@
 pub mod ListLemmas
+pub mod OldCounting
 pub mod Weighing
 pub mod Belonging
 pub mod Bounds

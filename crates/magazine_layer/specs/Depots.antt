@@ -42,6 +42,11 @@ pub record ListsHaveRoom (full empty old full_room empty_room old_room : ℕ) : 
 abbrev pub all_rounds : List (List Tag) → List Tag
 all_rounds magazines = flat_map (λ m. m) magazines
 
+-- so many rounds these magazines of smaller sizes have, each of them at most 31
+pub record IsOldCount (old_full : List (List Tag)) (count : ℕ) : Type 0 where
+  pub counted : count ≡ length (all_rounds old_full)
+  pub most : All (λ m. length m ≤ 31) old_full
+
 -- all rounds of a depot
 abbrev pub depot_rounds : DepotState → List Tag
 depot_rounds d = all_rounds d.old_full ++ (all_rounds d.full ++ d.draining)

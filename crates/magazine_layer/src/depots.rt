@@ -1,8 +1,8 @@
 //! Depots: what the CPUs share of a quantum cache's magazines.
-ghost use Rattle.std.specs.Prelude.{◌≡◌, ◌-◌, ◌^◌, ◌<◌, ◌↔◌, ◌++◌, [], length, min};
+ghost use Rattle.std.specs.Prelude.{◌≡◌, ℕ, ◌-◌, ◌*◌, ◌^◌, ◌<◌, ◌↔◌, ◌++◌, [], All, length, min};
 ghost use Rattle.std.specs.Prelude.{IfSome, OnOk, IsTrue, option_to_list};
 ghost use Rattle.std.specs.Bool.{OnTrue, OnFalse};
-ghost use Rattle.deed_core.specs.Covering.{units_tagged};
+ghost use Rattle.deed_core.specs.Covering.{units_in, units_tagged};
 ghost use Rattle.deed_core.specs.Weights.{WeighSame, Loses};
 ghost use Rattle.magazine_layer.specs.Magazines.{IsSize, AreAmong, IsShaped, BothEmpty, BothFull};
 ghost use Rattle.magazine_layer.specs.Depots.{DepotState, IsDepot, CanReap, Begins, new_depot};
@@ -31,13 +31,14 @@ pub struct Depot<D: Deed> {
     empty: VecDeque<Magazine<D>>,
     empty_reapable: usize,
     old_full: VecDeque<FullMagazine<D>>,
+    old_rounds: u128,
     draining: Vec<Segment<D>>,
 }
 
 impl<D: Deed> Model for Depot<D> {
     ghost use Rattle.std.specs.Prelude.{◌≡◌, [], All};
     ghost use Rattle.std.specs.VecDeque.{deque_capacity, deque_len};
-    ghost use Rattle.magazine_layer.specs.Depots.{DepotState, IsDepot, ListsHaveRoom};
+    ghost use Rattle.magazine_layer.specs.Depots.{DepotState, IsDepot, ListsHaveRoom, IsOldCount};
 
     ghost Value = { DepotState };
 
@@ -62,7 +63,8 @@ impl<D: Deed> Model for Depot<D> {
     })
         × All (λ m. m ≡ record { size = d.size; rounds = [] }) d.empty.items
         × ListsHaveRoom (deque_len d.full) (deque_len d.empty) (deque_len d.old_full)
-        (deque_capacity d.full) (deque_capacity d.empty) (deque_capacity d.old_full) };
+        (deque_capacity d.full) (deque_capacity d.empty) (deque_capacity d.old_full)
+        × IsOldCount d.old_full.items d.old_rounds };
 }
 
 impl<D: Deed> Depot<D> {
@@ -78,6 +80,7 @@ impl<D: Deed> Depot<D> {
             empty: VecDeque::new(alloc),
             empty_reapable: 0,
             old_full: VecDeque::new(alloc),
+            old_rounds: 0,
             draining: Vec::new(alloc),
         }
     }
@@ -90,7 +93,18 @@ impl<D: Deed> Depot<D> {
         self.size
     }
 
-    /// The units that its rounds cover, or 2^128 - 1 where they are more.
+    /// How many rounds it has. It takes constant time.
+    pub fn rounds(&self) -> u128
+        ensures value { result ≡ length (depot_rounds self.now) }
+        // what follows
+        ensures units { (each : ℕ) → All (λ t. units_in t.holding ≡ each) (depot_rounds self.now)
+            → units_tagged (depot_rounds self.now) ≡ result * each }
+    {
+        let full = self.full.len() as u128 * self.size as u128;
+        self.old_rounds + full + self.draining.len() as u128
+    }
+
+    /// The units that its rounds cover, or 2^128 - 1 where they are more. It goes over all rounds.
     pub fn units(&self) -> u128
         ensures { result ≡ min (units_tagged (depot_rounds self.now)) (2 ^ 128 - 1) }
     {
@@ -217,6 +231,7 @@ impl<D: Deed> Depot<D> {
         if size <= self.size {
             return Err(NotGreater);
         }
+        self.old_rounds += self.full.len() as u128 * self.size as u128;
         match self.old_full.append(&mut self.full) {
             Ok(()) => {}
             Err(_) => unreachable!(),
@@ -274,6 +289,7 @@ impl<D: Deed> Depot<D> {
         }
         if !self.old_full.is_empty() {
             drain(&mut self.draining, take_first(&mut self.old_full));
+            self.old_rounds -= self.draining.len() as u128;
             return true;
         }
         if self.full_reapable == 0 {
@@ -304,6 +320,7 @@ impl<D: Deed> Depot<D> {
             mut empty,
             empty_reapable: _,
             old_full,
+            old_rounds: _,
             draining,
         } = self;
         let count = empty.len();

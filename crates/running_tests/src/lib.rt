@@ -6,10 +6,11 @@
 //! a system ends; `gates` has requests that a gate holds or stops, in two threads; `orders` the
 //! steps of requests, imports, exchanges and changes of magazines among them; `between` what is
 //! free between steps, and how many there are; `repeats` which lines are settled and which come
-//! again; `settles` a lease or a hello that another CPU's lines come before, of which each may be
-//! one that comes twice at once; `draining` a CPU that fails in a line and is drained beside a
-//! worker; `starved_threads` calls that are refused memory and made again; `soak` has four workers
-//! for ten seconds, after which no two leases overlap and each root comes back whole.
+//! again; `pipeline` a client that has eight requests under way; `settles` a lease or a hello that
+//! another CPU's lines come before, of which each may be one that comes twice at once; `draining` a
+//! CPU that fails in a line and is drained beside a worker; `starved_threads` calls that are refused
+//! memory and made again; `soak` has four workers for ten seconds, after which no two leases overlap
+//! and each root comes back whole.
 #![tactic(auto)]
 
 #[cfg(test)]

@@ -6,6 +6,7 @@ mod conversations;
 mod draining;
 mod gates;
 mod orders;
+mod pipeline;
 mod repeats;
 mod rows;
 mod settles;

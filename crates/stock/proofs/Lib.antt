@@ -9,6 +9,8 @@ mod SlabCalls
 mod DepotCalls
 mod Lengths
 mod OneHomes
+mod Counting
+mod Summing
 mod Apart
 mod FrameLaws
 mod OwnRounds

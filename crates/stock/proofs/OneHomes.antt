@@ -24,10 +24,10 @@ use Rattle.stock.proofs.Lengths.{as_long}
 
 -- segments of one arena weigh in it, and in no other
 module _ (k : ℕ) (g : Tag → ℕ) (a : ℕ) (xs : List Tag) (home : All (λ t. t.arena ≡ a) xs) where
-  all_here : a ≡ k → sum_by (of_arena k g) xs ≡ sum_by g xs
+  pub all_here : a ≡ k → sum_by (of_arena k g) xs ≡ sum_by g xs
   all_here is = sum_alike (of_arena k g) g xs (λ i x at. arena_here k g x (all_at (λ t. t.arena ≡ a) xs i x home at ∙ is))
 
-  none_here : a ≢ k → sum_by (of_arena k g) xs ≡ 0
+  pub none_here : a ≢ k → sum_by (of_arena k g) xs ≡ 0
   none_here other = sum_none (of_arena k g) xs (λ i x at. arena_there k g x (λ e. other (sym (all_at (λ t. t.arena ≡ a) xs i x home at) ∙ e)))
 
 -- what a cache has is of its arena
@@ -76,7 +76,7 @@ module _ (spaces : List SpaceState) (stock : IsStock spaces) (k : ℕ) (s : Spac
       )
 
 -- what the segments of an arena cover
-weigh_of : (k : ℕ) (f : Holding → ℕ) (ts : List Tag) → sum_by f (held_of k ts) ≡ sum_by (of_arena k (λ t. f t.holding)) ts
+pub weigh_of : (k : ℕ) (f : Holding → ℕ) (ts : List Tag) → sum_by f (held_of k ts) ≡ sum_by (of_arena k (λ t. f t.holding)) ts
 weigh_of k f ts = sum_by-map f (λ (t : Tag). t.holding) (filter (is_of_arena k) ts) ∙ sum_by-filter (is_of_arena k) (λ t. f t.holding) ts
 
 module _ (f : Holding → ℕ) (spaces : List SpaceState) (out : Out) (s : SpaceState) where

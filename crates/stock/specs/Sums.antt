@@ -1,5 +1,6 @@
 -- Where the units of an arena are.
-use Rattle.std.specs.Prelude.{ℕ, ◌+◌, List, ◌++◌, filter, flat_map, sum_by}
+use Rattle.std.specs.Prelude.{◌≡◌, ℕ, ◌+◌, List, [], ◌++◌, filter, flat_map, sum_by}
+use Rattle.std.specs.Prelude.{slice_get, Some}
 use Rattle.deed_core.specs.Holding.{Holding}
 use Rattle.deed_core.specs.Tag.{Tag}
 use Rattle.deed_core.specs.Covering.{units_in}
@@ -8,6 +9,7 @@ use Rattle.slab_layer.specs.Cache.{deeds_of}
 use Rattle.magazine_layer.specs.Depots.{depot_rounds}
 use Rattle.tag_arena.specs.Spanned.{holdings_of}
 use Rattle.stock.specs.Spaces.{SpaceState}
+use Rattle.stock.specs.declared.sums.ArenaSums.{ArenaSums}
 
 -- the segments that are out of all parts: in hands, leased, and the rounds of the CPUs
 pub record Out : Type 0 where
@@ -72,3 +74,23 @@ sums_of f p = record {
 -- the units in each home: the sums of an audit
 abbrev pub lengths_of : Homes → Sums
 lengths_of p = sums_of units_in p
+
+-- the numbers that are told of an arena
+abbrev pub told_sums : ArenaSums → Sums
+told_sums r = record {
+  free = r.free;
+  slab = r.slab;
+  magazine = r.magazine;
+  exported = r.exported;
+  leased = r.leased;
+  hand = r.hand;
+}
+
+-- they tell of the arena at the index, with these segments out
+abbrev pub TellsSums : List SpaceState → ℕ → Out → ArenaSums → Type 0
+TellsSums spaces arena out r = (s : SpaceState) → slice_get spaces arena ≡ Some s
+    → told_sums r ≡ lengths_of (homes_of spaces out s)
+
+-- all that is out counts as leased
+abbrev pub as_leased : List Tag → Out
+as_leased out = record { hands = []; leases = out; rounds = [] }

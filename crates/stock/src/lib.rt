@@ -31,6 +31,7 @@ mod setups;
 mod slab_steps;
 mod spaces;
 mod stocks;
+mod sums;
 
 pub use laws::{
     apart_laws, chain_laws, end_laws, frame_laws, never_refused_laws, one_home_laws, weight_laws,
@@ -39,3 +40,4 @@ pub use own_caches::OwnCache;
 pub use plain_stocks::{close_plain_stock, plain_stock};
 pub use spaces::{QuantumCache, Space};
 pub use stocks::Stock;
+pub use sums::ArenaSums;

@@ -73,8 +73,21 @@ impl<D: Deed> Stock<D> {
         opened.slab.report()
     }
 
-    /// How many units the rounds of its depot have, or 2^128 - 1 where they are more.
+    /// How many units the rounds of its depot have, or 2^128 - 1 where they are more: each is a
+    /// chunk of the cache, so that their number tells it in constant time.
     pub fn depot_units(&self, arena: usize, cache: usize) -> u128
+        requires has { HasCache self.now arena cache }
+        ensures value { (c : QuantumCacheState) → IsCacheAt self.now arena cache c
+            → result ≡ min (units_tagged (depot_rounds c.depot)) (2 ^ 128 - 1) }
+    {
+        let space = &self.spaces[arena];
+        let opened = &space.caches[cache];
+        let chunk = u128::from(space.arena.quantum()) * (cache as u128 + 1);
+        opened.depot.rounds().saturating_mul(chunk)
+    }
+
+    /// The same, counted one round after another.
+    pub fn depot_units_by_rounds(&self, arena: usize, cache: usize) -> u128
         requires has { HasCache self.now arena cache }
         ensures value { (c : QuantumCacheState) → IsCacheAt self.now arena cache c
             → result ≡ min (units_tagged (depot_rounds c.depot)) (2 ^ 128 - 1) }

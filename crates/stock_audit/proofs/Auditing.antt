@@ -11,11 +11,11 @@ use Rattle.magazine_layer.specs.Depots.{depot_rounds}
 use Rattle.stock.specs.Spaces.{SpaceState}
 use Rattle.stock.specs.Stocks.{IsStock}
 use Rattle.stock.specs.Accounts.{Accounts}
-use Rattle.stock.specs.Sums.{Out, all_out, Sums, held_of, homes_of, lengths_of}
+use Rattle.stock.specs.Sums.{Out, all_out, Sums, held_of, homes_of, lengths_of, told_sums}
 use Rattle.tag_arena.specs.Spanned.{holdings_of}
 use Rattle.stock.proofs.LawProofs.{adds_up}
-use Rattle.stock_audit.specs.Audits.{IsTally, IsBalanced, units_of_arena_in, told_sums}
-use Rattle.stock_audit.specs.declared.audits.ArenaSums.{ArenaSums}
+use Rattle.stock_audit.specs.Audits.{IsTally, IsBalanced, units_of_arena_in}
+use Rattle.stock.specs.declared.sums.ArenaSums.{ArenaSums}
 use Rattle.stock_audit.specs.declared.audits.UnitsOut.{UnitsOut}
 
 -- the ranges in the slabs of an arena, and the rounds of its depots

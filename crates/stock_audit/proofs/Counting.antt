@@ -1,15 +1,13 @@
 -- Sums that are counted one member after another.
-use Rattle.std.proofs.Common.{◌≡◌, ◌≢◌, ℕ, ◌+◌, ◌<◌, ◌≤◌, min, List, length, get_or, take, All, Some, sym, ap, ◌∙◌, arith}
-use Rattle.std.specs.Prelude.{slice_get, sum_by}
-use Rattle.std.proofs.lemmas.Option.{get_or_from_slice_get}
+use Rattle.std.proofs.Common.{◌≡◌, ◌≢◌, ℕ, ◌+◌, ◌<◌, ◌≤◌, min, List, length, get_or, take, All, sym, ap, ◌∙◌, arith}
+use Rattle.std.specs.Prelude.{sum_by}
 use Rattle.std.proofs.lemmas.List.{take_all}
-use Rattle.std.proofs.lemmas.List.Sums.{sum_by_more, sum_by_more_le}
+use Rattle.std.proofs.lemmas.List.Sums.{sum_by_more}
 use Rattle.std.proofs.lemmas.List.Elements.{All-weaker}
 use Rattle.deed_core.specs.Tag.{Tag}
 use Rattle.deed_core.specs.Covering.{units_in}
 use Rattle.deed_core.specs.Weights.{of_arena}
-use Rattle.deed_core.proofs.LawProofs.{slice_get_some, slice_get_one, sum_by-flat_map}
-use Rattle.stock.specs.Spaces.{SpaceState, QuantumCacheState, HasCache}
+use Rattle.deed_core.proofs.LawProofs.{sum_by-flat_map}
 use Rattle.stock.specs.Stocks.{IsRoundOf}
 use Rattle.stock.specs.OwnCaches.{OwnCacheState, IsOwnCache, own_rounds, all_own_rounds}
 use Rattle.stock_audit.specs.Audits.{units_of_arena_in}
@@ -47,20 +45,3 @@ module _ (k : ℕ) (o : OwnCacheState) (is : IsOwnCache o) where
 -- what is counted over CPUs
 pub rounds_counted : (k : ℕ) (cpus : List OwnCacheState) → sum_by (λ o. sum_by (arena_weight k) (own_rounds o)) cpus ≡ units_of_arena_in k (all_own_rounds cpus)
 rounds_counted k cpus = sym (sum_by-flat_map (arena_weight k) own_rounds cpus) ∙ sym (held_weigh k units_in (all_own_rounds cpus))
-
--- a cache stands at each index of an arena's list
-pub cache_stands : (spaces : List SpaceState) (k j : ℕ) (s : SpaceState) → slice_get spaces k ≡ Some s → j < length s.caches → HasCache spaces k j
-cache_stands spaces k j s at within = (let c = slice_get_some s.caches j within in (c.0, record { space = s; at = at; among = c.1 }))
-
--- the caches of an arena, one after another
-module _ (spaces : List SpaceState) (k j : ℕ) (f : QuantumCacheState → ℕ) (s : SpaceState) (at : slice_get spaces k ≡ Some s) (within : j < length s.caches) (has : HasCache spaces k j) where
-  read : get_or s.caches j has.0 ≡ has.0
-  read =
-      let same : has.1.space ≡ s = slice_get_one spaces k has.1.space s has.1.at at in
-      get_or_from_slice_get s.caches j has.0 has.0 (ap (λ (x : SpaceState). slice_get x.caches j) (sym same) ∙ has.1.among)
-
-  pub cache_more : sum_by f (take (j + 1) s.caches) ≡ sum_by f (take j s.caches) + f has.0
-  cache_more = one_more f s.caches j has.0 within (sym read)
-
-  pub cache_fits : sum_by f (take j s.caches) + f has.0 ≤ sum_by f s.caches
-  cache_fits = (let le = sum_by_more_le f s.caches j has.0 within in omega (arith, le, ap f read))

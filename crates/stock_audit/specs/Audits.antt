@@ -7,8 +7,8 @@ use Rattle.tag_arena.specs.declared.arenas.ArenaReport.{ArenaReport}
 use Rattle.stock.specs.Spaces.{SpaceState}
 use Rattle.stock.specs.Accounts.{Accounts}
 use Rattle.stock.specs.Sums.{Out, all_out, held_of, Sums, homes_of, lengths_of}
+pub use Rattle.stock.specs.Sums.{told_sums, TellsSums}
 use Rattle.stock_audit.specs.Outside.{Outside, out_of}
-use Rattle.stock_audit.specs.declared.audits.ArenaSums.{ArenaSums}
 use Rattle.stock_audit.specs.declared.audits.UnitsOut.{UnitsOut}
 
 -- the six sums of an arena: free, in slabs, in magazines, exported, leased and in hands
@@ -37,19 +37,3 @@ pub record IsReportOf (spaces : List SpaceState) (arena : ℕ) (r : ArenaReport)
       → r.span ≡ units_held (spans_of s.arena)
   pub free : (s : SpaceState) → slice_get spaces arena ≡ Some s → r.free ≡ units_held s.arena.free
   pub adds_up : r.span ≡ r.free + r.allocated
-
--- the numbers that an audit tells
-abbrev pub told_sums : ArenaSums → Sums
-told_sums r = record {
-  free = r.free;
-  slab = r.slab;
-  magazine = r.magazine;
-  exported = r.exported;
-  leased = r.leased;
-  hand = r.hand;
-}
-
--- it tells of the arena at the index, with these segments out
-abbrev pub TellsSums : List SpaceState → ℕ → Out → ArenaSums → Type 0
-TellsSums spaces arena out r = (s : SpaceState) → slice_get spaces arena ≡ Some s
-    → told_sums r ≡ lengths_of (homes_of spaces out s)

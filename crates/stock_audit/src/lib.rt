@@ -18,9 +18,10 @@ mod audits;
 mod laws;
 mod lists;
 
-pub use audits::{ArenaSums, UnitsOut, audit, audit_units};
+pub use audits::{UnitsOut, audit, audit_units};
 pub use laws::{
     accounted_laws, chain_laws, chain_sum_laws, move_laws, off_chain_laws, reach_laws, step_laws,
     sum_laws,
 };
 pub use lists::{rounds_units, units_of};
+pub use stock::ArenaSums;

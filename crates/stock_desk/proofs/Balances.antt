@@ -18,7 +18,7 @@ use Rattle.tag_arena.specs.Spanned.{holdings_of}
 use Rattle.stock_audit.specs.Outside.{out_of}
 use Rattle.stock.specs.OwnCaches.{all_own_rounds}
 use Rattle.stock_audit.specs.Audits.{IsTally, IsBalanced, units_of_arena_in, told_sums}
-use Rattle.stock_audit.specs.declared.audits.ArenaSums.{ArenaSums}
+use Rattle.stock.specs.declared.sums.ArenaSums.{ArenaSums}
 use Rattle.stock_audit.proofs.LawProofs.{audit_adds_up, units_weigh}
 use Rattle.local_parts.specs.Cpus.{arena_rounds}
 use Rattle.lease_book.specs.BookState.{BookState, leased_segments, units_of_arena}

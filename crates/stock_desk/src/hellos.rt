@@ -32,7 +32,7 @@ impl Supply {
             (picture_with book.old self.old) (picture_with book.new self.new) result }
     {
         match self.hear(book, line) {
-            Ok(Greeting::Welcome) => welcome(line),
+            Ok(Greeting::Welcome(protocol)) => welcome(line, protocol),
             Ok(Greeting::Late(fault)) => refused(line, &fault),
             Ok(Greeting::Unswept) => unreachable!(),
             Err(_) => unreachable!(),

@@ -6,7 +6,7 @@ use arena_tree::Stopped;
 use deed_core::{PlainDeed, Request, Segment};
 use lease_book::{Answer, Book, Receipt};
 use lease_call::{Books, NotGreeted, NotReleased, NotSettled};
-use lease_terms::{ClientId, Ordinal, Quantity, Refusal, RequestId};
+use lease_terms::{ClientId, Ordinal, Protocol, Quantity, Refusal, RequestId};
 use local_parts::Local;
 
 /// The book, lent. It never stops anyone.
@@ -78,9 +78,10 @@ impl Books<Segment<PlainDeed>, PlainDeed, Local<'_, PlainDeed>> for OwnBook<'_> 
         _parts: &mut Local<'_, PlainDeed>,
         client: ClientId,
         incarnation: Ordinal,
-    ) -> Result<(), NotGreeted> {
-        match self.book.hello(client, incarnation) {
-            Ok(()) => Ok(()),
+        protocol: Protocol,
+    ) -> Result<Protocol, NotGreeted> {
+        match self.book.hello(client, incarnation, protocol) {
+            Ok(stands) => Ok(stands),
             Err(fault) => Err(NotGreeted::Late(fault)),
         }
     }

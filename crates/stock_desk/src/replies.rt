@@ -11,16 +11,20 @@ use deed_core::PlainDeed;
 use lease_book::{Answer, HelloFault, KeptReply};
 use lease_call::Outcome;
 use lease_proto::{Granted, HelloLine, Old, OutOfTurn, RefusedRequest, Reply, Welcome};
-use lease_terms::RequestId;
+use lease_terms::{Protocol, RequestId};
 
-/// The reply to a hello that is taken.
-pub(crate) fn welcome(hello: &HelloLine) -> Reply
-    ensures { result ≡ replies.Welcome
-        (record { client = hello.now.client; incarnation = hello.now.incarnation }) }
+/// The reply to a hello that is taken, by this protocol.
+pub(crate) fn welcome(hello: &HelloLine, protocol: Protocol) -> Reply
+    ensures { result ≡ replies.Welcome (record {
+      client = hello.now.client;
+      incarnation = hello.now.incarnation;
+      protocol = protocol;
+    }) }
 {
     Reply::Welcome(Welcome {
         client: hello.client,
         incarnation: hello.incarnation,
+        protocol,
     })
 }
 
@@ -70,8 +74,8 @@ fn answered(tree: &Tree, id: RequestId, answer: Answer<PlainDeed>) -> Reply
             client: id.client,
             current,
         }),
-        Answer::Stale(last) => Reply::Stale(OutOfTurn { id, last }),
-        Answer::Gap(last) => Reply::Gap(OutOfTurn { id, last }),
+        Answer::Stale(greatest) => Reply::Stale(OutOfTurn { id, last: greatest }),
+        Answer::Gap(low) => Reply::Gap(OutOfTurn { id, last: low }),
         Answer::Again => Reply::again(id),
     }
 }

@@ -2,13 +2,16 @@
 //! its own, and stands apart from `cross_tests` so that neither waits for the other's crates.
 //!
 //! `tree` has setups of arenas, what is refused of them, and the chains that they make; `stocks`
-//! has a script of events on a stock (`stock_events`) and audits after each, `stock_sums` the
-//! audits of two arenas in a chain, `several_spans` a stock of two roots that own three spans,
-//! `climbs` calls of one CPU over one thread's parts, with the locked steps of each.
+//! has a script of events on a stock (`stock_events`) and audits after each, beside the stock's own
+//! sums (`same_sums`), `stock_sums` the audits of two arenas in a chain, `several_spans` a stock of
+//! two roots that own three spans, `climbs` calls of one CPU over one thread's parts, with the
+//! locked steps of each.
 #![tactic(auto)]
 
 #[cfg(test)]
 mod climbs;
+#[cfg(test)]
+mod same_sums;
 #[cfg(test)]
 mod several_spans;
 #[cfg(test)]

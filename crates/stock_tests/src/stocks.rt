@@ -8,6 +8,7 @@ ghost use Rattle.stock.specs.Accounts.{Accounts};
 ghost use Rattle.stock.specs.OwnCaches.{own_rounds};
 ghost use Rattle.stock_tests.specs.Walks.{Balances};
 
+use crate::same_sums::same_sums;
 use crate::stock_events::{Event, moved};
 use arena_tree::{NewChild, NewRoot, Setting, Setup};
 use deed_core::{PlainDeed, Segment};
@@ -232,6 +233,7 @@ fn tells(rt: &impl Abort, walk: &Walk, arena: usize, counts: Counts)
     assert_eq!(rt; told.exported, exported);
     assert_eq!(rt; told.leased, leased);
     assert_eq!(rt; told.hand, hand);
+    same_sums(rt, &walk.stock, arena, &walk.cpu, told);
 }
 
 /// Ends what is left: nothing.

@@ -9,7 +9,7 @@ ghost use Rattle.vmemd.specs.RuleLaws.{ScriptGrantsStayApart, ScriptClientsGetRe
 
 /// What `run_script` writes to an input's end is a script, and what it writes where it ends early
 /// is a front of one. Each line of a script, with what is written for it, keeps the rules of
-/// leases. A client's line is answered by one line, which is read as a reply to it. So what two
+/// leases. A client's line is answered by one line, which is read as a reply to it. So what two new
 /// requests are granted doesn't overlap, while no line ends the first lease.
 pub fn rule_laws()
     ensures ends { EndsAreScripts }

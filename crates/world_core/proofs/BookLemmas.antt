@@ -20,12 +20,12 @@ use Rattle.lease_book.specs.declared.receipts.KeptReply.{KeptReply}
 use Rattle.lease_book.specs.declared.receipts.Terms.{Terms}
 use Rattle.lease_book.specs.Receipts.{Kept, ReceiptState}
 use Rattle.lease_book.specs.Entry.{Entry, Settlement, Settled, Grant, Return, Refuse, kept_reply_of}
-use Rattle.lease_book.specs.History.{incarnation}
+use Rattle.lease_book.specs.History.{incarnation, reach_in}
 use Rattle.lease_book.specs.BookState.{BookState, account_in}
 use Rattle.lease_book.specs.Answers.{IsRepeated, IsNew}
 use Rattle.lease_book.specs.Calls.{IsGranted, IsRefused, IsReleased}
-use Rattle.lease_book.specs.Account.{Account, last_number, number_of, is_lease}
-use Rattle.lease_book.proofs.LawProofs.{account_is, last_outcome, outcomes_stay}
+use Rattle.lease_book.specs.Account.{Account, is_lease}
+use Rattle.lease_book.proofs.LawProofs.{account_is, kept_outcomes, outcomes_stay}
 use Rattle.lease_book.specs.declared.books.TheConstants.{MOST_LEASES}
 use Rattle.lease_history.specs.Told.{reply_to, reply_of_settled, IsTellable, IsKnownReply}
 use Rattle.world_core.specs.declared.tasks.Task.{Task}
@@ -43,20 +43,21 @@ settled_tellable w id (Refuse why) j is at = tt
 
 -- what is answered by its number isn't new
 not_both : (book : BookState) (a : Account) (id : RequestId) (r : ReceiptState) → IsRepeated book a id r → IsNew a id → ⊥
-not_both book a id r again fresh = (let e : last_number a ≡ id.number = ap number_of again.kept in omega (arith, e, fresh.next))
+not_both book a id r again fresh = (let k : Kept = record { number = id.number; reply = r.reply; terms = r.terms } in let e : None ≡ Some k = sym fresh.unsettled ∙ again.kept in cc)
 
 pub answered_is_old : (w : WorldState) (id : RequestId) (reply : Reply) → IsKnownReply (arena_name w.names) w.book id reply → ¬ IsNew (account_in id.client w.book) id
 answered_is_old w id (replies.Old o) told fresh = told.1.other fresh.current
-answered_is_old w id (replies.Stale o) told fresh = omega (arith, told.1.last, told.1.below, fresh.next)
-answered_is_old w id (replies.Gap o) told fresh = omega (arith, told.1.last, told.1.above, fresh.next)
+answered_is_old w id (replies.Stale o) told fresh = omega (arith, told.1.last, told.1.below, fresh.above)
+answered_is_old w id (replies.Gap o) told fresh = omega (arith, told.1.reached, told.1.above, fresh.within)
 answered_is_old w id reply told fresh = not_both w.book (account_in id.client w.book) id told.0 told.1 fresh
 
 pub repeat_tellable : (w : WorldState) (id : RequestId) (r : ReceiptState) → IsWorld w → IsRepeated w.book (account_in id.client w.book) id r → IsTellable (length w.names) r.reply
 repeat_tellable w id r is again =
     let here : IsRepeated w.book _ id r = subst (λ a. IsRepeated w.book a id r) (account_is w.entries w.book id.client is.book) again in
     let k : Kept = record { number = id.number; reply = r.reply; terms = r.terms } in
-    let out = last_outcome w.entries id.client (incarnation id.client w.entries) k here.kept in
-    let entry = outcomes_stay.entry w.entries (record { client = id.client; incarnation = incarnation id.client w.entries; number = id.number }) k out in
+    let own : RequestId = record { client = id.client; incarnation = incarnation id.client w.entries; number = id.number } in
+    let out = kept_outcomes.kept w.entries own (reach_in id.client own.incarnation w.entries) k here.kept in
+    let entry = outcomes_stay.entry w.entries own k out in
     subst (IsTellable (length w.names)) (sym (ap (λ (x : Kept). x.reply) entry.3)) (settled_tellable w _ entry.0 entry.1 is entry.2)
 
 -- the segment of a hand is leased

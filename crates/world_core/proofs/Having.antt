@@ -161,9 +161,9 @@ IsNotFrom cpu event = Unit {0}
 
 -- no other event's move touches it
 pub moves_leave : (event : WorldEvent) (cpu : ℕ) (w v : WorldState) → cpu_of event ≢ Some cpu → IsNotFrom cpu event → MovesBy event w v → Leaves cpu w v
-moves_leave (events.Restarts c i) cpu w v other from m = says_leaves cpu w v c _ m
+moves_leave (events.Restarts c i p) cpu w v other from m = says_leaves cpu w v c _ m
 moves_leave (events.Says c op) cpu w v other from m = says_leaves cpu w v c _ m
-moves_leave (events.Repeats c) cpu w v other from m = says_leaves cpu w v c _ m
+moves_leave (events.Repeats c number) cpu w v other from m = says_leaves cpu w v c _ m
 moves_leave (events.Hears c which) cpu w v other from m = subst (Leaves cpu w) (sym m.after) (record { hand = refl; rounds = refl; failed = λ has. has })
 moves_leave (events.Looks by which) cpu w v other from (inl m) = subst (Leaves cpu w) (sym m.after) (record { hand = refl; rounds = refl; failed = λ has. has })
 moves_leave (events.Looks by which) cpu w v other from (inr (inl m)) = subst (Leaves cpu w) (sym m.after) (record { hand = refl; rounds = refl; failed = λ has. has })

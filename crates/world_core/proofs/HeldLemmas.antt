@@ -1,26 +1,35 @@
--- No two segments that clients hold of arenas with one top have a unit in common.
-use Rattle.std.proofs.Common.{◌≡◌, ◌≢◌, ◌⊎◌, ℕ, zero, suc, ◌+◌, ◌<◌, ◌≤◌, ◌==◌, Bool, true, false, ◌||◌, List, [], ◌∷◌, ◌++◌, get_or, Some, None, refl, sym, subst, ap, ◌∙◌, inl, inr, arith}
+-- No two segments that clients hold of arenas with one top have a unit in common, and what a hand
+-- has stands apart from what is leased.
+use Rattle.std.proofs.Common.{◌≡◌, ◌≢◌, ◌⊎◌, ℕ, zero, suc, ◌+◌, ◌<◌, ◌≤◌, ◌==◌, nat_eq, Bool, true, false, ◌||◌, ◌&&◌, List, [], ◌∷◌, ◌++◌, length, get_or, Some, None, refl, sym, subst, ap, ◌∙◌, inl, inr, arith}
 use Rattle.std.specs.Prelude.{slice_get, if◌then◌else◌, sum_by}
+use Rattle.std.specs.List.{IsDistinct}
 use Rattle.std.specs.Str.{bytes_eq}
 use Rattle.std.proofs.lemmas.Option.{slice_get_within, get_or_from_slice_get}
 use Rattle.std.proofs.lemmas.List.Sums.{sum_by-cons, sum_by-append}
 use Rattle.std.proofs.lemmas.Bool.Decides.{nat_tests}
 use Rattle.std.proofs.lemmas.Slice.Eq.{bytes_eq-Decides}
 use Rattle.deed_core.specs.Tag.{Tag}
-use Rattle.deed_core.specs.Extent.{Extent, Covers}
+use Rattle.deed_core.specs.Extent.{Extent, IsRange, Covers}
 use Rattle.deed_core.specs.Covering.{covers}
-use Rattle.deed_core.proofs.LawProofs.{covers_is}
+use Rattle.deed_core.proofs.LawProofs.{covers_is, sum_by-map, slice_get_some, all_at}
 use Rattle.stock.specs.Laws.{HasTop, ApartUpChain}
 use Rattle.stock_audit.specs.Outside.{segments_out}
+use Rattle.stock_audit.specs.Chains.{AreTops}
 use Rattle.stock.specs.OwnCaches.{all_own_rounds}
-use Rattle.stock_audit.proofs.LawProofs.{out_never_overlaps}
-use Rattle.lease_book.specs.BookState.{leased_segments}
+use Rattle.stock_audit.proofs.LawProofs.{out_never_overlaps, tops_stand}
+use Rattle.lease_terms.specs.Requests.{RequestId, IsRequestId}
+use Rattle.lease_book.specs.Account.{Lease, Account, granted_request}
+use Rattle.lease_book.specs.BookState.{segments, leased_segments, weight_of_leases}
+use Rattle.lease_book.specs.ClientLaws.{IsInBounds}
+use Rattle.lease_book.specs.History.{account, leases_of}
+use Rattle.lease_book.proofs.LawProofs.{account_is, books_in_bounds, leases_are_the_clients}
 use Rattle.lease_client.specs.declared.held.HeldSegment.{HeldSegment}
 use Rattle.lease_client.specs.ClientState.{ClientState}
-use Rattle.lease_history.specs.Known.{told_segment}
+use Rattle.lease_history.specs.Known.{told_segment, weight_in, one_at, leased_at}
 use Rattle.world_core.specs.WorldState.{WorldState, arena_name, in_hands, outside_of}
 use Rattle.world_core.specs.IsWorld.{IsWorld}
 use Rattle.world_core.specs.Safe.{CoversIn, HeldApart}
+use Rattle.world_core.proofs.HandLemmas.{hand_set}
 
 -- Sums of lists.
 
@@ -52,6 +61,10 @@ at_most_one f (x ∷ xs) le apart = elim (some_or_none (f x)) [
     some_or_none : (n : ℕ) → (n ≡ 0) ⊎ (0 < n)
     some_or_none zero = inl refl
     some_or_none (suc n) = inr (omega arith)
+
+pub sum_le : {X : Type 0} (f g : X → ℕ) (xs : List X) → ((k : ℕ) (x : X) → slice_get xs k ≡ Some x → f x ≤ g x) → sum_by f xs ≤ sum_by g xs
+sum_le f g [] le = omega arith
+sum_le f g (x ∷ xs) le = omega (arith, le 0 x refl, sum_le f g xs (λ k y at. le (suc k) y at), sum_by-cons f x xs, sum_by-cons g x xs)
 
 -- What weighs.
 
@@ -191,3 +204,85 @@ held_apart w is all top unit c d i j x y s t client member other another first s
 
     most : sum_by (λ (z : ClientState). sum_by (weight s.arena t.arena unit) z.held) w.clients ≤ 1
     most = omega (arith, all (weight s.arena t.arena unit), one_leased w is top unit s t first second)
+
+-- What a hand has, and what is leased.
+
+one_client : (c : ℕ) → IsDistinct nat_eq (c ∷ [])
+unfolding IsDistinct
+one_client c = (tt, tt)
+
+-- a client's leases weigh at most what all do
+client_weighs : (w : WorldState) → IsWorld w → (c : ℕ) (g : Tag → ℕ) → sum_by (λ (l : Lease). g l.segment) (leases_of c w.entries) ≤ sum_by g (leased_segments w.book)
+client_weighs w is c g =
+    let one = leases_are_the_clients.some w.book (c ∷ []) g (w.entries, is.book) (one_client c) in
+    let e : weight_of_leases g w.book c ≡ sum_by g (segments (leases_of c w.entries)) = ap (λ (a : Account). sum_by g (segments a.leases)) (account_is w.entries w.book c is.book) in
+    omega (arith, one, e, sum_by-cons (weight_of_leases g w.book) c [], sum_by-map g (λ (l : Lease). l.segment) (leases_of c w.entries))
+
+-- and each of them has a unit
+lease_has : (w : WorldState) → IsWorld w → (c k : ℕ) (l : Lease) → slice_get (leases_of c w.entries) k ≡ Some l → 0 < l.segment.holding.range.len
+lease_has w is c k l at =
+    let bounds : IsInBounds (account w.entries c) = subst IsInBounds (account_is w.entries w.book c is.book) (books_in_bounds.accounts w.book c (w.entries, is.book)) in
+    (all_at (λ (x : Lease). IsRequestId (granted_request c x) × IsRange x.segment.holding.range) (leases_of c w.entries) k l bounds.leases at).1.some
+
+-- what begins at a base has the unit there
+at_weighs : (a : List ℕ) (base : ℕ) (h : HeldSegment) → 0 < h.len → one_at a base h ≤ weight a a base h
+at_weighs a base h some = by (bytes_eq h.arena a) (h.base == base) refl refl
+  where
+    by : (x y : Bool) → bytes_eq h.arena a ≡ x → (h.base == base) ≡ y → (if x && y then 1 else 0) ≤ weight a a base h
+    by true true p q = (let same : h.base ≡ base = grind (arith, nat_tests) in weighs a a base h (inl (same_bytes h.arena a p)) (omega (arith, same), omega (arith, same, some)))
+    by true false p q = omega arith
+    by false y p q = omega arith
+
+-- no lease of a client stands at the base of what a hand has, in an arena with its arena's name: the
+-- unit there would be out twice
+pub hand_is_apart : (w : WorldState) (cpu : ℕ) (id : RequestId) (t : Tag) → IsWorld w → slice_get w.hands cpu ≡ Some (Some t) → t.arena < length w.names → 0 < t.holding.range.len
+    → leased_at (arena_name w.names) id.incarnation (arena_name w.names t.arena) t.holding.range.base (leases_of id.client w.entries) ≡ 0
+hand_is_apart w cpu id t is holds within some =
+    omega (
+      arith,
+      leased,
+      client_weighs w is id.client g,
+      one_out w is (tops.0 t.arena) base told told here here,
+      mine,
+      hand_set g w.hands cpu (Some t) None holds,
+      sum_by-cons g t [],
+      sum_by-append g (in_hands w.hands) (leased_segments w.book ++ all_own_rounds w.caches),
+      sum_by-append g (leased_segments w.book) (all_own_rounds w.caches),
+    )
+  where
+    names : ℕ → List ℕ
+    names = arena_name w.names
+
+    base : ℕ
+    base = t.holding.range.base
+
+    told : HeldSegment
+    told = told_segment names t
+
+    g : Tag → ℕ
+    g x = weight (names t.arena) (names t.arena) base (told_segment names x)
+
+    tops : (top : ℕ → ℕ) × AreTops w.stock top
+    tops = tops_stand w.stock (outside_of w) is.parts
+
+    here : CoversIn w (tops.0 t.arena) base told
+    here = (let space = slice_get_some w.stock t.arena (let e = is.named in omega arith) in record {
+      index = t.arena;
+      named = record { within = within; is = refl };
+      under = tops.1 t.arena space.0 space.1;
+      has = (omega arith, omega (arith, some));
+    })
+
+    mine : 1 ≤ g t
+    mine = weighs (names t.arena) (names t.arena) base told (inl refl) here.has
+
+    lease_weighs : (l : Lease) → 0 < l.segment.holding.range.len → weight_in names id.incarnation (one_at (names t.arena) base) l ≤ g l.segment
+    lease_weighs l has = by (id.incarnation == l.incarnation)
+      where
+        by : (b : Bool) → (if b then one_at (names t.arena) base (told_segment names l.segment) else 0) ≤ g l.segment
+        by true = at_weighs (names t.arena) base (told_segment names l.segment) has
+        by false = omega arith
+
+    leased : leased_at names id.incarnation (names t.arena) base (leases_of id.client w.entries) ≤ sum_by (λ (l : Lease). g l.segment) (leases_of id.client w.entries)
+    leased = sum_le (weight_in names id.incarnation (one_at (names t.arena) base)) (λ (l : Lease). g l.segment) (leases_of id.client w.entries)
+        (λ k l at. lease_weighs l (lease_has w is id.client k l at))

@@ -14,9 +14,9 @@ use Rattle.world_core.proofs.OwnLemmas.{popped_keeps, pushed_keeps, own_move_kee
 use Rattle.world_core.proofs.AdoptLemmas.{hand_adopted_keeps, round_adopted_keeps}
 
 pub moves_keep : (event : WorldEvent) (w v : WorldState) → IsWorld w → MovesBy event w v → IsWorld v
-moves_keep (events.Restarts c i) w v is m = restart_keeps c i w v is m
+moves_keep (events.Restarts c i p) w v is m = restart_keeps c i p w v is m
 moves_keep (events.Says c op) w v is m = send_keeps c op w v is m
-moves_keep (events.Repeats c) w v is m = resend_keeps c w v is m
+moves_keep (events.Repeats c number) w v is m = resend_keeps c number w v is m
 moves_keep (events.Hears c which) w v is m = hear_keeps c which w v is m
 moves_keep (events.Looks cpu which) w v is (inl m) = hello_taken_keeps which w v is m
 moves_keep (events.Looks cpu which) w v is (inr (inl m)) = hello_refused_keeps which w v is m

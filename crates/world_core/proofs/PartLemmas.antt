@@ -21,6 +21,7 @@ use Rattle.lease_client.specs.declared.faults.SendFault.{SendFault}
 use Rattle.lease_client.specs.declared.faults.SendFault.TheVariants.{NotOpen, Busy, NotHeld, Exhausted, NoMemory}
 use Rattle.world_core.specs.declared.logs.Logged.{Logged}
 use Rattle.world_core.specs.WorldState.{WorldState, IsAmong, logged_entry, entries_of}
+use Rattle.world_core.specs.Moves.{sent_again}
 use Rattle.world_core.specs.Events.{EndsAs}
 use Rattle.world_core.specs.declared.events.WorldEvent.TheVariants as events
 use Rattle.world_core.specs.declared.events.Outcome.TheVariants.{Done}
@@ -58,9 +59,9 @@ not_sent op old new (NotHeld back) sent other = sent
 not_sent op old new (Exhausted back) sent other = sent
 not_sent op old new (NoMemory back) sent other = absurd (other back refl)
 
-pub said_again : (w : WorldState) (index : ℕ) (x : ClientState) (line : Line) (requests : List Line) → slice_get w.clients index ≡ Some x → x.outstanding ≡ Some line
-    → requests ≡ w.requests ++ line ∷ [] → EndsAs (events.Repeats index) Done w (record w { requests = requests })
-said_again w index x line requests here out lines =
+pub said_again : (w : WorldState) (index : ℕ) (number : Option ℕ) (x : ClientState) (line : Line) (requests : List Line) → slice_get w.clients index ≡ Some x → sent_again number x ≡ Some line
+    → requests ≡ w.requests ++ line ∷ [] → EndsAs (events.Repeats index number) Done w (record w { requests = requests })
+said_again w index number x line requests here out lines =
     let same : w.clients ≡ set w.clients index x = sym (set_same w.clients index x here) in (
       (x, line, here, out),
       record {

@@ -1,7 +1,6 @@
 -- A world is safe.
-use Rattle.std.proofs.Common.{◌≡◌, ℕ, zero, suc, ◌≤◌, ◌==◌, Bool, true, false, List, [], ◌∷◌, map, Some, None, refl, subst, ap, arith}
+use Rattle.std.proofs.Common.{◌≡◌, ℕ, zero, suc, ◌≤◌, ◌==◌, Bool, true, false, List, [], ◌∷◌, map, Some, None, subst, ap, arith}
 use Rattle.std.specs.Prelude.{slice_get, if◌then◌else◌, sum_by}
-use Rattle.std.proofs.lemmas.List.Sums.{sum_by-cons}
 use Rattle.deed_core.specs.Tag.{Tag}
 use Rattle.deed_core.specs.Request.{Fits}
 use Rattle.deed_core.proofs.LawProofs.{sum_by-map}
@@ -27,11 +26,7 @@ use Rattle.world_core.specs.WorldState.{WorldState, arena_name, outside_of}
 use Rattle.world_core.specs.IsWorld.{IsWorld}
 use Rattle.world_core.specs.Safe.{SettlesIt, Safe, AlwaysSafe}
 use Rattle.world_core.proofs.Keeps.{events_keep}
-use Rattle.world_core.proofs.HeldLemmas.{held_apart}
-
-sum_le : {X : Type 0} (f g : X → ℕ) (xs : List X) → ((k : ℕ) (x : X) → slice_get xs k ≡ Some x → f x ≤ g x) → sum_by f xs ≤ sum_by g xs
-sum_le f g [] le = omega arith
-sum_le f g (x ∷ xs) le = omega (arith, le 0 x refl, sum_le f g xs (λ k y at. le (suc k) y at), sum_by-cons f x xs, sum_by-cons g x xs)
+use Rattle.world_core.proofs.HeldLemmas.{sum_le, held_apart}
 
 -- what leases of an incarnation weigh is no more than what all weigh
 in_le : (names : ℕ → List ℕ) (i : ℕ) (f : HeldSegment → ℕ) (leases : List Lease) → sum_by (weight_in names i f) leases ≤ sum_by (λ t. f (told_segment names t)) (segments leases)
@@ -81,8 +76,8 @@ fits_in (e ∷ es) zero id t terms orderly at =
     let is : e ≡ Settled id (Grant t terms) = cc in
     let there : AreOrderly (Settled id (Grant t terms) ∷ es) = subst (λ (x : Entry). AreOrderly (x ∷ es)) is orderly in
     there.0.1.1
-fits_in (Hello c i ∷ es) (suc k) id t terms orderly at = fits_in es k id t terms orderly.2 at
-fits_in (Settled r s ∷ es) (suc k) id t terms orderly at = fits_in es k id t terms orderly.3 at
+fits_in (Hello c i p ∷ es) (suc k) id t terms orderly at = fits_in es k id t terms orderly.2 at
+fits_in (Settled r s ∷ es) (suc k) id t terms orderly at = fits_in es k id t terms orderly.4 at
 fits_in (Swept c i a b ∷ es) (suc k) id t terms orderly at = fits_in es k id t terms orderly.1 at
 
 pub safe : (w : WorldState) → IsWorld w → Safe w

@@ -38,7 +38,7 @@ due_stays old new names requests (Settled id (Grant t terms)) fixed due = record
 }
 due_stays old new names requests (Settled id (Return a b)) fixed due = tt
 due_stays old new names requests (Settled id (Refuse why)) fixed due = tt
-due_stays old new names requests (Hello c i) fixed due = tt
+due_stays old new names requests (Hello c i p) fixed due = tt
 due_stays old new names requests (Swept c i a b) fixed due = tt
 
 -- whatever a part does with no hand

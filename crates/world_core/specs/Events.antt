@@ -31,7 +31,7 @@ use Rattle.lease_book.specs.Account.{Lease}
 use Rattle.lease_book.specs.Answers.{IsNew}
 use Rattle.lease_book.specs.BookState.{account_in}
 use Rattle.lease_client.specs.ClientState.{ClientState}
-use Rattle.lease_client.specs.Calls.{IsRestarted, IsSent, IsResent, may_restart, refusal}
+use Rattle.lease_client.specs.Calls.{IsRestarted, IsSent, may_restart, refusal}
 use Rattle.lease_client.specs.declared.faults.SendFault.TheVariants as sending
 use Rattle.world_core.specs.declared.events.WorldEvent.{WorldEvent}
 use Rattle.world_core.specs.declared.events.WorldEvent.TheVariants as events
@@ -46,7 +46,7 @@ use Rattle.world_core.specs.Moves.{HelloTaken, HelloRefused, AnsweredAtOnce, Tas
 use Rattle.world_core.specs.Moves.{TaskRefused, TaskReleased, TaskAnswered, TaskGivenUp, HandMoves}
 use Rattle.world_core.specs.Moves.{PartMoves, LeaseSwept, IsOwnFor, TakesHand, RoundPopped}
 use Rattle.world_core.specs.Moves.{RoundPushed, HasRoundAt, HandAdopted, RoundAdopted, OwnMoves}
-use Rattle.world_core.specs.Moves.{HasAllLeases, HasNoSuchLease}
+use Rattle.world_core.specs.Moves.{HasAllLeases, HasNoSuchLease, sent_again}
 
 -- what a CPU would lease: its hand's segment is of the arena that the lease names, and fits it
 pub record CanGrant (w : WorldState) (cpu : ℕ) (id : RequestId) (lease : LeaseLine) (segment : Tag)
@@ -142,9 +142,9 @@ HasSegment w cpu = ((t : Tag) × HasInHand w cpu (Some t))
 -- where an event can be tried: the client is there, or the CPU, its hand, its request and the
 -- message are as the event asks
 abbrev pub IsReady : WorldEvent → WorldState → Type 0
-IsReady (events.Restarts c i) w = c < length w.clients
+IsReady (events.Restarts c i p) w = c < length w.clients
 IsReady (events.Says c op) w = c < length w.clients
-IsReady (events.Repeats c) w = c < length w.clients
+IsReady (events.Repeats c number) w = c < length w.clients
 IsReady (events.Hears c which) w = (c < length w.clients) × (which < length w.replies)
 IsReady (events.Looks cpu which) w = (which < length w.requests) × IsIdle w cpu
 IsReady (events.Settles cpu) w = (id : RequestId) × (lease : LeaseLine) × (segment : Tag)
@@ -184,12 +184,12 @@ IsReady (events.Resizes arena cache size) w = HasCache w.stock arena cache × Is
 
 -- where it can happen: where its part doesn't refuse it either
 abbrev pub IsEnabled : WorldEvent → WorldState → Type 0
-IsEnabled (events.Restarts c i) w =
+IsEnabled (events.Restarts c i p) w =
     (x : ClientState) × (slice_get w.clients c ≡ Some x) × (may_restart i x ≡ true)
 IsEnabled (events.Says c op) w =
     (x : ClientState) × (slice_get w.clients c ≡ Some x) × (refusal op x ≡ None)
-IsEnabled (events.Repeats c) w = (x : ClientState) × (line : Line)
-    × (slice_get w.clients c ≡ Some x) × (x.outstanding ≡ Some line)
+IsEnabled (events.Repeats c number) w = (x : ClientState) × (line : Line)
+    × (slice_get w.clients c ≡ Some x) × (sent_again number x ≡ Some line)
 IsEnabled (events.Carves cpu arena q) w = HasInHand w cpu None × (s : SpaceState)
     × (slice_get w.stock arena ≡ Some s) × CanCarve s q
 IsEnabled (events.SlabAdds cpu arena cache) w = (span : Tag) × (c : QuantumCacheState)
@@ -206,7 +206,7 @@ IsEnabled event w = IsReady event w
 
 -- why its part refuses an event that can be tried
 abbrev pub RefusesEvent : WorldEvent → EventFault → WorldState → Type 0
-RefusesEvent (events.Restarts c i) faults.NotGreater w =
+RefusesEvent (events.Restarts c i p) faults.NotGreater w =
     (x : ClientState) × (slice_get w.clients c ≡ Some x) × (may_restart i x ≡ false)
 RefusesEvent (events.Says c op) faults.NotOpen w = (x : ClientState) × (back : Op)
     × (slice_get w.clients c ≡ Some x) × (refusal op x ≡ Some (sending.NotOpen back))
@@ -216,8 +216,8 @@ RefusesEvent (events.Says c op) faults.NotHeld w = (x : ClientState) × (back : 
     × (slice_get w.clients c ≡ Some x) × (refusal op x ≡ Some (sending.NotHeld back))
 RefusesEvent (events.Says c op) faults.Exhausted w = (x : ClientState) × (back : Op)
     × (slice_get w.clients c ≡ Some x) × (refusal op x ≡ Some (sending.Exhausted back))
-RefusesEvent (events.Repeats c) faults.Nothing w =
-    (x : ClientState) × (slice_get w.clients c ≡ Some x) × (x.outstanding ≡ None)
+RefusesEvent (events.Repeats c number) faults.Nothing w =
+    (x : ClientState) × (slice_get w.clients c ≡ Some x) × (sent_again number x ≡ None)
 RefusesEvent (events.Carves cpu arena q) faults.BadRequest w = HasInHand w cpu None
     × (s : SpaceState) × (slice_get w.stock arena ≡ Some s) × ¬ IsGood s.arena.quantum q
 RefusesEvent (events.Carves cpu arena q) faults.NoFit w = HasInHand w cpu None × (s : SpaceState)
@@ -269,11 +269,11 @@ MayWantMemory event w = IsEnabled event w
 
 -- the move of an event
 abbrev pub MovesBy : WorldEvent → (old new : WorldState) → Type 0
-MovesBy (events.Restarts c i) old new =
-    ClientSays c (λ x y line. IsRestarted i x y (Ok line)) old new
+MovesBy (events.Restarts c i p) old new =
+    ClientSays c (λ x y line. IsRestarted i p x y (Ok line)) old new
 MovesBy (events.Says c op) old new = ClientSays c (λ x y line. IsSent op x y (Ok line)) old new
-MovesBy (events.Repeats c) old new =
-    ClientSays c (λ x y line. IsResent x (Ok line) × (y ≡ x)) old new
+MovesBy (events.Repeats c number) old new =
+    ClientSays c (λ x y line. (sent_again number x ≡ Some line) × (y ≡ x)) old new
 MovesBy (events.Hears c which) old new = ClientHears c which old new
 MovesBy (events.Looks cpu which) old new = HelloTaken which old new
     ⊎ HelloRefused which old new ⊎ AnsweredAtOnce which old new ⊎ TaskTaken cpu which old new

@@ -45,7 +45,7 @@ IsDue stock names requests (Settled id (Grant segment terms)) =
     IsAsked stock names requests id segment terms
 IsDue stock names requests (Settled id (Return arena base)) = Unit {0}
 IsDue stock names requests (Settled id (Refuse why)) = Unit {0}
-IsDue stock names requests (Hello c i) = Unit {0}
+IsDue stock names requests (Hello c i p) = Unit {0}
 IsDue stock names requests (Swept c i arena base) = Unit {0}
 
 -- if the line is the client's own, the client sent it

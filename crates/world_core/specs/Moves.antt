@@ -24,7 +24,6 @@ use Rattle.lease_proto.specs.declared.lines.Op.TheVariants as ops
 use Rattle.lease_proto.specs.declared.replies.Reply.{Reply}
 use Rattle.lease_proto.specs.declared.replies.Reply.TheVariants as replies
 use Rattle.lease_proto.specs.Requests.{demand_of, again_of}
-use Rattle.lease_book.specs.declared.receipts.KeptReply.TheVariants as kept
 use Rattle.lease_book.specs.Receipts.{ReceiptState}
 use Rattle.lease_book.specs.Entry.{Grant, Return, Refuse, Settled, Hello, Swept}
 use Rattle.lease_book.specs.BookState.{BookState, Enters, account_in, leased_segments}
@@ -33,10 +32,17 @@ use Rattle.lease_book.specs.Account.{is_lease}
 use Rattle.lease_book.specs.declared.books.TheConstants.{MOST_LEASES}
 use Rattle.lease_book.specs.Calls.{IsGranted, IsRefused, IsReleased, IsSwept}
 use Rattle.lease_book.specs.declared.receipts.Terms.{Terms}
-use Rattle.lease_client.specs.ClientState.{ClientState}
+use Rattle.lease_client.specs.ClientState.{ClientState, line_at}
+use Rattle.lease_client.specs.Calls.{first_of}
 use Rattle.lease_client.specs.Replies.{after_reply}
 use Rattle.lease_history.specs.Told.{IsKnownReply, reply_of_settled}
 use Rattle.world_core.specs.WorldState.{WorldState, arena_name}
+
+-- the line that a client sends again: the request with this number, or, where none is named, the
+-- first that waits
+abbrev pub sent_again : Option ℕ → ClientState → Option Line
+sent_again None c = first_of c.outstanding
+sent_again (Some number) c = line_at number c.outstanding
 
 -- the client at the index says the line, and goes on so
 pub record ClientSays (index : ℕ) (May : ClientState → ClientState → Line → Type 0)
@@ -59,19 +65,22 @@ pub record ClientHears (index which : ℕ) (old new : WorldState) : Type 0 where
   pub sent : slice_get old.replies which ≡ Some reply
   pub after : new ≡ record old { clients = set old.clients index (after_reply reply client) }
 
--- a hello that was sent comes, and is taken
+-- a hello that was sent comes, and is taken; it is told the protocol that stands
 pub record HelloTaken (which : ℕ) (old new : WorldState) : Type 0 where
   pub hello : HelloLine
   pub book : BookState
   pub sent : slice_get old.requests which ≡ Some (lines.Hello hello)
   pub current : (account_in hello.client old.book).incarnation ≤ hello.incarnation
-  pub enters : Enters (Hello hello.client hello.incarnation) old.book book
+  pub enters : Enters (Hello hello.client hello.incarnation hello.protocol) old.book book
   pub leases : leased_segments book ≡ leased_segments old.book
   pub after : new ≡ record old {
     book = book;
-    entries = Hello hello.client hello.incarnation ∷ old.entries;
-    replies = old.replies ++ replies.Welcome
-        (record { client = hello.client; incarnation = hello.incarnation }) ∷ [];
+    entries = Hello hello.client hello.incarnation hello.protocol ∷ old.entries;
+    replies = old.replies ++ replies.Welcome (record {
+      client = hello.client;
+      incarnation = hello.incarnation;
+      protocol = (account_in hello.client book).protocol;
+    }) ∷ [];
   }
 
 -- a hello that was sent comes, and is of an incarnation that has passed

@@ -55,7 +55,7 @@ IsAmong x xs = (k : ℕ) × (slice_get xs k ≡ Some x)
 
 -- the entry that is stored so
 abbrev pub logged_entry : Logged → Entry
-logged_entry (logged.Hello c i) = Hello c i
+logged_entry (logged.Hello c i p) = Hello c i p
 logged_entry (logged.Granted id segment terms) = Settled id (Grant segment terms)
 logged_entry (logged.Released id arena base) = Settled id (Return arena base)
 logged_entry (logged.Refused id why) = Settled id (Refuse why)

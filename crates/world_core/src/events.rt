@@ -4,25 +4,28 @@ ghost use Rattle.world_core.specs.Events.{cpu_of};
 
 use deed_core::Request;
 use lease_proto::Op;
-use lease_terms::{ClientId, Refusal};
+use lease_terms::{ClientId, Protocol, Refusal};
 
 /// An event. Clients and CPUs are named by their indexes, and so are the lines and the replies that
 /// were sent, in the order in which they were.
 #[derive(Clone, Copy, Debug)]
 pub enum WorldEvent {
-    /// A client begins a greater incarnation: its hello is sent.
+    /// A client begins a greater incarnation by a protocol: its hello is sent.
     Restarts {
         client: usize,
         incarnation: u64,
+        protocol: Protocol,
     },
     /// A client sends its next request.
     Says {
         client: usize,
         op: Op,
     },
-    /// A client sends again what is outstanding.
+    /// A client sends a line again that is outstanding: the request with this number, or, where none
+    /// is named, the first one. A hello is outstanding alone.
     Repeats {
         client: usize,
+        number: Option<u64>,
     },
     /// A reply comes to a client, in whatever order, and as often as it likes. Another client's
     /// changes nothing of it.
@@ -168,13 +171,13 @@ pub enum EventFault {
     NotGreater,
     /// No `welcome` has come yet to the client's hello.
     NotOpen,
-    /// The client's last request waits for its reply.
+    /// The client's next number is too far above the least one that waits for its reply.
     Busy,
     /// The client doesn't hold what it would release.
     NotHeld,
     /// The client has no number left.
     Exhausted,
-    /// Nothing of the client's is outstanding.
+    /// Nothing of the client's is outstanding, or not the number that is named.
     Nothing,
     /// No arena of this quantum takes such a request.
     BadRequest,

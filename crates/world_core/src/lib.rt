@@ -5,11 +5,12 @@
 //! It is a model that runs. Nothing in it is a copy of a part: the stock, the book and the clients
 //! are the parts themselves, and each event is one call of one of them. Lines and replies that were
 //! sent stay, so any of them may come at any time, any number of times, or never; a CPU stops
-//! between two events by having no further ones. Whatever list of events happens, the world stays
-//! one (`specs/IsWorld.antt`), and so it is safe (`specs/Safe.antt`): each unit is in one home,
-//! each grant was asked for and fits, what clients hold is leased to them and no unit is in two
-//! segments that they hold of arenas with one top, and any two replies that settle one request are
-//! equal.
+//! between two events by having no further ones. A client speaks one protocol or the other, named
+//! at each restart: by the second it has up to eight requests under way, and may send any of them
+//! again. Whatever list of events happens, the world stays one (`specs/IsWorld.antt`), and so it is
+//! safe (`specs/Safe.antt`): each unit is in one home, each grant was asked for and fits, what
+//! clients hold is leased to them and no unit is in two segments that they hold of arenas with one
+//! top, and any two replies that settle one request are equal.
 //!
 //! [`World::new`] makes one of a setup: all spans are free, CPUs are idle, each with empty caches
 //! of its own, and nothing was said; [`World::end`] takes one apart whatever is out, and closes

@@ -3,7 +3,7 @@ ghost use Rattle.std.specs.Prelude.{◌≡◌};
 
 use deed_core::{Deed, Route, Segment};
 use lease_book::Terms;
-use lease_terms::{ClientId, Ordinal, Quantity, Refusal, RequestId};
+use lease_terms::{ClientId, Ordinal, Protocol, Quantity, Refusal, RequestId};
 use std::marker::Model;
 
 /// What is seen of a segment, which itself is elsewhere.
@@ -79,6 +79,7 @@ pub enum Logged {
     Hello {
         client: ClientId,
         incarnation: Ordinal,
+        protocol: Protocol,
     },
     Granted {
         id: RequestId,

@@ -34,7 +34,8 @@ impl<D: Deed> WorldParts<D> {
         }
     }
 
-    /// A hello is taken, or is told the incarnation that it is behind.
+    /// A hello is taken, and told the protocol that stands, or is told the incarnation that it is
+    /// behind.
     fn greet(&mut self, which: usize, hello: HelloLine) -> Outcome
         requires sent { slice_get self.old.requests which ≡ Some (Line.Hello hello) }
         ensures { Tries (λ old new. HelloTaken which old new ⊎ HelloRefused which old new)
@@ -47,15 +48,17 @@ impl<D: Deed> WorldParts<D> {
             return Outcome::NoMemory;
         };
         let (client, incarnation) = (hello.client, hello.incarnation);
-        match self.book.hello(client, incarnation) {
-            Ok(()) => {
+        match self.book.hello(client, incarnation, hello.protocol) {
+            Ok(protocol) => {
                 self.log.push_reserved(Logged::Hello {
                     client,
                     incarnation,
+                    protocol: hello.protocol,
                 });
                 self.replies.push_reserved(Reply::Welcome(Welcome {
                     client,
                     incarnation,
+                    protocol,
                 }));
                 return Outcome::Done;
             }

@@ -1,18 +1,39 @@
 //! What clients say and hear.
-ghost use Rattle.std.specs.Prelude.{◌<◌, length, IfSome, IfNone};
-ghost use Rattle.std.specs.Bool.{OnTrue, OnFalse};
+ghost use Rattle.std.specs.Prelude.{◌≡◌, ◌<◌, length, slice_get, Some, IfSome, IfNone};
+ghost use Rattle.lease_client.specs.ClientState.{ClientState};
+ghost use Rattle.lease_client.specs.Calls.{may_restart};
 ghost use Rattle.world_core.specs.Events.{EndsAs, IsEnabled, RefusesEvent};
+ghost use Rattle.world_core.specs.Moves.{sent_again};
 
 use crate::events::{EventFault, Outcome, WorldEvent};
 use crate::parts::WorldParts;
 use deed_core::Deed;
-use lease_client::SendFault;
-use lease_proto::Op;
+use lease_client::{Client, SendFault};
+use lease_proto::{Line, Op};
+use lease_terms::Protocol;
+
+/// What the client sends again: the request with this number, or, where none is named, the first
+/// line that waits.
+fn sent_again(client: &Client, number: Option<u64>) -> Option<Line>
+    ensures { result ≡ sent_again number client.now }
+{
+    match number {
+        Some(number) => match client.resend_of(number) {
+            Ok(line) => Some(line),
+            Err(_) => None,
+        },
+        None => match client.resend() {
+            Ok(line) => Some(line),
+            Err(_) => None,
+        },
+    }
+}
 
 impl<D: Deed> WorldParts<D> {
-    /// A client begins a greater incarnation.
-    pub(crate) fn restart(&mut self, client: usize, incarnation: u64) -> Outcome
-        ensures { EndsAs (WorldEvent.Restarts client incarnation) result self.old self.new }
+    /// A client begins a greater incarnation by this protocol.
+    pub(crate) fn restart(&mut self, client: usize, incarnation: u64, protocol: Protocol) -> Outcome
+        ensures { EndsAs (WorldEvent.Restarts client incarnation protocol)
+            result self.old self.new }
     {
         if client >= self.clients.len() {
             return Outcome::NotEnabled;
@@ -23,7 +44,7 @@ impl<D: Deed> WorldParts<D> {
         let Ok(()) = self.requests.reserve(1) else {
             return Outcome::NoMemory;
         };
-        match self.clients[client].restart(incarnation) {
+        match self.clients[client].restart(incarnation, protocol) {
             Ok(line) => {
                 self.requests.push_reserved(line);
                 return Outcome::Done;
@@ -32,13 +53,11 @@ impl<D: Deed> WorldParts<D> {
         }
     }
 
-    /// Whether the client may begin this incarnation.
+    /// Whether the client may begin this incarnation, by whatever protocol.
     fn may_restart(&self, client: usize, incarnation: u64) -> bool
         requires within { client < length self.now.clients }
-        ensures on { OnTrue result
-            (IsEnabled (WorldEvent.Restarts client incarnation) self.now) }
-        ensures off { OnFalse result
-            (RefusesEvent (WorldEvent.Restarts client incarnation) EventFault.NotGreater self.now) }
+        ensures { (c : ClientState) × (slice_get self.now.clients client ≡ Some c)
+            × (may_restart incarnation c ≡ result) }
     {
         self.clients[client].may_restart(incarnation)
     }
@@ -82,22 +101,23 @@ impl<D: Deed> WorldParts<D> {
         }
     }
 
-    /// A client sends again what is outstanding.
-    pub(crate) fn resend(&mut self, client: usize) -> Outcome
-        ensures { EndsAs (WorldEvent.Repeats client) result self.old self.new }
+    /// A client sends again what is outstanding: the request with this number, or, where none is
+    /// named, the first line.
+    pub(crate) fn resend(&mut self, client: usize, number: Option<u64>) -> Outcome
+        ensures { EndsAs (WorldEvent.Repeats client number) result self.old self.new }
     {
         if client >= self.clients.len() {
             return Outcome::NotEnabled;
         }
-        match self.clients[client].resend() {
-            Ok(line) => {
+        match sent_again(&self.clients[client], number) {
+            Some(line) => {
                 let Ok(()) = self.requests.reserve(1) else {
                     return Outcome::NoMemory;
                 };
                 self.requests.push_reserved(line);
                 return Outcome::Done;
             }
-            Err(_) => return Outcome::Refused(EventFault::Nothing),
+            None => return Outcome::Refused(EventFault::Nothing),
         }
     }
 

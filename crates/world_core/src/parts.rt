@@ -171,9 +171,10 @@ impl<D: Deed> WorldParts<D> {
             WorldEvent::Restarts {
                 client,
                 incarnation,
-            } => self.restart(client, incarnation),
+                protocol,
+            } => self.restart(client, incarnation, protocol),
             WorldEvent::Says { client, op } => self.send(client, op),
-            WorldEvent::Repeats { client } => self.resend(client),
+            WorldEvent::Repeats { client, number } => self.resend(client, number),
             WorldEvent::Hears { client, which } => self.hear(client, which),
             WorldEvent::Looks { cpu, which } => self.look(cpu, which),
             WorldEvent::Settles { cpu } => self.settle(cpu),

@@ -5,7 +5,7 @@ use crate::chances::Chances;
 use crate::worlds::{client, name, units};
 use deed_core::{PlainDeed, Request};
 use lease_proto::{LeaseLine, LeaseOptions, Line, Op, ReleaseLine};
-use lease_terms::Refusal;
+use lease_terms::{Protocol, Refusal};
 use std::process::Abort;
 use world_core::{World, WorldEvent};
 
@@ -160,9 +160,13 @@ fn of_client(rt: &impl Abort, picks: &mut Picks, world: &World<PlainDeed>) -> Wo
                 return WorldEvent::Restarts {
                     client,
                     incarnation,
+                    protocol: protocol(picks),
                 };
             }
-            WorldEvent::Repeats { client }
+            WorldEvent::Repeats {
+                client,
+                number: number(picks, world),
+            }
         }
         1..=3 => WorldEvent::Says {
             client,
@@ -172,6 +176,23 @@ fn of_client(rt: &impl Abort, picks: &mut Picks, world: &World<PlainDeed>) -> Wo
             client,
             which: picks.recent(world.replies().len()),
         },
+    }
+}
+
+/// One of the two.
+fn protocol(picks: &mut Picks) -> Protocol {
+    if picks.chances.once_in(4) {
+        Protocol::One
+    } else {
+        Protocol::Two
+    }
+}
+
+/// The number of a request of late, or none.
+fn number(picks: &mut Picks, world: &World<PlainDeed>) -> Option<u64> {
+    match world.requests().get(picks.recent(world.requests().len())) {
+        Some(Line::Request(id, _)) => Some(id.number.get()),
+        _ => None,
     }
 }
 

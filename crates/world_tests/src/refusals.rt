@@ -1,6 +1,6 @@
 //! Events that their parts refuse, and events that can't be tried. Nothing moves at them.
 use crate::worlds::{
-    all_done, carves, client, ends, hears, lease, release, restarts, root, sums, world_of,
+    all_done, carves, client, ends, hears, lease, release, repeats, restarts, root, sums, world_of,
 };
 use arena_tree::Setup;
 use deed_core::{PlainDeed, Request};
@@ -92,7 +92,8 @@ fn clients_refuse<R: Abort + AllocGlobal>(rt: &R, world: &mut World<PlainDeed>) 
     let client = 0;
     let first = [
         (says(rt), EventFault::NotOpen),
-        (WorldEvent::Repeats { client }, EventFault::Nothing),
+        (repeats(client, None), EventFault::Nothing),
+        (repeats(client, Some(1)), EventFault::Nothing),
         (restarts(client, 0), EventFault::NotGreater),
         (restarts(client, (1 << 62) + 1), EventFault::NotGreater),
     ];
@@ -115,6 +116,7 @@ fn welcomed_refuses<R: Abort + AllocGlobal>(rt: &R, world: &mut World<PlainDeed>
     let busy = [
         (says(rt), EventFault::Busy),
         (gives_back(rt), EventFault::Busy),
+        (repeats(0, Some(2)), EventFault::Nothing),
     ];
     refused(rt, world, &busy);
     all_done(rt, world, &[WorldEvent::Looks { cpu: 1, which: 1 }]);
@@ -204,7 +206,8 @@ fn nobody_there(rt: &impl Abort, world: &mut World<PlainDeed>) {
     let events = [
         restarts(1, 1),
         WorldEvent::Says { client: 1, op },
-        WorldEvent::Repeats { client: 1 },
+        repeats(1, None),
+        repeats(1, Some(1)),
         hears(0, 0),
         WorldEvent::Looks { cpu: 0, which: 0 },
         carves(2, 0, 1),
@@ -266,10 +269,7 @@ fn full_hands<R: Abort + AllocGlobal>(rt: &R, world: &mut World<PlainDeed>) {
     let (cpu, arena, cache) = (0, 0, 0);
     let request = Request::plain(8);
     let begun = [
-        WorldEvent::Restarts {
-            client: 0,
-            incarnation: 1,
-        },
+        restarts(0, 1),
         WorldEvent::Carves {
             cpu,
             arena,

@@ -1,6 +1,7 @@
 //! Worlds to which each event of a list happens.
 use crate::worlds::{
-    all_done, carves, client, ends, hears, holds, lease, release, replied, root, tells, world_of,
+    all_done, carves, client, ends, hears, holds, lease, release, replied, restarts, root, tells,
+    world_of,
 };
 use arena_tree::Setup;
 use deed_core::{PlainDeed, Request};
@@ -41,10 +42,7 @@ fn world_story(rt: HostRuntime) {
 fn first_life<R: Abort + AllocGlobal>(rt: &R, world: &mut World<PlainDeed>) {
     let op = lease(rt, "p", 4);
     let events = [
-        WorldEvent::Restarts {
-            client: 0,
-            incarnation: 1,
-        },
+        restarts(0, 1),
         WorldEvent::Looks { cpu: 0, which: 0 },
         WorldEvent::Hears {
             client: 0,
@@ -68,10 +66,7 @@ fn first_life<R: Abort + AllocGlobal>(rt: &R, world: &mut World<PlainDeed>) {
 
 fn second_life<R: Abort + AllocGlobal>(rt: &R, world: &mut World<PlainDeed>) {
     let events = [
-        WorldEvent::Restarts {
-            client: 0,
-            incarnation: 2,
-        },
+        restarts(0, 2),
         WorldEvent::Looks { cpu: 0, which: 2 },
         WorldEvent::Sweeps {
             cpu: 0,
@@ -89,10 +84,7 @@ fn second_life<R: Abort + AllocGlobal>(rt: &R, world: &mut World<PlainDeed>) {
 fn second_client<R: Abort + AllocGlobal>(rt: &R, world: &mut World<PlainDeed>) {
     let op = lease(rt, "p", 4);
     let events = [
-        WorldEvent::Restarts {
-            client: 1,
-            incarnation: 1,
-        },
+        restarts(1, 1),
         WorldEvent::Looks { cpu: 0, which: 3 },
         WorldEvent::Hears {
             client: 1,
@@ -155,10 +147,7 @@ fn hand_race(rt: HostRuntime) {
 fn race<R: Abort + AllocGlobal>(rt: &R, world: &mut World<PlainDeed>, op: Op) {
     let request = Request::plain(4);
     let events = [
-        WorldEvent::Restarts {
-            client: 0,
-            incarnation: 1,
-        },
+        restarts(0, 1),
         WorldEvent::Looks { cpu: 0, which: 0 },
         WorldEvent::Hears {
             client: 0,
@@ -212,10 +201,7 @@ fn rounds_story(rt: HostRuntime) {
 
 fn greet<R: Abort + AllocGlobal>(rt: &R, world: &mut World<PlainDeed>) {
     let events = [
-        WorldEvent::Restarts {
-            client: 0,
-            incarnation: 1,
-        },
+        restarts(0, 1),
         WorldEvent::Looks { cpu: 0, which: 0 },
         WorldEvent::Hears {
             client: 0,

@@ -1,5 +1,6 @@
-//! A hundred thousand events at random: five CPUs, two of which fail, four clients, three arenas in
-//! a chain, two of them with caches, and an arena apart from these.
+//! A hundred thousand events at random: five CPUs, two of which fail, four clients that restart by
+//! one protocol or the other, three arenas in a chain, two of them with caches, and an arena apart
+//! from these.
 use crate::kinds::{KINDS, kind_of};
 use crate::picks::{CLIENTS, CPUS, Picks, picked};
 use crate::worlds::{child, name, root, sums, world_of};

@@ -5,7 +5,7 @@ ghost use Rattle.lease_proto.specs.declared.limits.TheConstants.{MOST_CPUS};
 use arena_tree::{NewChild, NewRoot, Setting, Setup};
 use deed_core::{PlainDeed, Request};
 use lease_proto::{LeaseLine, LeaseOptions, Op, ReleaseLine, Reply};
-use lease_terms::{ArenaName, ClientId, Quantity};
+use lease_terms::{ArenaName, ClientId, Protocol, Quantity};
 use std::alloc::{AllocGlobal, Global};
 use std::process::Abort;
 use stock_audit::ArenaSums;
@@ -114,12 +114,18 @@ pub(crate) fn release(rt: &impl Abort, arena: &str, base: u64) -> Op {
     })
 }
 
-/// The client begins this incarnation.
+/// The client begins this incarnation, by the first protocol.
 pub(crate) fn restarts(client: usize, incarnation: u64) -> WorldEvent {
     WorldEvent::Restarts {
         client,
         incarnation,
+        protocol: Protocol::One,
     }
+}
+
+/// The client sends again the request with this number, or the first that waits.
+pub(crate) fn repeats(client: usize, number: Option<u64>) -> WorldEvent {
+    WorldEvent::Repeats { client, number }
 }
 
 /// The client hears this reply.

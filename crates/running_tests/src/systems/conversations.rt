@@ -20,6 +20,7 @@ use tag_arena::Policy;
 fn running_rows(rt: HostRuntime) {
     of_roots(&rt);
     of_incarnations(&rt);
+    of_windows(&rt);
     of_constraints(&rt);
     of_policies(&rt);
     of_caches(&rt);
@@ -115,6 +116,31 @@ fn of_incarnations<R: Abort + Wait + AllocGlobal>(rt: &R) {
             ("lease 2 1 1 m 4", "old 2 0"),
             ("release 2 1 1 m 0", "old 2 0"),
             ("lease 1 2 2 m 8", "refused 1 2 2 nofit"),
+        ],
+    );
+}
+
+// By the second protocol numbers may come in any order within a window of eight. A later hello of
+// the incarnation is told by which protocol it began.
+fn of_windows<R: Abort + Wait + AllocGlobal>(rt: &R) {
+    talk(
+        rt,
+        &["root m 0 64 1 best 0"],
+        &[
+            ("hello 1 1 2", "welcome 1 1 2"),
+            ("hello 1 1", "welcome 1 1 2"),
+            ("lease 1 1 2 m 4", "granted 1 1 2 m 0 4"),
+            ("lease 1 1 9 m 4", "gap 1 1 9 0"),
+            ("lease 1 1 8 m 4", "granted 1 1 8 m 4 4"),
+            ("lease 1 1 1 m 8", "granted 1 1 1 m 8 8"),
+            ("lease 1 1 2 m 4", "granted 1 1 2 m 0 4"),
+            ("lease 1 1 10 m 4", "granted 1 1 10 m 16 4"),
+            ("lease 1 1 11 m 4", "gap 1 1 11 2"),
+            ("lease 1 1 2 m 4", "stale 1 1 2 10"),
+            ("hello 1 2", "welcome 1 2"),
+            ("hello 1 2 2", "welcome 1 2"),
+            ("lease 1 2 2 m 64", "gap 1 2 2 0"),
+            ("lease 1 2 1 m 64", "granted 1 2 1 m 0 64"),
         ],
     );
 }

@@ -7,7 +7,7 @@ use arena_tree::Setup;
 use deed_table::{Ground, Name};
 use lease_client::Client;
 use lease_proto::{LeaseLine, LeaseOptions, Line, Op, ReleaseLine};
-use lease_terms::{ArenaName, ClientId, Quantity};
+use lease_terms::{ArenaName, ClientId, Protocol, Quantity};
 use lease_threads::{Cpu, OpenGate, System};
 use std::alloc::AllocGlobal;
 use std::marker::Brand;
@@ -107,7 +107,7 @@ fn lease_and_release<N: Name, R: Abort + Wait + Clock + AllocGlobal>(
     assert!(rt; raised(rt, &flags.stopped), "the first CPU doesn't stop");
     let mut cpu = cpu(rt, system, 1);
     let mut client = Client::new(rt.alloc(), ClientId::new(2).expect(rt, "a client"));
-    let hello = client.restart(1).expect(rt, "an incarnation");
+    let hello = client.restart(1, Protocol::One).expect(rt, "an incarnation");
     tell(rt, system, &mut cpu, &mut client, &hello);
     let mut turns: u64 = 0;
     for _ in rt.forever() {

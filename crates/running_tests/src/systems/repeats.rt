@@ -21,6 +21,26 @@ fn repeats_are_told(rt: HostRuntime) -> Result<(), Fail> {
     Ok(())
 }
 
+// By the second protocol. A reply is told again out of order too, also after its lease ended, until
+// a number was settled that is greater by the window: then the greatest is told. A number further
+// above those that are all settled than the window is told the last of these.
+const WINDOW: [(&str, &str, bool); 14] = [
+    ("lease 2 1 3 m 2", "granted 2 1 3 m 0 2", true),
+    ("lease 2 1 9 m 2", "gap 2 1 9 0", false),
+    ("lease 2 1 8 m 2", "granted 2 1 8 m 2 2", true),
+    ("release 2 1 8 m 0", "granted 2 1 8 m 2 2", false),
+    ("lease 2 1 3 m 2", "granted 2 1 3 m 0 2", false),
+    ("lease 2 1 1 m 8", "refused 2 1 1 nofit", true),
+    ("lease 2 1 1 m 1", "refused 2 1 1 nofit", false),
+    ("release 2 1 2 m 0", "released 2 1 2", true),
+    ("lease 2 1 3 m 2", "granted 2 1 3 m 0 2", false),
+    ("lease 2 1 12 m 2", "gap 2 1 12 3", false),
+    ("release 2 1 11 m 2", "released 2 1 11", true),
+    ("lease 2 1 3 m 2", "stale 2 1 3 11", false),
+    ("lease 2 1 12 m 2", "gap 2 1 12 3", false),
+    ("release 2 1 4 m 0", "refused 2 1 4 notyours", true),
+];
+
 // Each line with its answer, and whether it is settled by that. What comes again is another line in
 // part: it is answered as the first one was. A number before the last one, or beyond the next, is
 // told the last one.
@@ -49,6 +69,10 @@ fn repeated<N: Name, R: Abort + Wait + AllocGlobal>(rt: &R, ground: Ground, setu
         ("lease 1 1 7 m 4", "gap 1 1 7 5", false),
     ];
     for (text, wanted, is_new) in &rows {
+        told(rt, &system, &mut one, text, wanted, *is_new);
+    }
+    ask(rt, &system, &mut one, "hello 2 1 2", "welcome 2 1 2");
+    for (text, wanted, is_new) in &WINDOW {
         told(rt, &system, &mut one, text, wanted, *is_new);
     }
     retire(rt, &system, one);

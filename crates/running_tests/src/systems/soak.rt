@@ -6,7 +6,7 @@ use arena_tree::Setup;
 use deed_table::{Ground, Name};
 use lease_client::{Client, HeldSegment};
 use lease_proto::{LeaseLine, LeaseOptions, Line, Op, ReleaseLine, Reply};
-use lease_terms::{ArenaName, ClientId, Quantity};
+use lease_terms::{ArenaName, ClientId, Protocol, Quantity};
 use lease_threads::{Cpu, OpenGate, RequestStopped, System};
 use std::alloc::AllocGlobal;
 use std::marker::Brand;
@@ -118,7 +118,8 @@ fn end(segment: &HeldSegment) -> u64 {
     segment.base.get().saturating_add(segment.len.get())
 }
 
-// What one worker does: it leases and releases, and reaps at times.
+// What one worker does: it leases and releases, and reaps at times. Two of the four clients are of
+// each protocol.
 fn tend<N: Name, R: Abort + Wait + Clock + AllocGlobal>(
     rt: &R,
     system: &System<N>,
@@ -136,8 +137,7 @@ fn tend<N: Name, R: Abort + Wait + Clock + AllocGlobal>(
         grants: 0,
         releases: 0,
     };
-    let hello = tended.client.restart(1).expect(rt, "an incarnation");
-    tended.answer(rt, system, &mut cpu, &hello);
+    tended.greet(rt, system, &mut cpu);
     let mut seed = u64::from(number)
         .wrapping_mul(977)
         .wrapping_add(88172645463325252);
@@ -188,6 +188,17 @@ fn next_op(rt: &impl Abort, client: &Client, seed: u64) -> Op {
 }
 
 impl Tended {
+    // Says hello by the protocol of the CPU's number.
+    fn greet<N: Name, R: Abort + Wait>(&mut self, rt: &R, system: &System<N>, cpu: &mut Cpu<N>) {
+        let protocol = if cpu.number() % 2 == 0 {
+            Protocol::One
+        } else {
+            Protocol::Two
+        };
+        let hello = self.client.restart(1, protocol).expect(rt, "an incarnation");
+        self.answer(rt, system, cpu, &hello);
+    }
+
     // Sends the line until it is answered by another reply than `again`.
     fn answer<N: Name, R: Abort + Wait>(
         &mut self,

@@ -25,7 +25,7 @@ struct Talk {
     replies: &'static [u8],
 }
 
-const TALKS: [Talk; 4] = [
+const TALKS: [Talk; 5] = [
     Talk {
         config: b"root m 0 64 1 best 0\n",
         lines: b"hello 1 1\nlease 1 1 1 m 8\nrelease 1 1 2 m 0\n",
@@ -57,6 +57,12 @@ const TALKS: [Talk; 4] = [
               welcome 2 1\n\
               granted 2 1 1 p 1 4\n\
               old 1 2\n",
+    },
+    Talk {
+        config: b"root m 0 64 1 best 0\n",
+        lines: b"hello 1 1 2\nhello 2 1 3\nlease 1 1 8 m 4\nlease 1 1 1 m 8\nlease 1 1 8 m 4\n",
+        replies: b"welcome 1 1 2\nerror number\ngranted 1 1 8 m 0 4\n\
+              granted 1 1 1 m 4 8\ngranted 1 1 8 m 0 4\n",
     },
 ];
 

@@ -7,7 +7,7 @@ pub struct Row {
     pub output: &'static [u8],
 }
 
-pub const ROWS: [Row; 18] = [
+pub const ROWS: [Row; 19] = [
     Row {
         shows: "nothing in, nothing out",
         input: b"",
@@ -231,6 +231,32 @@ pub const ROWS: [Row; 18] = [
               granted 1 1 1 m 0 4\n\
               granted 1 1 2 m 4 4\n\
               stale 1 1 1 2\n",
+    },
+    Row {
+        shows: "by the second protocol eight numbers may be under way, in any order",
+        input: b"root m 0 64 1 best 0\n\
+              hello 1 1 2\n\
+              hello 1 1\n\
+              hello 2 1 3\n\
+              lease 1 1 2 m 4\n\
+              lease 1 1 9 m 4\n\
+              lease 1 1 8 m 4\n\
+              lease 1 1 1 m 8\n\
+              lease 1 1 2 m 4\n\
+              lease 1 1 10 m 4\n\
+              lease 1 1 11 m 4\n\
+              lease 1 1 2 m 4\n",
+        output: b"welcome 1 1 2\n\
+              welcome 1 1 2\n\
+              error number\n\
+              granted 1 1 2 m 0 4\n\
+              gap 1 1 9 0\n\
+              granted 1 1 8 m 4 4\n\
+              granted 1 1 1 m 8 8\n\
+              granted 1 1 2 m 0 4\n\
+              granted 1 1 10 m 16 4\n\
+              gap 1 1 11 2\n\
+              stale 1 1 2 10\n",
     },
     Row {
         shows: "an arena imports at least so much, and gives it back once it is free",

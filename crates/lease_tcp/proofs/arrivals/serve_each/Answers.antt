@@ -1,16 +1,17 @@
-use Rattle.std.proofs.Common.{[], ◌∷◌, true, false, refl, rules}
+use Rattle.std.proofs.Common.{Some, None, rules}
+use Rattle.lease_tcp.specs.Arrivals.{ComesNext}
+use Rattle.lease_tcp.proofs.ArrivalLemmas.{served_on, none_on}
 use Rattle.lease_tcp.proofs.arrivals.serve_each.Goals as goal
 
 pub loop-init : goal.loop-init
 loop-init g c = λ new served. served
 
-pub returns-then-is_closed : goal.returns-then-is_closed
-returns-then-is_closed g c =
-    let closed : g.A.Arrivals.may_find c.accept-came.new.self true = search rules in
-    c.loop.invariant c.accept-came.new.self ([], c.accept-came.result, c.loop.arrivals, refl, c.accept-came.ensures, closed)
+pub returns-in_default : goal.returns-in_default
+returns-in_default g c =
+    let none : ComesNext g.S.Arrivals.may_accept g.S.Arrivals.may_find g.S.Arrivals.may_miss c.loop.server None c.next_open.new.arrivals = search rules in
+    c.loop.invariant c.next_open.new.arrivals (none_on g.S.Arrivals.may_accept g.S.Arrivals.may_find g.S.Server.may_serve g.S.Arrivals.may_miss c.loop.server c.next_open.new.arrivals none)
 
 pub loop-preserved : goal.loop-preserved
 loop-preserved g c = λ new served.
-    let (all, last, mid, met, came, closed) = served in
-    let found : g.A.Arrivals.may_find c.accept-came.new.self false = search rules in
-    c.loop.invariant new (c.accept-came.result ∷ all, last, mid, (c.accept-came.new.self, c.meet.new.arrivals, c.accept-came.ensures, found, c.meet.ensures, met), came, closed)
+    let came : ComesNext g.S.Arrivals.may_accept g.S.Arrivals.may_find g.S.Arrivals.may_miss c.loop.server (Some c.in-Some-next_open.connection) c.next_open.new.arrivals = search rules in
+    c.loop.invariant new (served_on g.S.Arrivals.may_accept g.S.Arrivals.may_find g.S.Server.may_serve g.S.Arrivals.may_miss c.loop.server c.next_open.new.arrivals c.serve.new.self c.in-Some-next_open.connection came c.serve.ensures new served)

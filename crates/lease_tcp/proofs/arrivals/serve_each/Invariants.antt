@@ -3,6 +3,6 @@ use Rattle.lease_tcp.proofs.arrivals.serve_each.Given as goal
 
 -- whatever serves each from here on, served each from the begin on
 abbrev pub invariant-loop : goal.invariant-loop
-invariant-loop g l = (new : g.row.A.Denot)
-    → ServesEach g.A.Arrivals.may_accept g.A.Arrivals.may_find g.A.Arrivals.may_serve g.A.Arrivals.may_miss l.arrivals new
-    → ServesEach g.A.Arrivals.may_accept g.A.Arrivals.may_find g.A.Arrivals.may_serve g.A.Arrivals.may_miss l.fn.arrivals new
+invariant-loop g l = (new : g.row.S.Denot)
+    → ServesEach g.S.Arrivals.may_accept g.S.Arrivals.may_find g.S.Server.may_serve g.S.Arrivals.may_miss l.server new
+    → ServesEach g.S.Arrivals.may_accept g.S.Arrivals.may_find g.S.Server.may_serve g.S.Arrivals.may_miss l.fn.server new

@@ -15,6 +15,7 @@ invariant_of-self-2 g c =
       rw (full_reapable, empty_reapable, c.reserve_one.ensures.old_items) (stocked_with c.push_back_reserved.new.self.items (deque_len c.reserve_one.new.empty) _ whole c.self.invariant.0),
       rw c.reserve_one.ensures.empty_items c.self.invariant.1,
       room_put _ _ _ _ _ _ _ _ _ _ c.in-Ok.ensures.full_room c.in-Ok.ensures.empty_room c.in-Ok.ensures.old_room (c.push_back_reserved.ensures.len ∙ ap (λ n. n + 1) c.in-Ok.ensures.full_len) c.in-Ok.ensures.empty_len c.in-Ok.ensures.old_len c.push_back_reserved.ensures.capacity,
+      rw c.reserve_one.ensures.old_items c.self.invariant.3,
     )
 
 pub returns-clause-sound : goal.returns-clause-sound

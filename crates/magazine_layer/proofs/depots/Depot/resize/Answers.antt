@@ -1,4 +1,5 @@
-use Rattle.std.proofs.Common.{◌≡◌, deque_len, sum_by, arith, ap, sym, ◌∙◌, refl}
+use Rattle.std.proofs.Common.{◌≡◌, ◌*◌, length, deque_len, sum_by, arith, ap, sym, ◌∙◌, refl}
+use Rattle.magazine_layer.proofs.OldCounting.{old_added, old_few, full_few}
 use Rattle.magazine_layer.specs.Depots.{depot_rounds}
 use Rattle.magazine_layer.proofs.Belonging.{among_itself, moved_are_among}
 use Rattle.magazine_layer.proofs.Weighing.{resize_weigh}
@@ -11,7 +12,14 @@ invariant_of-self g c =
       rw (c.in-Ok.ensures.items, c.in-Ok.ensures.other_items, none) (stocked_resize _ c.args.size c.requires c.self.invariant.0),
       (λ k d below. absurd (omega (arith, c.discard_oldest.new.empty.ok.0))),
       room_resize _ _ _ _ _ _ _ _ _ _ _ _ c.self.invariant.2 c.in-Ok.ensures.other_len none c.in-Ok.ensures.len c.in-Ok.ensures.other_capacity c.discard_oldest.ensures.capacity c.in-Ok.ensures.capacity,
+      (let len : c.len.result ≡ length c.self.inside.full.items = omega (arith, c.self.inside.full.ok.0) in rw (c.in-Ok.ensures.items, len) (old_added c.self.inside.old_full.items c.self.inside.full.items c.self.inside.size c.self.inside.old_rounds c.self.invariant.0.sized c.self.invariant.0.whole c.self.invariant.3)),
     )
+
+pub overflow_add-self : goal.overflow_add-self
+overflow_add-self g c =
+    let len : c.len.result ≡ length c.self.inside.full.items = omega (arith, c.self.inside.full.ok.0) in
+    let full = ap (λ n. n * c.self.inside.size) len in
+    omega (arith, full, c.self.inside.full.ok.0, c.self.inside.old_full.ok.0, old_few c.self.inside.old_full.items c.self.inside.old_rounds c.self.invariant.3, full_few c.self.inside.size c.self.inside.full.items c.self.invariant.0.sized c.self.invariant.0.whole)
 
 pub returns-clause-of : goal.returns-clause-of
 returns-clause-of g c =

@@ -14,6 +14,7 @@ invariant_of-self-2 g c =
       rw (full_reapable, empty_reapable) (stocked_with c.push_back_reserved.new.self.items (deque_len c.pop_back.new.self) _ whole c.self.invariant.0),
       (empty_pop c.self.inside.size c.self.inside.empty.items c.pop_back.new.self.items c.in-Some.empty c.in-Some.ensures.items c.self.invariant.1).0,
       room_back _ _ _ _ _ _ _ _ _ _ c.self.invariant.2 c.push_back_reserved.ensures.len c.in-Some.ensures.cases c.push_back_reserved.ensures.capacity c.in-Some.ensures.capacity,
+      c.self.invariant.3,
     )
 
 pub returns-clause-of : goal.returns-clause-of

@@ -14,6 +14,7 @@ invariant_of-self-2 g c =
       rw (full_reapable, empty_reapable) (stocked_with c.pop_back.new.self.items (deque_len c.push_back_reserved.new.self) _ whole.0 c.self.invariant.0),
       empty_push c.self.inside.size c.self.inside.empty.items c.push_back_reserved.new.self.items c.rotate-empty.result c.push_back_reserved.ensures.items out c.self.invariant.1,
       room_swap _ _ _ _ _ _ _ _ _ _ c.self.invariant.2 c.in-Some.ensures.cases c.push_back_reserved.ensures.len c.in-Some.ensures.capacity c.push_back_reserved.ensures.capacity,
+      c.self.invariant.3,
     )
 
 pub returns-clause-of : goal.returns-clause-of
