@@ -1,15 +1,9 @@
-use Rattle.std.proofs.Common.{◌≡◌, ◌<◌, List, Option, length, sym, subst, ap, ◌∙◌, arith}
+use Rattle.std.proofs.Common.{◌≡◌, ap, ◌∙◌, arith}
 use Rattle.std.specs.Prelude.{slice_get, Some}
 use Rattle.deed_core.proofs.LawProofs.{slice_get_some}
-use Rattle.deed_core.specs.Tag.{Tag}
-use Rattle.stock_audit.specs.Outside.{out_of, segments_out}
-use Rattle.stock.specs.OwnCaches.{all_own_rounds, OwnCacheState}
-use Rattle.stock.specs.Sums.{as_leased}
-use Rattle.stock_audit.specs.Audits.{IsTally, TellsSums, units_of_arena_in}
-use Rattle.stock_audit.specs.declared.audits.UnitsOut.{UnitsOut}
-use Rattle.world_core.specs.WorldState.{WorldState, in_hands, outside_of, entries_of}
+use Rattle.world_core.specs.WorldState.{WorldState}
 use Rattle.world_core.specs.IsWorld.{IsWorld}
-use Rattle.world_core.proofs.AuditLemmas.{tallied, rounds_fit, magazines_fit, out_told, out_fits}
+use Rattle.world_core.proofs.AuditLemmas.{out_told, out_fits}
 use Rattle.world_core.proofs.parts.WorldParts.with_out.Goals as goal
 
 pub overflow_add-result : goal.overflow_add-result
