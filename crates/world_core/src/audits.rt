@@ -3,8 +3,9 @@ ghost use Rattle.std.specs.Prelude.{◌≡◌, ◌<◌, ◌≤◌, ◌^◌, leng
 ghost use Rattle.std.specs.Option.{option_to_list};
 ghost use Rattle.deed_core.specs.Covering.{units_in};
 ghost use Rattle.deed_core.specs.Weights.{of_arena};
-ghost use Rattle.stock_audit.specs.Outside.{out_of};
-ghost use Rattle.stock_audit.specs.Audits.{TellsSums, units_of_arena_in};
+ghost use Rattle.stock.specs.Sums.{as_leased};
+ghost use Rattle.stock_audit.specs.Outside.{out_of, segments_out};
+ghost use Rattle.stock_audit.specs.Audits.{IsTally, TellsSums, units_of_arena_in};
 ghost use Rattle.world_core.specs.WorldState.{in_hands, outside_of};
 ghost use Rattle.world_core.specs.IsWorld.{IsWorld};
 
@@ -42,21 +43,72 @@ fn units_in_hands<D: Deed>(hands: &[Option<Segment<D>>], arena: usize) -> u128
 }
 
 impl<D: Deed> WorldParts<D> {
+    /// The units of the arena at the index that are out of the stock.
+    fn units_out(&self, arena: usize) -> UnitsOut
+        requires world { IsWorld self.now }
+        requires within { arena < length self.now.names }
+        ensures { IsTally arena (out_of (outside_of self.now)) result }
+    {
+        // For their clauses: what is always so of a stock, and its arena's units.
+        let _ = self.stock.count();
+        let _ = self.stock.arena_report(arena);
+        UnitsOut {
+            rounds: rounds_units(&self.caches, arena),
+            leased: self.book.units(arena as u32),
+            hand: units_in_hands(&self.hands, arena),
+        }
+    }
+
     /// The sums of the arena at the index.
     pub(crate) fn audit(&self, arena: usize) -> ArenaSums
         requires world { IsWorld self.now }
         requires within { arena < length self.now.names }
         ensures { TellsSums self.now.stock arena (out_of (outside_of self.now)) result }
     {
-        // For their clauses: what is always so of a stock, and its arena's units.
+        let out = self.units_out(arena);
+        audit_units(&self.stock, arena, out)
+    }
+
+    /// The sums of the arena, where the stock counts all that is out of it as leased.
+    fn with_out(&self, arena: usize, sums: ArenaSums) -> ArenaSums
+        requires world { IsWorld self.now }
+        requires within { arena < length self.now.names }
+        requires told { TellsSums self.now.stock arena
+            (as_leased (segments_out (outside_of self.now))) sums }
+        ensures { TellsSums self.now.stock arena (out_of (outside_of self.now)) result }
+    {
+        // For their clauses, as above.
         let _ = self.stock.count();
         let _ = self.stock.arena_report(arena);
-        let out = UnitsOut {
-            rounds: rounds_units(&self.caches, arena),
-            leased: self.book.units(arena as u32),
-            hand: units_in_hands(&self.hands, arena),
-        };
-        audit_units(&self.stock, arena, out)
+        let out = self.units_out(arena);
+        ArenaSums {
+            free: sums.free,
+            slab: sums.slab,
+            magazine: sums.magazine + out.rounds,
+            exported: sums.exported,
+            leased: out.leased,
+            hand: out.hand,
+        }
+    }
+
+    /// The sums of the arena at the index, by the counts that its parts keep.
+    pub(crate) fn sums(&self, arena: usize) -> ArenaSums
+        requires world { IsWorld self.now }
+        requires within { arena < length self.now.names }
+        ensures { TellsSums self.now.stock arena (out_of (outside_of self.now)) result }
+    {
+        let sums = self.stock.sums(arena);
+        self.with_out(arena, sums)
+    }
+
+    /// The same, by the depots' rounds, one after another.
+    pub(crate) fn audit_by_parts(&self, arena: usize) -> ArenaSums
+        requires world { IsWorld self.now }
+        requires within { arena < length self.now.names }
+        ensures { TellsSums self.now.stock arena (out_of (outside_of self.now)) result }
+    {
+        let sums = self.stock.sums_by_parts(arena);
+        self.with_out(arena, sums)
     }
 }
 
@@ -67,5 +119,22 @@ impl<D: Deed> World<D> {
         ensures { TellsSums self.now.stock arena (out_of (outside_of self.now)) result }
     {
         self.parts.audit(arena)
+    }
+
+    /// The same, by the counts that the parts keep. It goes once over the arenas, and over the
+    /// caches and the hands, in constant time each.
+    pub fn sums(&self, arena: usize) -> ArenaSums
+        requires within { arena < length self.now.names }
+        ensures { TellsSums self.now.stock arena (out_of (outside_of self.now)) result }
+    {
+        self.parts.sums(arena)
+    }
+
+    /// The same, counted by parts: one round of the depots after another.
+    pub fn audit_by_parts(&self, arena: usize) -> ArenaSums
+        requires within { arena < length self.now.names }
+        ensures { TellsSums self.now.stock arena (out_of (outside_of self.now)) result }
+    {
+        self.parts.audit_by_parts(arena)
     }
 }

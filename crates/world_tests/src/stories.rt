@@ -1,7 +1,7 @@
 //! Worlds to which each event of a list happens.
 use crate::worlds::{
-    all_done, carves, client, ends, hears, holds, lease, release, replied, restarts, root, tells,
-    world_of,
+    all_done, all_summed, carves, client, ends, hears, holds, lease, release, replied, restarts,
+    root, tells, world_of,
 };
 use arena_tree::Setup;
 use deed_core::{PlainDeed, Request};
@@ -61,7 +61,7 @@ fn first_life<R: Abort + AllocGlobal>(rt: &R, world: &mut World<PlainDeed>) {
             which: 1,
         },
     ];
-    all_done(rt, world, &events);
+    all_summed(rt, world, &events);
 }
 
 fn second_life<R: Abort + AllocGlobal>(rt: &R, world: &mut World<PlainDeed>) {
@@ -78,7 +78,7 @@ fn second_life<R: Abort + AllocGlobal>(rt: &R, world: &mut World<PlainDeed>) {
             which: 2,
         },
     ];
-    all_done(rt, world, &events);
+    all_summed(rt, world, &events);
 }
 
 fn second_client<R: Abort + AllocGlobal>(rt: &R, world: &mut World<PlainDeed>) {
@@ -112,7 +112,7 @@ fn second_client<R: Abort + AllocGlobal>(rt: &R, world: &mut World<PlainDeed>) {
             which: 1,
         },
     ];
-    all_done(rt, world, &events);
+    all_summed(rt, world, &events);
 }
 
 /// Two CPUs look at one line, and both carve for it. The second to settle answers what the first
@@ -138,7 +138,7 @@ fn hand_race(rt: HostRuntime) {
             which: 1,
         },
     ];
-    all_done(&rt, &mut world, &freed);
+    all_summed(&rt, &mut world, &freed);
     tells(&rt, &world, 0, [4, 0, 0, 0, 4, 0]);
     holds(&rt, &world, 0, &[(0, 4)]);
     world.end();
@@ -169,7 +169,7 @@ fn race<R: Abort + AllocGlobal>(rt: &R, world: &mut World<PlainDeed>, op: Op) {
         WorldEvent::Settles { cpu: 0 },
         WorldEvent::Settles { cpu: 1 },
     ];
-    all_done(rt, world, &events);
+    all_summed(rt, world, &events);
 }
 
 /// Seven chunks are leased and released, more than the CPU's two magazines of three have room for:

@@ -3,7 +3,7 @@
 //! from these.
 use crate::kinds::{KINDS, kind_of};
 use crate::picks::{CLIENTS, CPUS, Picks, picked};
-use crate::worlds::{child, name, root, sums, world_of};
+use crate::worlds::{child, name, root, same_sums, sums, world_of};
 use arena_tree::{NewSpan, Setting, Setup};
 use deed_core::PlainDeed;
 use lease_client::HeldSegment;
@@ -46,6 +46,9 @@ fn hundred_thousand_events(rt: HostRuntime) {
         if happens(&rt, &mut world, &event) {
             done[kind_of(&event)] = done[kind_of(&event)].saturating_add(1);
             picks.notes(cpu, &event);
+        }
+        if turn % 100 == 99 {
+            same_sums(&rt, &world);
         }
         if turn % STRETCH == STRETCH - 1 {
             let held = looked_at(&rt, &world);

@@ -172,6 +172,27 @@ pub(crate) fn sums(rt: &impl Abort, world: &World<PlainDeed>, arena: usize) -> A
     world.audit(arena)
 }
 
+/// An audit, the sums by counts and those by parts tell the same of each arena.
+pub(crate) fn same_sums(rt: &impl Abort, world: &World<PlainDeed>) {
+    for arena in 0..world.arenas() {
+        let told = world.audit(arena);
+        assert_eq!(rt; world.sums(arena), told);
+        assert_eq!(rt; world.audit_by_parts(arena), told);
+    }
+}
+
+/// Each of the events happens, and after each of them all sums agree.
+pub(crate) fn all_summed<R: Abort + AllocGlobal>(
+    rt: &R,
+    world: &mut World<PlainDeed>,
+    events: &[WorldEvent],
+) {
+    for event in events {
+        all_done(rt, world, &[*event]);
+        same_sums(rt, world);
+    }
+}
+
 /// The sums of the arena at the index are these.
 pub(crate) fn tells(rt: &impl Abort, world: &World<PlainDeed>, arena: usize, counts: Counts) {
     let [free, slab, magazine, exported, leased, hand] = counts;
