@@ -1,6 +1,6 @@
 -- Lemmas on the lines of CONFIG, which are all taken or one is refused.
 use Rattle.std.proofs.Common.{◌≡◌, ℕ, ◌+◌, Bool, Option, Some, None, Err, Ok, Result, OnOk, IfErr, List, [], ◌∷◌, ◌++◌, length, take, refl, sym, ◌∙◌, ap, subst, arith, IfSome}
-use Rattle.std.proofs.Common.{OnErr, ◌<◌, ◌≤◌, ◌⊎◌, inl, inr, All, slice_index_or}
+use Rattle.std.proofs.Common.{OnErr, ◌≤◌, ◌⊎◌, inl, inr, All, slice_index_or}
 use Rattle.std.proofs.Math.Nat.{eq-or-lt_of_le}
 use Rattle.std.proofs.lemmas.List.{append-nil, length-take, length_push, get_or_append_left, get_or_push}
 use Rattle.std.proofs.lemmas.Option.{slice_get_within}

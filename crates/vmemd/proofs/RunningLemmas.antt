@@ -1,14 +1,12 @@
 -- From what was told and read to how a server ran.
-use Rattle.std.proofs.Common.{◌≡◌, ◌∙◌, ℕ, List, [], ◌∷◌, ◌++◌, Result, Ok, Err, refl, sym, ap, append_assoc, map, true}
+use Rattle.std.proofs.Common.{◌≡◌, ◌∙◌, List, [], ◌∷◌, ◌++◌, Result, Ok, Err, refl, sym, ap, append_assoc, map}
 use Rattle.std.proofs.KnownBytes.{Appends-trans}
-use Rattle.std.specs.Io.KnownBytes.{Appends, IsAtEnd}
 use Rattle.arena_tree.specs.declared.setups.OwnedSpan.{OwnedSpan}
-use Rattle.lease_server.specs.Serving.{WritesFront}
 use Rattle.lease_server.specs.Watching.{Streams}
 use Rattle.lease_threads.specs.Openings.{root_of}
 use Rattle.vmemd.specs.declared.running.RunFault.{RunFault}
 use Rattle.vmemd.specs.declared.running.RunFault.TheVariants.{Read, Write, Listen, Memory, Shut}
-use Rattle.vmemd.specs.Running.{Attends, Closes, ServesToItsEnd, ReaderWorks, WriterWorks, listening_line, closed_line, run_text}
+use Rattle.vmemd.specs.Running.{Attends, Closes, ServesToItsEnd, ReaderWorks, listening_line, closed_line}
 
 -- a fault before the end is the run's
 pub run_fails : (old new : Streams) (fault : RunFault) → Attends old new (Err fault) → ServesToItsEnd old new (Err fault)

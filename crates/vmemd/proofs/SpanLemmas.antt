@@ -13,7 +13,7 @@ use Rattle.arena_tree.specs.declared.setups.OwnedSpan.{OwnedSpan}
 use Rattle.arena_tree.specs.declared.trees.TreeArena.{TreeArena}
 use Rattle.arena_tree.specs.Settings.{SetupState}
 use Rattle.arena_tree.specs.Trees.{index_in}
-use Rattle.stock.specs.Setups.{deeds_owned, numbered_deeds, plan_for, plans_for}
+use Rattle.stock.specs.Setups.{deeds_owned, numbered_deeds, plan_for}
 use Rattle.stock.specs.Spaces.{SpaceState, SpacePlan, plan_of, plans_of}
 use Rattle.lease_proto.specs.declared.lines.LeaseLine.{LeaseLine}
 use Rattle.lease_proto.specs.Requests.{demand_of}

@@ -1,5 +1,5 @@
 -- Where no arena has caches and nothing is leased, nothing is kept.
-use Rattle.std.proofs.Common.{◌≡◌, ℕ, ◌+◌, ◌/◌, zero, suc, refl, sym, subst, ap, ◌∙◌, List, [], ◌∷◌, ◌++◌, map, length, All, arith}
+use Rattle.std.proofs.Common.{◌≡◌, ℕ, ◌+◌, ◌/◌, suc, refl, sym, subst, ap, ◌∙◌, List, [], ◌∷◌, ◌++◌, map, length, All}
 use Rattle.std.specs.Prelude.{flat_map, replicate, slice_get, Some, None}
 use Rattle.std.proofs.Math.Nat.{zero-div}
 use Rattle.deed_core.proofs.LawProofs.{all_at, all_from, mapped, slice_get_mapped}
@@ -7,11 +7,11 @@ use Rattle.arena_tree.specs.declared.trees.TreeArena.{TreeArena}
 use Rattle.stock.specs.Endings.{IsReaped, IsReapedCache}
 use Rattle.stock.specs.OwnCaches.{OwnCacheState, all_own_rounds}
 use Rattle.stock.specs.Setups.{plan_for, plans_for}
-use Rattle.stock.specs.Spaces.{SpaceState, SpacePlan, plan_of, plans_of, slab_size_of}
-use Rattle.local_parts.specs.Cpus.{CacheIndexes, IsCpuOf, own_index, own_indexes, row_indexes, indexes_from}
+use Rattle.stock.specs.Spaces.{SpacePlan, plan_of, plans_of, slab_size_of}
+use Rattle.local_parts.specs.Cpus.{IsCpuOf, own_index, own_indexes, row_indexes, indexes_from}
 use Rattle.lease_book.specs.BookState.{leased_segments}
 use Rattle.lease_proto.specs.Cpus.{IsCpu}
-use Rattle.lease_machine.specs.Picture.{NumberedCpu, Picture, IsPicture, caches_of, held_outside}
+use Rattle.lease_machine.specs.Picture.{NumberedCpu, Picture, IsPicture, caches_of}
 use Rattle.lease_machine.specs.RoomLaws.{NothingIsKept}
 
 no_map : {X Y : Type 0} (f : X → Y) (xs : List X) → map f xs ≡ [] → xs ≡ []

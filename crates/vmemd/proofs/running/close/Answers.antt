@@ -1,5 +1,4 @@
-use Rattle.std.proofs.Common.{◌≡◌, Ok, Err, refl, subst, sym}
-use Rattle.lease_server.specs.Watching.{Streams}
+use Rattle.std.proofs.Common.{refl, subst, sym}
 use Rattle.vmemd.specs.Running.{Attends, Closes, ServesToItsEnd, console_streams}
 use Rattle.vmemd.proofs.RunningLemmas.{run_fails, run_closes}
 use Rattle.vmemd.proofs.running.close.Goals as goal
