@@ -74,7 +74,7 @@ pub fn grant_laws()
 
 /// What each line and its answer make of all leases: one more, one less, those of a client's older
 /// incarnations gone, or none changed. So what two requests are granted doesn't overlap, while no
-/// line ends the first lease.
+/// line ends the first lease: each is told to a new request, or again by the first protocol.
 pub fn lease_laws()
     ensures moves { LeasesMove }
     ensures apart { GrantsStayApart }
