@@ -110,12 +110,14 @@ fn answered(rt: &impl Abort, answer: Answer<PlainDeed>) -> Told {
 }
 
 fn look(rt: &impl Abort, book: &Book<PlainDeed>, id: Id) -> Told {
-    match book.look(request_of(rt, id)) {
-        Look::New => Told::New,
-        Look::Kept(receipt) => kept(rt, receipt.reply()),
-        Look::Old(current) => Told::Old(current.get()),
-        Look::Stale(last) => Told::Stale(last.get()),
-        Look::Gap(last) => Told::Gap(last.get()),
+    let id = request_of(rt, id);
+    match (book.look(id), book.is_new(id)) {
+        (Look::New, true) => Told::New,
+        (Look::Kept(receipt), false) => kept(rt, receipt.reply()),
+        (Look::Old(current), false) => Told::Old(current.get()),
+        (Look::Stale(last), false) => Told::Stale(last.get()),
+        (Look::Gap(last), false) => Told::Gap(last.get()),
+        _ => panic!(rt; "a number is new just where its look says so"),
     }
 }
 
@@ -141,7 +143,7 @@ fn hello(
             assert_eq!(rt; (book.clients(), look(rt, book, (client, 1, 1))), before);
             assert_eq!(rt; book.client_at(before.0), None);
             let again = book.hello(client_of(rt, client), ordinal_of(rt, incarnation), protocol);
-            assert!(rt; again.is_ok());
+            assert_eq!(rt; again.ok(), Some(protocol));
             Ok(protocol)
         }
     }

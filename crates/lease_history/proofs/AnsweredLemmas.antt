@@ -3,26 +3,21 @@ use Rattle.std.proofs.Common.{◌≡◌, ◌⊎◌, inl, inr, ℕ, suc, ◌+◌,
 use Rattle.std.proofs.lemmas.Bool.{cases_lt}
 use Rattle.lease_terms.specs.Requests.{RequestId}
 use Rattle.lease_terms.specs.Protocols.{window_of}
-use Rattle.lease_terms.specs.declared.protocols.Protocol.{Protocol}
-use Rattle.lease_terms.specs.declared.protocols.Protocol.TheVariants.{One, Two}
+use Rattle.lease_terms.specs.declared.protocols.Protocol.TheVariants.{One}
 use Rattle.lease_proto.specs.declared.lines.Line.TheVariants as lines
 use Rattle.lease_proto.specs.declared.lines.Op.{Op}
 use Rattle.lease_book.specs.Receipts.{Kept}
-use Rattle.lease_book.specs.Replies.{kept_at, greatest, recent}
+use Rattle.lease_book.specs.Replies.{kept_at, recent}
 use Rattle.lease_book.specs.Entry.{Entry}
 use Rattle.lease_book.specs.Account.{Account, last_number, window_in}
 use Rattle.lease_book.specs.Answers.{IsNew}
 use Rattle.lease_book.specs.History.{incarnation, settled_in, last_in, low_in, first_protocol, or_else, protocol_in, reach_in, outcome_of, account, AreOrderly}
-use Rattle.lease_book.proofs.LawProofs.{kept_outcomes, numbers_settled_once, greatest_recent}
+use Rattle.lease_book.proofs.LawProofs.{kept_outcomes, numbers_settled_once}
 use Rattle.lease_client.specs.ClientState.{ClientState, line_at}
 use Rattle.lease_history.specs.Known.{IsKnown, IsAnswerable}
 use Rattle.lease_history.specs.Laws.{OpenClientsAgree, WaitingIsAnswered}
 use Rattle.lease_history.proofs.ProtocolLemmas.{begun_already}
 use Rattle.lease_history.proofs.LineLemmas.{IsOneOf, one_of}
-
-window_some : (p : Protocol) → 1 ≤ window_of p
-window_some One = omega arith
-window_some Two = omega arith
 
 pub open_clients_agree : OpenClientsAgree
 open_clients_agree names es c orderly know opened = (current, ap (λ (n : ℕ). protocol_in c.id n es) current ∙ ap (or_else One) first)
@@ -74,7 +69,7 @@ module _ (names : ℕ → List ℕ) (es : List Entry) (c : ClientState) (id : Re
   above : last_number of_client < id.number + window_in of_client
   above =
       let last : last_number of_client ≡ last_in id.client id.incarnation es
-      = ap greatest kept_now ∙ greatest_recent (window_of c.protocol) (settled_in id.client id.incarnation es) (window_some c.protocol) in
+      = kept_outcomes.last es id.client ∙ ap (λ (n : ℕ). last_in id.client n es) (sym current) in
       omega (arith, last, last_below, one.near, window_now)
 
   -- the least number that isn't settled waits, or was never used

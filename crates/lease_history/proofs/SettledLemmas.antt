@@ -12,8 +12,7 @@ use Rattle.lease_book.specs.Replies.{greatest, larger}
 use Rattle.lease_book.specs.Entry.{Entry, Settlement, Settled, Grant, Return, Refuse, kept_settlement}
 use Rattle.lease_book.specs.Account.{Lease, is_lease, without_first, leases_after, lease_of}
 use Rattle.lease_book.specs.History.{last_in, outcome_of, leases_of}
-use Rattle.lease_book.proofs.LawProofs.{settled_for_incarnation, outcomes_stay}
-use Rattle.lease_book.proofs.ReplyLemmas.{larger_below}
+use Rattle.lease_book.proofs.LawProofs.{settled_for_incarnation, outcomes_stay, larger_below}
 use Rattle.lease_client.specs.declared.held.HeldSegment.{HeldSegment}
 use Rattle.lease_client.specs.ClientState.{ClientState, is_at, line_at, AreRequests}
 use Rattle.lease_client.proofs.LawProofs.{found_own}

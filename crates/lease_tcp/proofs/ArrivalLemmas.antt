@@ -1,21 +1,21 @@
 -- Connections that come after those that couldn't be accepted.
-use Rattle.std.proofs.Common.{◌≡◌, Bool, List, [], ◌∷◌, Option, Some, None, Result, Ok, Err, refl, subst}
+use Rattle.std.proofs.Common.{Bool, List, [], ◌∷◌, Some, None, Result, Ok, Err, refl, subst}
 use Rattle.lease_tcp.specs.Arrivals.{MissesEach, ComesNext, ServesEach}
 
 module _ {A C F : Type 0} (may_accept : A → Result C F → A → Type 0) (may_find : A → Bool → Type 0) (may_serve : A → C → A → Type 0) (may_miss : A → F → A → Type 0) where
   -- they were met too
   missed_on : (faults : List F) (old mid : A) → MissesEach may_accept may_find may_miss old faults mid → (new : A) → ServesEach may_accept may_find may_serve may_miss mid new → ServesEach may_accept may_find may_serve may_miss old new
   missed_on [] old mid same new served = subst (λ (a : A). ServesEach may_accept may_find may_serve may_miss a new) same served
-  missed_on (fault ∷ more) old mid (here, missed, came, open, misses, rest) new served =
+  missed_on (fault ∷ more) old mid (here, missed, came, found, misses, rest) new served =
       let (all, last, at, met, ended, closed) = missed_on more missed mid rest new served in
-      (Err fault ∷ all, last, at, (here, missed, came, open, misses, met), ended, closed)
+      (Err fault ∷ all, last, at, (here, missed, came, found, misses, met), ended, closed)
 
   -- the next one was served, and what served each after it served each
   pub served_on : (old here met : A) (connection : C) → ComesNext may_accept may_find may_miss old (Some connection) here → may_serve here connection met → (new : A) → ServesEach may_accept may_find may_serve may_miss met new → ServesEach may_accept may_find may_serve may_miss old new
-  served_on old here met connection (faults, mid, missed, came, open) serves new (all, last, at, more, ended, closed) =
-      missed_on faults old mid missed new (Ok connection ∷ all, last, at, (here, met, came, open, serves, more), ended, closed)
+  served_on old here met connection (faults, mid, missed, (came, found)) serves new (all, last, at, more, ended, closed) =
+      missed_on faults old mid missed new (Ok connection ∷ all, last, at, (here, met, came, found, serves, more), ended, closed)
 
   -- none is served once the door is closed
   pub none_on : (old new : A) → ComesNext may_accept may_find may_miss old None new → ServesEach may_accept may_find may_serve may_miss old new
-  none_on old new (faults, mid, missed, last, came, closed) =
+  none_on old new (faults, mid, missed, (last, came, closed)) =
       missed_on faults old mid missed new ([], last, mid, refl, came, closed)

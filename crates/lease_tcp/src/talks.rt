@@ -18,14 +18,13 @@ use deed_table::Name;
 use lease_proto::ErrorWord;
 use lease_server::{ServeFault, Watched, deliver};
 use std::alloc::AllocGlobal;
-use std::io;
 use std::io::{Error, Read, Write};
 use std::net::TcpStream;
 use std::sync::atomic::Ordering;
 use std::sync::{Arc, Wait};
-use std::thread;
 use std::thread::{Builder, Scope, Threads};
 use std::time::Clock;
+use std::{io, thread};
 
 /// How large a stack a connection's thread has, in bytes.
 const STACK: usize = 256 * 1024;
@@ -34,6 +33,7 @@ const STACK: usize = 256 * 1024;
 const NO_DESCRIPTOR: [i32; 2] = [23, 24];
 
 /// Who accepts the connections of a house.
+#[derive(Drop)]
 struct AtHouse<'a, R, O> {
     rt: &'a R,
     door: Door<'a>,

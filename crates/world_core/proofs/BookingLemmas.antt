@@ -23,7 +23,7 @@ use Rattle.lease_book.specs.Answers.{IsRepeated}
 use Rattle.lease_book.proofs.LawProofs.{account_is, kept_outcomes, outcomes_stay}
 use Rattle.lease_history.specs.Known.{IsFor, IsApart}
 use Rattle.lease_history.specs.Told.{reply_to, MayTell, reply_of_settled, IsKnownReply}
-use Rattle.lease_history.proofs.LawProofs.{told_stays_told, hellos_keep_known, sweeps_keep_known, settlements_keep_known}
+use Rattle.lease_history.proofs.LawProofs.{told_stays_told, welcomes_may_be_told, hellos_keep_known, sweeps_keep_known, settlements_keep_known}
 use Rattle.world_core.specs.WorldState.{WorldState, arena_name, in_hands}
 use Rattle.world_core.specs.Moves.{HelloTaken, HelloRefused, AnsweredAtOnce, TaskTaken, HasTask, TaskGranted, TaskRefused, TaskReleased, TaskEnded, TaskAnswered, TaskGivenUp, LeaseSwept}
 use Rattle.world_core.specs.IsWorld.{IsWorld, IsDue, IsOfLines, AreSoManyCpus}
@@ -67,7 +67,7 @@ answer_told w id (replies.Gap o) is a = tt
 answer_told w id (replies.Granted g) is a = repeat_told w id (replies.Granted g) is a
 answer_told w id (replies.Released of) is a = repeat_told w id (replies.Released of) is a
 answer_told w id (replies.Refused r) is a = repeat_told w id (replies.Refused r) is a
-answer_told w id (replies.Welcome r) is a = tt
+answer_told w id (replies.Welcome r) is a = repeat_told w id (replies.Welcome r) is a
 answer_told w id (replies.Again r) is a = tt
 answer_told w id (replies.Error r) is a = tt
 
@@ -157,6 +157,8 @@ hello_taken_keeps which w v is m =
     let names = arena_name w.names in
     let entry : Entry = Hello m.hello.client m.hello.incarnation m.hello.protocol in
     let now : IsHistory (entry ∷ w.entries) m.book = m.enters.history w.entries is.book in
+    let told = subst (λ (a : Account). MayTell names (entry ∷ w.entries) (replies.Welcome (record { client = m.hello.client; incarnation = m.hello.incarnation; protocol = a.protocol })))
+    (sym (account_is (entry ∷ w.entries) m.book m.hello.client now)) (welcomes_may_be_told names w.entries m.hello.client m.hello.incarnation m.hello.protocol) in
     subst IsWorld (sym m.after) (record {
       parts = subst (λ (leases : List Tag). IsAccountedFor w.stock (outside (in_hands w.hands) leases w.caches)) (sym m.leases) is.parts;
       named = is.named;
@@ -171,7 +173,7 @@ hello_taken_keeps which w v is m =
       tasks = is.tasks;
       own = is.own;
       shaped = is.shaped;
-      told = each_pushed (MayTell names (entry ∷ w.entries)) w.replies _ (λ k r at. told_stays_told names entry w.entries r now.orderly (is.told k r at)) tt;
+      told = each_pushed (MayTell names (entry ∷ w.entries)) w.replies _ (λ k r at. told_stays_told names entry w.entries r now.orderly (is.told k r at)) told;
     })
 
 pub swept_keeps : (cpu c : ℕ) (w v : WorldState) → IsWorld w → LeaseSwept cpu c w v → IsWorld v
@@ -220,7 +222,7 @@ settles w cpu hands book id op s is task enters for apart due even accounts =
       book = now;
       due = each_cons (IsDue w.stock w.names w.requests) (Settled id s) w.entries due is.due;
       ids = is.ids;
-      known = λ k c at. settlements_keep_known names w.entries c id op s (is.known k c at) now.orderly for (is.said k c at line.0 (lines.Request id op) line.1) apart;
+      known = λ k c at. settlements_keep_known names w.entries c id op s (is.known k c at) now.orderly for (is.said k c at line.0 (lines.Request id op) line.1) (λ own. apart);
       said = is.said;
       cpus = subst (λ (count : ℕ). AreSoManyCpus count (set w.tasks cpu None) w.failed w.owners) (sym even) (task_changed w.hands w.tasks w.failed w.owners is.cpus cpu None);
       tasks = each_written (IsOfLines w.requests) w.tasks cpu None is.tasks tt;

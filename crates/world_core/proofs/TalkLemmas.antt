@@ -2,7 +2,7 @@
 use Rattle.std.proofs.Common.{◌≡◌, ◌≢◌, ℕ, ◌+◌, ◌≤◌, Bool, true, false, cond, List, [], ◌∷◌, ◌++◌, set, Option, Some, None, Ok, refl, sym, subst, ap, ◌∙◌, inl, inr, arith, eq-eqb}
 use Rattle.std.specs.Prelude.{slice_get, nat_eq, if◌then◌else◌}
 use Rattle.std.specs.List.{IsDistinct}
-use Rattle.std.proofs.lemmas.Bool.{false≢true, eqb-true, ne_eqb}
+use Rattle.std.proofs.lemmas.Bool.{eqb-true, ne_eqb}
 use Rattle.deed_core.proofs.LawProofs.{written, map_set_same}
 use Rattle.stock.specs.Spaces.{SpaceState}
 use Rattle.lease_terms.specs.Requests.{RequestId}
@@ -18,7 +18,7 @@ use Rattle.lease_client.specs.ClientState.{ClientState, IsSoundClient, line_at, 
 use Rattle.lease_client.specs.Replies.{accepts, after_accept, after_reply}
 use Rattle.lease_client.specs.Calls.{IsRestarted, IsSent, first_of, next_id}
 use Rattle.lease_client.specs.Runs.{Move, Restart, Send, Get, TakesMove}
-use Rattle.lease_client.proofs.LawProofs.{moves_in_turn, sent_stays_sent}
+use Rattle.lease_client.proofs.LawProofs.{moves_in_turn, sent_stays_sent, own_requests}
 use Rattle.lease_history.specs.Known.{IsKnown}
 use Rattle.lease_history.proofs.LawProofs.{moves_keep_known, replies_keep_known}
 use Rattle.world_core.specs.WorldState.{WorldState, arena_name, Each}
@@ -28,12 +28,6 @@ use Rattle.world_core.specs.declared.tasks.Task.{Task}
 use Rattle.world_core.proofs.Members.{each_written, each_pushed, among_more, one_index}
 
 -- Lines that wait for their replies.
-
--- where a client is open all of them are requests
-own_requests : (c i : ℕ) (p : Protocol) (next : ℕ) (o : Bool) (ls : List Line) → o ≡ true → AreOwn c i p next o ls → AreRequests c i 1 next ls
-own_requests c i p next o [] opened own = tt
-own_requests c i p next o (lines.Hello h ∷ ls) opened own = absurd (false≢true (sym own.3 ∙ opened))
-own_requests c i p next o (lines.Request id op ∷ ls) opened own = own.1
 
 found_first : (id : RequestId) (op : Op) (ls : List Line) → line_at id.number (lines.Request id op ∷ ls) ≡ Some (lines.Request id op)
 found_first id op ls = λ j. cond (eq-eqb id.number id.number refl j) (Some (lines.Request id op)) (line_at id.number ls)
@@ -195,7 +189,7 @@ send_keeps index op w v is m =
       said = still_said (Send op) c _ known.sound (may, refl) refl (omega arith);
     }) in
     let own : client_of m.line ≡ c.id = ap client_of m.may.1 in
-    let waits = found_next c.id c.incarnation 1 c.next c.outstanding (next_id c) op refl (own_requests c.id c.incarnation c.protocol c.next c.is_open c.outstanding (moves_in_turn.send op c may).0 known.sound.outstanding) in
+    let waits = found_next c.id c.incarnation 1 c.next c.outstanding (next_id c) op refl (own_requests c.id c.incarnation c.protocol c.next c.is_open c.outstanding (moves_in_turn.send op c known.sound may).0 known.sound.outstanding) in
     let said : MayBeSaid m.next m.line = rw (m.may.1, m.may.2) (λ same. inr waits) in
     subst IsWorld (sym m.after) (says w index c m.next m.line is m.at goes own said)
 

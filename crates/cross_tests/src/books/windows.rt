@@ -4,6 +4,7 @@ use super::{ARENA, Row, Told, run};
 use lease_terms::{Protocol, Refusal};
 
 const ONE: Protocol = Protocol::One;
+
 const TWO: Protocol = Protocol::Two;
 
 // A number more than eight above those that are all settled is a gap, and a number eight or more
@@ -82,10 +83,11 @@ fn protocols(rt: HostRuntime) {
     run(&rt, &rows);
 }
 
-// A lease of [0, 4) by number 1; then numbers 2 and 3 give it back, or ask for it, and come in
-// either order. Each gets one answer, by what stands when it comes, and the same one again.
+// A lease of [0, 4) by number 1; then number 2 gives it back, and number 3 asks for it or gives it
+// back too. They come in either order, and each gets one answer, by what stands when it comes, and
+// the same one again.
 #[test]
-fn orders_of_two(rt: HostRuntime) {
+fn release_and_another(rt: HostRuntime) {
     let not_yours = Refusal::NotYours;
     let rows = [
         Row::Welcome(1, 1, TWO, TWO),
@@ -114,6 +116,43 @@ fn orders_of_two(rt: HostRuntime) {
         Row::Release((1, 4, 2), 0, Told::Refused(not_yours)),
         Row::Release((1, 4, 3), 0, Told::KeptRelease),
         Row::Units(ARENA, 0),
+    ];
+    run(&rt, &rows);
+}
+
+// The same where number 2 asks for a lease, and number 3 gives the first one back or asks for one
+// too.
+#[test]
+fn lease_and_another(rt: HostRuntime) {
+    let rows = [
+        Row::Welcome(1, 1, TWO, TWO),
+        Row::Lease((1, 1, 1), (0, 4), Told::Granted(0, 4)),
+        Row::Lease((1, 1, 2), (4, 4), Told::Granted(4, 4)),
+        Row::Release((1, 1, 3), 0, Told::Released),
+        Row::Lease((1, 1, 2), (0, 4), Told::KeptGrant(4, 4)),
+        Row::Units(ARENA, 4),
+        Row::Welcome(1, 2, TWO, TWO),
+        Row::Sweep(1, Some(((1, 1, 2), (4, 4)))),
+        Row::Lease((1, 2, 1), (0, 4), Told::Granted(0, 4)),
+        Row::Release((1, 2, 3), 0, Told::Released),
+        Row::Lease((1, 2, 2), (0, 4), Told::Granted(0, 4)),
+        Row::Release((1, 2, 3), 0, Told::KeptRelease),
+        Row::Units(ARENA, 4),
+        Row::Welcome(1, 3, TWO, TWO),
+        Row::Sweep(1, Some(((1, 2, 2), (0, 4)))),
+        Row::Lease((1, 3, 1), (0, 4), Told::Granted(0, 4)),
+        Row::Lease((1, 3, 2), (4, 4), Told::Granted(4, 4)),
+        Row::Lease((1, 3, 3), (8, 4), Told::Granted(8, 4)),
+        Row::Lease((1, 3, 2), (12, 4), Told::KeptGrant(4, 4)),
+        Row::Welcome(1, 4, TWO, TWO),
+        Row::Sweep(1, Some(((1, 3, 1), (0, 4)))),
+        Row::Sweep(1, Some(((1, 3, 2), (4, 4)))),
+        Row::Sweep(1, Some(((1, 3, 3), (8, 4)))),
+        Row::Lease((1, 4, 1), (0, 4), Told::Granted(0, 4)),
+        Row::Lease((1, 4, 3), (4, 4), Told::Granted(4, 4)),
+        Row::Lease((1, 4, 2), (8, 4), Told::Granted(8, 4)),
+        Row::Lease((1, 4, 3), (12, 4), Told::KeptGrant(4, 4)),
+        Row::Units(ARENA, 12),
     ];
     run(&rt, &rows);
 }

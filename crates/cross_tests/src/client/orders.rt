@@ -148,7 +148,7 @@ fn take_row(
 #[test]
 fn each_order_of_two_requests(rt: HostRuntime) -> Result<(), Fail> {
     for row in PAIRS {
-        take_row(&rt, rt.alloc(), &[], &row)?;
+        take_row(&rt, rt.alloc(), &[], row.as_slice())?;
     }
     Ok(())
 }
@@ -156,7 +156,7 @@ fn each_order_of_two_requests(rt: HostRuntime) -> Result<(), Fail> {
 #[test]
 fn each_order_of_two_releases_and_a_lease(rt: HostRuntime) -> Result<(), Fail> {
     for row in TRIPLES {
-        take_row(&rt, rt.alloc(), &TWO_RELEASES, &row)?;
+        take_row(&rt, rt.alloc(), &TWO_RELEASES, row.as_slice())?;
     }
     Ok(())
 }
