@@ -21,6 +21,8 @@ use Rattle.lease_book.specs.Entry.{Entry, Settlement, Settled, Hello, Swept, Gra
 use Rattle.lease_book.specs.Receipts.{Kept}
 use Rattle.lease_book.specs.Replies.{kept_at}
 use Rattle.lease_book.specs.Account.{Account, window_in}
+use Rattle.lease_book.specs.Shelf.{standing_of}
+use Rattle.lease_book.specs.Standings.{settled_with}
 use Rattle.lease_book.specs.BookState.{BookState, HasHistory, Enters, account_in}
 use Rattle.lease_book.specs.Answers.{IsNew}
 use Rattle.lease_book.proofs.LawProofs.{entered_changes}
@@ -103,11 +105,25 @@ module _ (old mid : Picture) (id : RequestId) (history : HasHistory old.book) wh
   abbrev WasAnswered : Reply → Type 0
   WasAnswered r = (k : Kept) × IsKeptOf mid.book id k × (r ≡ reply_to (arena_named old.tree) id k.reply)
 
-  new_lease_kept : (l : _) (r : Reply) → IsKept r → NewRequest id (ops.Lease l) old mid r → WasAnswered r
+  -- and the client's other kept replies, its low number and its protocol become what they do by that
+  abbrev pub Becomes : Reply → Type 0
+  Becomes r = (k : Kept) × IsKeptOf mid.book id k × (r ≡ reply_to (arena_named old.tree) id k.reply)
+      × (standing_of (account_in id.client mid.book) ≡ settled_with k (standing_of (account_in id.client old.book)))
+
+  becomes_by : (s : Settlement) → Enters (Settled id s) old.book mid.book
+      → standing_of (account_in id.client mid.book) ≡ settled_with (kept_settlement id.number s) (standing_of (account_in id.client old.book))
+  becomes_by s entry = ap standing_of (entered_changes.settled old.book mid.book id s history entry)
+
+  new_lease_kept : (l : _) (r : Reply) → IsKept r → NewRequest id (ops.Lease l) old mid r → Becomes r
   new_lease_kept l (reply.Granted g) is does =
       let s : Settlement = Grant does.segment (record { quantum = does.arena.quantum; request = demand_of l }) in
-      (kept_settlement id.number s, settled_now old.book mid.book id s history does.granted.new does.granted.entry, does.reply)
-  new_lease_kept l (reply.Refused x) is does = (kept_settlement id.number (Refuse does.0), settled_now old.book mid.book id (Refuse does.0) history does.1.refused.new does.1.refused.entry, does.1.reply)
+      (kept_settlement id.number s, settled_now old.book mid.book id s history does.granted.new does.granted.entry, does.reply, becomes_by s does.granted.entry)
+  new_lease_kept l (reply.Refused x) is does = (
+    kept_settlement id.number (Refuse does.0),
+    settled_now old.book mid.book id (Refuse does.0) history does.1.refused.new does.1.refused.entry,
+    does.1.reply,
+    becomes_by (Refuse does.0) does.1.refused.entry,
+  )
   new_lease_kept l (reply.Again x) is does = absurd is
   new_lease_kept l (reply.Released x) is does = absurd does
   new_lease_kept l (reply.Old x) is does = absurd is
@@ -116,11 +132,16 @@ module _ (old mid : Picture) (id : RequestId) (history : HasHistory old.book) wh
   new_lease_kept l (reply.Welcome x) is does = absurd is
   new_lease_kept l (reply.Error x) is does = absurd is
 
-  new_release_kept : (l : _) (r : Reply) → IsKept r → NewRequest id (ops.Release l) old mid r → WasAnswered r
+  new_release_kept : (l : _) (r : Reply) → IsKept r → NewRequest id (ops.Release l) old mid r → Becomes r
   new_release_kept l (reply.Released p) is does =
       let s : Settlement = Return does.1.index l.base in
-      (kept_settlement id.number s, settled_now old.book mid.book id s history does.1.released.new does.1.released.entry, ap (λ (x : RequestId). reply.Released x) does.0)
-  new_release_kept l (reply.Refused x) is does = (kept_settlement id.number (Refuse does.0), settled_now old.book mid.book id (Refuse does.0) history does.1.refused.new does.1.refused.entry, does.1.reply)
+      (kept_settlement id.number s, settled_now old.book mid.book id s history does.1.released.new does.1.released.entry, ap (λ (x : RequestId). reply.Released x) does.0, becomes_by s does.1.released.entry)
+  new_release_kept l (reply.Refused x) is does = (
+    kept_settlement id.number (Refuse does.0),
+    settled_now old.book mid.book id (Refuse does.0) history does.1.refused.new does.1.refused.entry,
+    does.1.reply,
+    becomes_by (Refuse does.0) does.1.refused.entry,
+  )
   new_release_kept l (reply.Granted x) is does = absurd does
   new_release_kept l (reply.Again x) is does = absurd is
   new_release_kept l (reply.Old x) is does = absurd is
@@ -129,7 +150,7 @@ module _ (old mid : Picture) (id : RequestId) (history : HasHistory old.book) wh
   new_release_kept l (reply.Welcome x) is does = absurd is
   new_release_kept l (reply.Error x) is does = absurd is
 
-  new_kept : (op : Op) (r : Reply) → IsKept r → NewRequest id op old mid r → WasAnswered r
+  pub new_kept : (op : Op) (r : Reply) → IsKept r → NewRequest id op old mid r → Becomes r
   new_kept (ops.Lease l) r is does = new_lease_kept l r is does
   new_kept (ops.Release l) r is does = new_release_kept l r is does
 
@@ -138,7 +159,9 @@ module _ (old mid : Picture) (id : RequestId) (history : HasHistory old.book) wh
     | inl known ↦
         let was = known_kept old id r is known.0 in
         (was.0, subst (λ (d : Picture). IsKeptOf d.book id was.0) (sym known.1) was.1, was.2)
-    | inr fresh ↦ new_kept op r is fresh.1
+    | inr fresh ↦
+        let was = new_kept op r is fresh.1 in
+        (was.0, was.1, was.2)
   ]
 
 -- What other clients and operators ask leaves a client's account as it was.

@@ -34,7 +34,7 @@ use Rattle.lease_machine.specs.LeaseLaws.{grant_told}
 use Rattle.lease_machine.specs.RoomLaws.{HasRun}
 use Rattle.lease_machine.specs.Rules.{NothingServes, WhyNoLease, LeaseRule, ReleaseRule, RequestRule, HelloRule, IsReplyKept, StepsKeepRules, RunsKeepRules}
 use Rattle.lease_machine.proofs.Homes.{leases_are_apart, units_have_one_home}
-use Rattle.lease_machine.proofs.Repeats.{history_of, request_answer, request_kept, operator_keeps, answer_keeps}
+use Rattle.lease_machine.proofs.Repeats.{history_of, request_answer, new_kept, operator_keeps, answer_keeps}
 use Rattle.lease_machine.proofs.Fitting.{not_known}
 use Rattle.lease_machine.proofs.Rooms.{run_serves, base_serves}
 use Rattle.lease_machine.proofs.NoRoom.{runs_up}
@@ -130,14 +130,15 @@ hello_rule old new h is (reply.Gap x) does = does
 hello_rule old new h is (reply.Error x) does = does
 
 -- what settles a request is kept
-reply_kept : (old new : Picture) (id : RequestId) (op : Op) (r : Reply) → IsPicture old → new.tree ≡ old.tree → RequestStep id op old new r → IsKept r → IsReplyKept new id r
-reply_kept old new id op r is tree step settles =
-    let was = request_kept old new id (history_of old is) op r step settles in
+reply_kept : (old new : Picture) (id : RequestId) (op : Op) (r : Reply) → IsPicture old → new.tree ≡ old.tree → NewRequest id op old new r → IsKept r → IsReplyKept old new id r
+reply_kept old new id op r is tree does settles =
+    let was = new_kept old new id (history_of old is) op r settles does in
     record {
       incarnation = sym was.1.current;
       kept = was.0;
       number = sym (found_number (account_in id.client new.book).kept id.number was.0 was.1.there).0;
       there = was.1.there;
+      becomes = was.3;
       reply = was.2 ∙ ap (λ (xs : List TreeArena). reply_to (arena_named xs) id was.0.reply) (sym tree);
     }
 
@@ -149,7 +150,7 @@ steps_keep_rules old new line text is step = record {
       let a = request_answer old new id op line text read step in
       elim a.2 [
         | inl known ↦ absurd (not_known old id a.0 fresh known.0)
-        | inr does ↦ (a.0, a.1, request_rule old new id op is a.0 does.1, reply_kept old new id op a.0 is step.setup.tree a.2)
+        | inr does ↦ (a.0, a.1, request_rule old new id op is a.0 does.1, reply_kept old new id op a.0 is step.setup.tree does.1)
       ]);
   repeat = λ id op read again. (
       let a = request_answer old new id op line text read step in

@@ -33,7 +33,7 @@ use Rattle.lease_book.specs.Account.{Account, lease_of}
 use Rattle.lease_book.specs.Receipts.{Kept}
 use Rattle.lease_book.specs.Replies.{kept_at}
 use Rattle.lease_book.specs.Shelf.{standing_of}
-use Rattle.lease_book.specs.Standings.{begun}
+use Rattle.lease_book.specs.Standings.{begun, settled_with}
 use Rattle.lease_book.specs.BookState.{account_in, leased_segments}
 use Rattle.lease_book.specs.Answers.{IsNew}
 use Rattle.lease_book.specs.declared.books.TheConstants.{MOST_LEASES}
@@ -135,13 +135,16 @@ HelloRule h old (reply.Again a) new =
     × TakesMemory h (account_in h.client old.book) × (new ≡ old)
 HelloRule h old r new = ⊥
 
--- the reply is what is kept of the request's number
-pub record IsReplyKept (d : Picture) (id : RequestId) (r : Reply) : Type 0 where
-  pub incarnation : (account_in id.client d.book).incarnation ≡ id.incarnation
+-- the reply is what is kept of the request's number, and what else is kept of its client, leases
+-- apart, is as a settled number leaves it
+pub record IsReplyKept (old new : Picture) (id : RequestId) (r : Reply) : Type 0 where
+  pub incarnation : (account_in id.client new.book).incarnation ≡ id.incarnation
   pub kept : Kept
   pub number : kept.number ≡ id.number
-  pub there : kept_at id.number (account_in id.client d.book).kept ≡ Some kept
-  pub reply : r ≡ reply_to (arena_named d.tree) id kept.reply
+  pub there : kept_at id.number (account_in id.client new.book).kept ≡ Some kept
+  pub becomes : standing_of (account_in id.client new.book)
+      ≡ settled_with kept (standing_of (account_in id.client old.book))
+  pub reply : r ≡ reply_to (arena_named new.tree) id kept.reply
 
 -- One line: from old it is answered with the text, and new is what holds then.
 pub record KeepsRules (old : Picture) (line text : List ℕ) (new : Picture) : Type 0 where
@@ -154,7 +157,7 @@ pub record KeepsRules (old : Picture) (line text : List ℕ) (new : Picture) : T
   pub request : (id : RequestId) (op : Op) → IsRequestLine line id op
       → IsNew (account_in id.client old.book) id
       → (r : Reply) × (text ≡ reply_bytes r) × RequestRule id op old r new
-      × (IsKept r → IsReplyKept new id r)
+      × (IsKept r → IsReplyKept old new id r)
   -- any other is answered by its number: a settled one by its reply, as long as that is kept
   pub repeat : (id : RequestId) (op : Op) → IsRequestLine line id op
       → ¬ IsNew (account_in id.client old.book) id
