@@ -107,7 +107,9 @@ fn lease_and_release<N: Name, R: Abort + Wait + Clock + AllocGlobal>(
     assert!(rt; raised(rt, &flags.stopped), "the first CPU doesn't stop");
     let mut cpu = cpu(rt, system, 1);
     let mut client = Client::new(rt.alloc(), ClientId::new(2).expect(rt, "a client"));
-    let hello = client.restart(1, Protocol::One).expect(rt, "an incarnation");
+    let hello = client
+        .restart(1, Protocol::One)
+        .expect(rt, "an incarnation");
     tell(rt, system, &mut cpu, &mut client, &hello);
     let mut turns: u64 = 0;
     for _ in rt.forever() {

@@ -46,7 +46,9 @@ fn piped<N: Name, R: Abort + Wait + AllocGlobal>(rt: &R, ground: Ground, setup: 
     let mut one = cpu(rt, &system, 0);
     let mut two = cpu(rt, &system, 1);
     let mut client = Client::new(rt.alloc(), ClientId::new(1).expect(rt, "a client"));
-    let hello = client.restart(1, Protocol::Two).expect(rt, "an incarnation");
+    let hello = client
+        .restart(1, Protocol::Two)
+        .expect(rt, "an incarnation");
     assert!(rt; hello == line(rt, "hello 1 1 2"));
     ask(rt, &system, &mut one, "hello 1 1 2", "welcome 1 1 2");
     gets(rt, &mut client, "welcome 1 1 2", Got::Accepted);

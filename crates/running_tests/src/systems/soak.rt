@@ -195,7 +195,10 @@ impl Tended {
         } else {
             Protocol::Two
         };
-        let hello = self.client.restart(1, protocol).expect(rt, "an incarnation");
+        let hello = self
+            .client
+            .restart(1, protocol)
+            .expect(rt, "an incarnation");
         self.answer(rt, system, cpu, &hello);
     }
 
