@@ -281,15 +281,18 @@ fn the_words_go_to_their_fields(rt: HostRuntime) {
 
 #[test]
 fn the_words_of_a_hello_go_to_their_fields(rt: HostRuntime) {
-    let id = third_request(&rt);
-    let mut hello = HelloLine {
+    reads(&rt, b"hello 7 2", hello(&rt, Protocol::One));
+    reads(&rt, b"hello 7 2 2", hello(&rt, Protocol::Two));
+}
+
+// Client 7 begins as its incarnation 2.
+fn hello(rt: &HostRuntime, protocol: Protocol) -> Line {
+    let id = third_request(rt);
+    Line::Hello(HelloLine {
         client: id.client,
         incarnation: id.incarnation,
-        protocol: Protocol::One,
-    };
-    reads(&rt, b"hello 7 2", Line::Hello(hello));
-    hello.protocol = Protocol::Two;
-    reads(&rt, b"hello 7 2 2", Line::Hello(hello));
+        protocol,
+    })
 }
 
 #[test]

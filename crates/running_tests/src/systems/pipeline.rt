@@ -72,8 +72,8 @@ fn piped<N: Name, R: Abort + Wait + AllocGlobal>(rt: &R, ground: Ground, setup: 
 // to the first one.
 fn takes_reversed(rt: &impl Abort, client: &mut Client) {
     for (_, reply) in EIGHT.iter().rev() {
-        let ninth = op(rt, NINTH.0);
-        assert!(rt; client.send(ninth) == Err(SendFault::Busy(ninth)));
+        let sent = client.send(op(rt, NINTH.0));
+        assert!(rt; sent == Err(SendFault::Busy(op(rt, NINTH.0))));
         gets(rt, client, reply, Got::Accepted);
         gets(rt, client, reply, Got::Ignored);
     }
