@@ -111,14 +111,15 @@ fn answered(rt: &impl Abort, answer: Answer<PlainDeed>) -> Told {
 
 fn look(rt: &impl Abort, book: &Book<PlainDeed>, id: Id) -> Told {
     let id = request_of(rt, id);
-    match (book.look(id), book.is_new(id)) {
-        (Look::New, true) => Told::New,
-        (Look::Kept(receipt), false) => kept(rt, receipt.reply()),
-        (Look::Old(current), false) => Told::Old(current.get()),
-        (Look::Stale(last), false) => Told::Stale(last.get()),
-        (Look::Gap(last), false) => Told::Gap(last.get()),
-        _ => panic!(rt; "a number is new just where its look says so"),
-    }
+    let told = match book.look(id) {
+        Look::New => Told::New,
+        Look::Kept(receipt) => kept(rt, receipt.reply()),
+        Look::Old(current) => Told::Old(current.get()),
+        Look::Stale(last) => Told::Stale(last.get()),
+        Look::Gap(last) => Told::Gap(last.get()),
+    };
+    assert_eq!(rt; book.is_new(id), told == Told::New);
+    told
 }
 
 fn close(segment: Segment<PlainDeed>) -> Bounds {

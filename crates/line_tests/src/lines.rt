@@ -286,7 +286,7 @@ fn the_words_of_a_hello_go_to_their_fields(rt: HostRuntime) {
 }
 
 // Client 7 begins as its incarnation 2.
-fn hello(rt: &HostRuntime, protocol: Protocol) -> Line {
+fn hello(rt: &impl Abort, protocol: Protocol) -> Line {
     let id = third_request(rt);
     Line::Hello(HelloLine {
         client: id.client,
