@@ -129,12 +129,16 @@ fn all_heard<R: Abort + AllocGlobal>(rt: &R, world: &mut World<PlainDeed>) {
     ends(rt, world, repeats(0, Some(5)), none);
 }
 
+/// The second CPU looks at the line of the first request.
+fn looks_at_first() -> WorldEvent {
+    WorldEvent::Looks { cpu: 1, which: 1 }
+}
+
 /// The first number is answered as before, until the ninth is settled.
 fn ninth<R: Abort + AllocGlobal>(rt: &R, world: &mut World<PlainDeed>) {
-    let first = WorldEvent::Looks { cpu: 1, which: 1 };
-    all_done(rt, world, &[first, asks(rt)]);
+    all_done(rt, world, &[looks_at_first(), asks(rt)]);
     served(rt, world, 1, 10);
-    all_done(rt, world, &[first, hears(0, 10)]);
+    all_done(rt, world, &[looks_at_first(), hears(0, 10)]);
 }
 
 /// A release and a lease of the same unit are settled, and the release is sent again. The grant
