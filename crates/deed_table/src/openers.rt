@@ -96,7 +96,8 @@ impl<N: Name> Opener<N> {
 
     /// How many root numbers are left.
     pub fn left(&self) -> u64
-        ensures { result ≡ self.now.left }
+        ensures value { result ≡ self.now.left }
+        ensures most { self.now.first + self.now.left ≤ 2 ^ 32 }
     {
         self.left
     }

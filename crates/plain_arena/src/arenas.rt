@@ -70,6 +70,7 @@ impl<D: Deed> Model for PlainArena<D> {
       free = a.free.items;
       allocated = a.tags;
       rover = a.rover;
+      looks = 0;
     } };
 
     // What is allocated can come back without memory.
@@ -83,6 +84,7 @@ impl<D: Deed> Model for PlainArena<D> {
           free = a.free.items;
           allocated = a.tags;
           rover = a.rover;
+          looks = 0;
         })
         × (vec_len a.free + finmap.len a.tags ≤ vec_capacity a.free) };
 }

@@ -35,9 +35,11 @@ InstantIsOne = (quantum : ℕ) (q : Request) (free : List Holding) (o p : Option
     → IsInstantChoice quantum q free o → IsInstantChoice quantum q free p → o ≡ p
 
 -- two segments that may be carved for one request of one arena are the same, and leave the same
+-- but for how many free ranges were looked at
 abbrev pub CarveIsOne : Type 0
 CarveIsOne = (old new other : ArenaState) (q : Request) (t s : Tag) → IsSoundArena old
-    → CarveOf old q (Ok t) new → CarveOf old q (Ok s) other → (t ≡ s) × (new ≡ other)
+    → CarveOf old q (Ok t) new → CarveOf old q (Ok s) other → (t ≡ s)
+    × (new ≡ record other { looks = new.looks })
 
 -- where the policy chooses none, no address serves
 abbrev pub NoneServes : Type 0

@@ -1,10 +1,8 @@
 //! The arena, on the index of its free ranges.
 ghost use Rattle.std.specs.Prelude.{◌≡◌, ◌+◌, ◌%◌, ◌≤◌, ◌↔◌, ◌<◌, [], ℕ};
-ghost use Rattle.std.specs.Prelude.{IsTrue, IsOk, IfOk, IfErr, IfSome, OnOk, OnErr, Some};
-ghost use Rattle.std.specs.Prelude.{option_to_list, sum_by};
-ghost use Rattle.std.specs.Bool.{OnTrue, OnFalse};
+ghost use Rattle.std.specs.Prelude.{IsOk, IfOk, IfErr, OnOk, OnErr, Some};
+ghost use Rattle.std.specs.Prelude.{option_to_list, length, sum_by};
 ghost use Rattle.std.specs.Int.{IsPowerOfTwo};
-ghost use Rattle.std.specs.Option.{option_map};
 ghost use Rattle.deed_core.specs.Extent.{IsRange};
 ghost use Rattle.deed_core.specs.Covering.{covers, covers_tag, covering_held, units_held};
 ghost use Rattle.deed_core.specs.Tag.{Tag};
@@ -13,42 +11,42 @@ ghost use Rattle.deed_core.specs.Weights.{Gains, Loses};
 ghost use Rattle.tag_arena.specs.Layout.{FreeIsLongestRuns};
 ghost use Rattle.tag_arena.specs.ArenaState.{spans_of, layout_of, ranges_of, tags_of, direct_tag};
 ghost use Rattle.tag_arena.specs.ArenaState.{IsChosen, IsSoundArena, OnQuantum, empty_arena};
-ghost use Rattle.tag_arena.specs.Calls.{part, after_carve, RefusesCarve, IsClear, OverlapsSpan};
-ghost use Rattle.tag_arena.specs.Calls.{after_import, first_units, IsTagged};
+ghost use Rattle.tag_arena.specs.Calls.{part, after_carve, RefusesCarve, IsClear};
+ghost use Rattle.tag_arena.specs.Calls.{after_import, first_units, IsServedByList};
 ghost use Rattle.tag_arena.specs.Fits.{IsFit};
 ghost use Rattle.tag_arena.specs.Found.{IsCuttable};
-ghost use Rattle.tag_arena.specs.Outcomes.{KeepsSetup, AddSpanOf, CarveOf, IsImportFor, ImportOf};
-ghost use Rattle.tag_arena.specs.Outcomes.{ImportCovers, FreeOf, RemoveOf};
+ghost use Rattle.tag_arena.specs.Outcomes.{KeepsSetup, CarveOf, IsImportFor};
+ghost use Rattle.tag_arena.specs.Outcomes.{ImportOf};
+ghost use Rattle.tag_arena.specs.Outcomes.{ImportCovers, FreeOf};
 
 use crate::cell_notes::{origin_in, tell};
 use crate::cells::{Origin, Sides};
 use crate::cuts::cut_first;
 use crate::faults::{ArenaFault, SpanFault};
 use crate::free_index::{Carved, FreeIndex};
-use crate::held_ranges::{HeldRange, held_range_of, piece_of};
+use crate::held_ranges::{HeldRange, piece_of};
 use crate::policies::{Policy, has_sizes};
 use crate::probes::Probes;
 use crate::reserves::reserve_free;
 use crate::returns::{Became, GivenBack};
 use crate::searches::Fit;
-use crate::span_searches::{is_span, overlaps, span_at};
+use crate::span_searches::{is_span, span_at};
 use crate::spans::{Import, Spans};
 use crate::tags::{Placed, Tags};
-use crate::whole_spans::lowest_whole;
-use deed_core::{Deed, Range, Request, Route, Segment, Stored};
+use deed_core::{Deed, Request, Route, Segment, Stored};
 use std::alloc::{AllocError, Global};
 use std::marker::Model;
 
 /// A set of whole numbers, handed out as segments. It is never copied or dropped.
 pub struct Arena<D: Deed> {
-    alloc: Global,
-    id: u32,
-    quantum: u64,
+    pub(crate) alloc: Global,
+    pub(crate) id: u32,
+    pub(crate) quantum: u64,
     policy: Policy,
-    owned: Spans,
-    imported: Spans,
-    free: FreeIndex<D>,
-    tags: Tags,
+    pub(crate) owned: Spans,
+    pub(crate) imported: Spans,
+    pub(crate) free: FreeIndex<D>,
+    pub(crate) tags: Tags,
     rover: u64,
     probes: Probes,
 }
@@ -76,6 +74,7 @@ impl<D: Deed> Model for Arena<D> {
       free = a.free.ranges;
       allocated = a.tags;
       rover = a.rover;
+      looks = a.probes.count;
     } };
 
     // What is allocated can come back without memory.
@@ -89,6 +88,7 @@ impl<D: Deed> Model for Arena<D> {
           free = a.free.ranges;
           allocated = a.tags;
           rover = a.rover;
+          looks = a.probes.count;
         })
         × IsBacked a.policy a.free (finmap.len a.tags) };
 }
@@ -171,8 +171,10 @@ impl<D: Deed> Arena<D> {
 
     /// How many times the last `xalloc` that granted tried a free range whole, 0 before the first.
     /// A range that an index passes by for its length, or for its room on a grid, isn't tried;
-    /// under `next` one may be tried twice. No clause speaks of it.
-    pub fn probes(&self) -> u64 {
+    /// under `next` one may be tried twice.
+    pub fn probes(&self) -> u64
+        ensures { result ≡ self.now.looks }
+    {
         self.probes.count
     }
 
@@ -200,61 +202,6 @@ impl<D: Deed> Arena<D> {
         Ok(())
     }
 
-    /// Whether a span of this arena overlaps the range.
-    fn has_overlap(&self, range: &Range) -> bool
-        ensures overlaps { OnTrue result (OverlapsSpan self.now range.now) }
-        ensures clear { OnFalse result (IsClear self.now range.now) }
-    {
-        if overlaps(&self.owned, range) {
-            return true;
-        }
-        if overlaps(&self.imported, range) {
-            return true;
-        }
-        false
-    }
-
-    /// Whether the range is in whole quanta of this arena.
-    fn is_aligned(&self, range: &Range) -> bool
-        ensures { IsTrue result ↔ OnQuantum self.now.quantum range.now }
-    {
-        range.base() % self.quantum == 0 && range.len() % self.quantum == 0
-    }
-
-    /// Adds an owned span, which is the newest free range. It takes any number of spans: the layer
-    /// above keeps to 65,536.
-    pub fn add_span(&mut self, deed: D) -> Result<(), SpanFault<D>>
-        // What it does.
-        ensures added { AddSpanOf self.old deed (D.holding deed) result self.new }
-
-        // What follows, for those above.
-        ensures sound { IsSoundArena self.new }
-        ensures kept { KeepsSetup self.old self.new }
-        ensures imported { self.new.imported ≡ self.old.imported }
-    {
-        let range = deed.range();
-        if self.has_overlap(&range) {
-            return Err(SpanFault::Overlaps(deed));
-        }
-        if !self.is_aligned(&range) {
-            return Err(SpanFault::NotAligned(deed));
-        }
-        let Ok(()) = self.owned.reserve(self.alloc) else {
-            return Err(SpanFault::NoMemory(deed));
-        };
-        let Ok(()) = reserve_free(self.alloc, &mut self.free, &self.tags, 1) else {
-            return Err(SpanFault::NoMemory(deed));
-        };
-        let Ok(cell) = self.tags.open() else {
-            return Err(SpanFault::NoMemory(deed));
-        };
-        let stored = Stored::new(deed);
-        self.owned.put(Import::new(self.id, held_range_of(&stored)));
-        let slot = self.free.insert(stored);
-        tell(&mut self.free, &mut self.tags, cell, Some(slot));
-        Ok(())
-    }
-
     /// Carves what the policy chooses for the request.
     pub fn xalloc(&mut self, request: &Request) -> Result<Segment<D>, ArenaFault>
         // What it does.
@@ -266,6 +213,7 @@ impl<D: Deed> Arena<D> {
         ensures owned { self.new.owned ≡ self.old.owned }
         ensures imported { self.new.imported ≡ self.old.imported }
         ensures gains { IfOk result (Gains (tags_of self.old) (tags_of self.new)) }
+        ensures one { OnOk result (IsServedByList self.old request.now → self.new.looks ≡ 1) }
         ensures covering { IfOk result (λ s.
             (u : ℕ) → covering_held u self.old.free
             ≡ covering_held u self.new.free + covers u s.holding.range) }
@@ -284,6 +232,8 @@ impl<D: Deed> Arena<D> {
         ensures chosen { IfOk result (λ found. IsChosen self.old request.now (Some found.base)) }
         ensures placed { IfOk result (IsFit self.old.quantum request.now self.old.free) }
         ensures refused { IfErr result (RefusesCarve self.old request.now) }
+        ensures one { OnOk result
+            (IsServedByList self.old request.now → probes.old.count ≡ 0 → probes.new.count ≡ 1) }
         ensures unchanged { self.new ≡ self.old }
         ensures sound { IsSoundArena self.new }
     {
@@ -471,30 +421,5 @@ impl<D: Deed> Arena<D> {
                 Ok(Some(Segment::new(import.source(), Route::Direct, whole.into_deed())))
             }
         }
-    }
-
-    /// Takes out the lowest owned span that is wholly free. It takes no memory. Under `instant` the
-    /// order of sizes is kept from then on.
-    pub fn remove_owned(&mut self) -> Option<D>
-        // What it does.
-        ensures removed { RemoveOf self.old (option_map D.holding result) self.new }
-
-        // What follows, for those above.
-        ensures sound { IsSoundArena self.new }
-        ensures kept { KeepsSetup self.old self.new }
-        ensures imported { self.new.imported ≡ self.old.imported }
-        ensures loses { IfSome result (λ deed.
-            Loses self.old.owned self.new.owned (D.holding deed)) }
-        ensures covering { IfSome result (λ deed.
-            Loses self.old.free self.new.free (D.holding deed)) }
-    {
-        self.free.keep_sizes();
-        let Some(whole) = lowest_whole(&self.owned, &self.free) else {
-            return None;
-        };
-        let _ = self.owned.take(whole.range);
-        self.tags.vacate(self.free.cell(whole.slot));
-        let deed = self.free.take(whole.range, whole.slot);
-        Some(deed.into_deed())
     }
 }

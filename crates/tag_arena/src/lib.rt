@@ -62,6 +62,7 @@ mod laws;
 mod merges;
 mod newest_lists;
 mod orders;
+mod owned_spans;
 mod places;
 mod policies;
 mod probes;
@@ -79,6 +80,6 @@ mod tags;
 mod whole_spans;
 
 pub use arenas::{Arena, ArenaReport};
-pub use faults::{ArenaFault, SpanFault};
+pub use faults::{ArenaFault, RangeFault, SpanFault};
 pub use laws::{allocated_laws, arena_laws, one_choice_laws, serving_laws};
 pub use policies::Policy;

@@ -3,6 +3,7 @@ ghost use Rattle.std.specs.Prelude.{◌≡◌, ◌+◌, ◌^◌, ◌≤◌, ◌<
 ghost use Rattle.std.specs.FinMap as finmap;
 
 use crate::free_index::FreeIndex;
+use crate::spans::Spans;
 use crate::tags::Tags;
 use deed_core::Deed;
 use std::alloc::{AllocError, Global};
@@ -31,4 +32,25 @@ pub(crate) fn reserve_free<D: Deed>(
         return Err(AllocError);
     };
     free.reserve(alloc, room, ticks)
+}
+
+/// Makes room for one more of these spans, which is wholly free, and takes a cell for it.
+pub(crate) fn room_for_span<D: Deed>(
+    alloc: Global,
+    spans: &mut Spans,
+    free: &mut FreeIndex<D>,
+    tags: &mut Tags,
+) -> Result<Option<usize>, AllocError>
+    ensures more { OnOk result (0 < spans.new.more) }
+    ensures spans { spans.new.items ≡ spans.old.items }
+    ensures room { OnOk result
+        (length free.new.ranges + finmap.len tags.old + 1 ≤ free.new.room) }
+    ensures ticks { OnOk result (finmap.len tags.old + 1 < free.new.ticks) }
+    ensures rest { free.new ≡ record free.old { room = free.new.room; ticks = free.new.ticks } }
+    ensures grows { (free.old.room ≤ free.new.room) × (free.old.ticks ≤ free.new.ticks) }
+    ensures tags { tags.new ≡ tags.old }
+{
+    spans.reserve(alloc)?;
+    reserve_free(alloc, free, tags, 1)?;
+    tags.open()
 }

@@ -1,5 +1,5 @@
 //! The spans of an arena.
-ghost use Rattle.std.specs.Prelude.{◌≡◌, ◌≢◌, ◌^◌, ◌<◌, ◌++◌, ◌∷◌, [], All, Contains, OnOk};
+ghost use Rattle.std.specs.Prelude.{◌≡◌, ◌≢◌, ◌^◌, ◌<◌, ◌++◌, ◌∷◌, [], All, Contains, OnOk, length};
 ghost use Rattle.deed_core.specs.Covering.{units_held};
 ghost use Rattle.deed_core.specs.Extent.{end_of};
 ghost use Rattle.deed_core.specs.declared.segments.Route.TheVariants.{Direct};
@@ -91,6 +91,13 @@ impl Spans {
         // The clock is read for the proof alone.
         let _clock = self.clock;
         self.units
+    }
+
+    /// How many there are.
+    pub fn len(&self) -> usize
+        ensures { result ≡ length self.now.items }
+    {
+        self.rows.len()
     }
 
     /// Makes room for one more.

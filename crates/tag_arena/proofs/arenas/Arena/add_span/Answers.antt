@@ -21,7 +21,7 @@ insert-slot-requires-clause-clear g c =
     let range : c.range-range.result ≡ h.range = same_range _ h _ c.range-range.ensures.value c.new-stored.ensures in
     let clear = subst (λ (s : ArenaState). IsClear s c.range-range.result × OnQuantum s.quantum c.range-range.result) (sym c.self.view_is) (c.if-has_overlap.ensures.clear, c.if-not-is_aligned.ensures.0 refl) in
     let sound = added_sound a c.self.invariant.0 h c.held_range_of.ensures.range (subst (λ (e : Extent). OnQuantum c.self.inside.quantum e) range clear.1) (subst (λ (e : Extent). IsClear a e) range clear.0) in
-    subst (λ (xs : List Holding). All (Apart h) xs) (sym (ap (λ v. v.ranges) c.reserve_free.ensures.rest))
+    subst (λ (xs : List Holding). All (Apart h) xs) (sym (ap (λ v. v.ranges) c.room_for_span.ensures.rest))
     (clear_inside a.free h h sound.divided.whole.free_apart (record { from = omega arith; to = omega arith }))
 
 pub invariant_of-self-2 : goal.invariant_of-self-2
@@ -29,12 +29,12 @@ invariant_of-self-2 g c =
     let a = the_state c.self.invariant.0 in
     let h : Holding = c.new-stored.result in
     let range : c.range-range.result ≡ h.range = same_range _ h _ c.range-range.ensures.value c.new-stored.ensures in
-    let owned : holdings_of c.put.new.self.items ≡ a.owned ++ h ∷ [] = held_more _ _ _ _ h c.put.ensures c.reserve.ensures.items (ap (λ (t : Tag). t.holding) c.new.ensures ∙ c.held_range_of.ensures.value) in
-    let tags : c.tell.new.tags ≡ c.self.inside.tags = c.tell.ensures.tags ∙ c.open.ensures.unchanged in
-    let free : c.tell.new.free.ranges ≡ a.free ++ h ∷ [] = ap (λ v. v.ranges) c.tell.ensures.free ∙ pushed _ _ _ _ _ c.insert-slot.ensures.ranges (ap (λ v. v.ranges) c.reserve_free.ensures.rest) refl in
+    let owned : holdings_of c.put.new.self.items ≡ a.owned ++ h ∷ [] = held_more _ _ _ _ h c.put.ensures c.room_for_span.ensures.spans (ap (λ (t : Tag). t.holding) c.new.ensures ∙ c.held_range_of.ensures.value) in
+    let tags : c.tell.new.tags ≡ c.self.inside.tags = c.tell.ensures.tags ∙ c.room_for_span.ensures.tags in
+    let free : c.tell.new.free.ranges ≡ a.free ++ h ∷ [] = ap (λ v. v.ranges) c.tell.ensures.free ∙ pushed _ _ _ _ _ c.insert-slot.ensures.ranges (ap (λ v. v.ranges) c.room_for_span.ensures.rest) refl in
     let clear = subst (λ (s : ArenaState). IsClear s c.range-range.result × OnQuantum s.quantum c.range-range.result) (sym c.self.view_is) (c.if-has_overlap.ensures.clear, c.if-not-is_aligned.ensures.0 refl) in (
       rw (owned, free, tags) (added_sound a c.self.invariant.0 h c.held_range_of.ensures.range (subst (λ (e : Extent). OnQuantum c.self.inside.quantum e) range clear.1) (subst (λ (e : Extent). IsClear a e) range clear.0)),
-      backed_told c.self.inside.policy _ _ _ _ c.tell.ensures.free tags (backed_insert c.self.inside.policy c.self.inside.free c.reserve_free.new.free c.reserve_free.ensures.rest c.insert-slot.new.self h _ c.in-Ok-reserve_free.ensures.room c.in-Ok-reserve_free.ensures.ticks c.insert-slot.ensures.ranges c.insert-slot.ensures.policy c.insert-slot.ensures.room c.insert-slot.ensures.ticks c.self.invariant.1),
+      backed_told c.self.inside.policy _ _ _ _ c.tell.ensures.free tags (backed_insert c.self.inside.policy c.self.inside.free c.room_for_span.new.free c.room_for_span.ensures.rest c.insert-slot.new.self h _ c.in-Ok.ensures.room c.in-Ok.ensures.ticks c.insert-slot.ensures.ranges c.insert-slot.ensures.policy c.insert-slot.ensures.room c.insert-slot.ensures.ticks c.self.invariant.1),
     )
 
 pub returns-clause-sound : goal.returns-clause-sound
@@ -42,9 +42,9 @@ returns-clause-sound g c =
     let a = the_state c.self.invariant.0 in
     let h : Holding = c.new-stored.result in
     let range : c.range-range.result ≡ h.range = same_range _ h _ c.range-range.ensures.value c.new-stored.ensures in
-    let owned : holdings_of c.put.new.self.items ≡ a.owned ++ h ∷ [] = held_more _ _ _ _ h c.put.ensures c.reserve.ensures.items (ap (λ (t : Tag). t.holding) c.new.ensures ∙ c.held_range_of.ensures.value) in
-    let tags : c.tell.new.tags ≡ c.self.inside.tags = c.tell.ensures.tags ∙ c.open.ensures.unchanged in
-    let free : c.tell.new.free.ranges ≡ a.free ++ h ∷ [] = ap (λ v. v.ranges) c.tell.ensures.free ∙ pushed _ _ _ _ _ c.insert-slot.ensures.ranges (ap (λ v. v.ranges) c.reserve_free.ensures.rest) refl in
+    let owned : holdings_of c.put.new.self.items ≡ a.owned ++ h ∷ [] = held_more _ _ _ _ h c.put.ensures c.room_for_span.ensures.spans (ap (λ (t : Tag). t.holding) c.new.ensures ∙ c.held_range_of.ensures.value) in
+    let tags : c.tell.new.tags ≡ c.self.inside.tags = c.tell.ensures.tags ∙ c.room_for_span.ensures.tags in
+    let free : c.tell.new.free.ranges ≡ a.free ++ h ∷ [] = ap (λ v. v.ranges) c.tell.ensures.free ∙ pushed _ _ _ _ _ c.insert-slot.ensures.ranges (ap (λ v. v.ranges) c.room_for_span.ensures.rest) refl in
     let clear = subst (λ (s : ArenaState). IsClear s c.range-range.result × OnQuantum s.quantum c.range-range.result) (sym c.self.view_is) (c.if-has_overlap.ensures.clear, c.if-not-is_aligned.ensures.0 refl) in
     rw (owned, free, tags) (added_sound a c.self.invariant.0 h c.held_range_of.ensures.range (subst (λ (e : Extent). OnQuantum c.self.inside.quantum e) range clear.1) (subst (λ (e : Extent). IsClear a e) range clear.0))
 
@@ -56,4 +56,4 @@ put-requires-clause-absent g c =
     let clear = subst (λ (s : ArenaState). IsClear s c.range-range.result) (sym c.self.view_is) c.if-has_overlap.ensures.clear in
     let alone = ends_alone a h c.self.inside.owned.items c.self.invariant.0.divided c.held_range_of.ensures.range (subst (λ (e : Extent). IsClear a e) range clear) (λ s in-s. Contains-append_left a.owned (holdings_of a.imported) s in-s) in
     let end = ap (λ (t : Tag). end_of t.holding.range) c.new.ensures ∙ ap (λ (x : Holding). end_of x.range) c.held_range_of.ensures.value in
-    subst (λ (n : ℕ). All (λ t. end_of t.holding.range ≢ n) c.reserve.new.self.items) (sym end) (subst (λ (ts : List Tag). All (λ t. end_of t.holding.range ≢ end_of h.range) ts) (sym c.reserve.ensures.items) alone)
+    subst (λ (n : ℕ). All (λ t. end_of t.holding.range ≢ n) c.room_for_span.new.spans.items) (sym end) (subst (λ (ts : List Tag). All (λ t. end_of t.holding.range ≢ end_of h.range) ts) (sym c.room_for_span.ensures.spans) alone)
