@@ -41,7 +41,7 @@ pub use limits::{
     LONGEST_CHAIN, MOST_ARENAS, MOST_CACHES, MOST_ROOTS, MOST_SPANS, setup_limit_law,
 };
 pub use part_faults::{
-    ChangeFault, ClimbFault, FreshFault, GivenFault, PartFault, ReturnFault, Stopped,
+    ChangeFault, ClimbFault, FreshFault, GivenFault, GrowFault, PartFault, ReturnFault, Stopped,
 };
 pub use parts::Parts;
 pub use settings::{NewChild, NewRoot, NewSpan, Setting};

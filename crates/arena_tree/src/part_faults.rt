@@ -20,6 +20,29 @@ pub enum PartFault<F> {
     Stopped,
 }
 
+/// Why an arena that others use meanwhile didn't get a further span. The first that stands is told.
+#[derive(Clone, Copy, PartialEq, Eq, Debug, Error)]
+pub enum GrowFault {
+    /// There is no such arena.
+    #[error("no such arena")]
+    NoArena,
+    /// It has a source.
+    #[error("not a root arena")]
+    NotRoot,
+    /// The range overlaps a span of the arena.
+    #[error("overlaps a span")]
+    Overlaps,
+    /// Its base or length isn't a multiple of the quantum.
+    #[error("not in whole quanta")]
+    NotAligned,
+    /// No root number is left: as many spans were opened as an arena may own.
+    #[error("too many spans")]
+    TooMany,
+    /// Out of memory.
+    #[error("out of memory")]
+    NoMemory,
+}
+
 /// Why a part didn't take what it was given. `F` is its own word, with the segment.
 pub enum GivenFault<F, S> {
     /// The part refused.

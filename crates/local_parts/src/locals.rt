@@ -18,6 +18,7 @@ use tag_arena::{ArenaFault, SpanFault};
 /// A stock and one CPU's caches, both lent, as the parts that one thread can reach.
 #[derive(Drop)]
 pub struct Local<'a, D: Deed> {
+    /// Its arenas grow by its own calls. These keep the plans, so the rest stays as it is.
     pub stock: &'a mut Stock<D>,
     pub cpu: &'a mut CpuCaches<D>,
     /// The sizes of the stock's arenas.

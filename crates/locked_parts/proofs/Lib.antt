@@ -6,3 +6,6 @@ mod Slabs
 mod Wholes
 mod Walks
 mod Begins
+mod Numbers
+mod Grows
+pub mod Sums

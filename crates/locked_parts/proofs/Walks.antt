@@ -1,6 +1,6 @@
 -- Walks over depots.
-use Rattle.std.proofs.Common.{◌≡◌, ◌∙◌, ◌<◌, ◌||◌, ℕ, zero, suc, ◌+◌, ◌-◌, ◌^◌, min, Bool, true, false, sym, subst, refl, arith}
-use Rattle.locked_parts.specs.Walks.{ResizesCaches, SumsCaches}
+use Rattle.std.proofs.Common.{◌≡◌, ◌∙◌, ◌<◌, ◌||◌, ℕ, zero, suc, Bool, true, false, sym, subst, refl, arith}
+use Rattle.locked_parts.specs.Walks.{ResizesCaches}
 
 -- one of the two is so
 either : (P : Type 0) (rose before one : Bool) → (before ≡ true → P) → (one ≡ true → P) → rose ≡ before || one → rose ≡ true → P
@@ -20,10 +20,3 @@ rose_by resizes P arena size (suc n) s rose t is walk e = (
 -- where each rises above the least size alone
 pub rose_least : {S : Type 0} (same : S → S → Type 0) (arena size count : ℕ) (s : S) (rose : Bool) (t : S) → ResizesCaches (λ u a c n r v. same u v × (r ≡ true → 3 < n)) arena size count s rose t → rose ≡ true → (3 < size) × (0 < count)
 rose_least {S} same arena size count s rose t walk e = rose_by (λ u a c n r v. same u v × (r ≡ true → 3 < n)) (3 < size) arena size count s rose t (λ u v cache is. is.1 refl) walk e
-
--- one cache more is added
-pub sums_more : {S : Type 0} (tells : S → ℕ → ℕ → ℕ → S → Type 0) (arena n : ℕ) (s m t : S) (before one units : ℕ)
-    → SumsCaches tells arena n s before m → tells m arena (n + 1) one t → units ≡ min (before + one) (2 ^ 128 - 1) → SumsCaches tells arena (n + 1) s units t
-sums_more {S} tells arena n s m t before one units walk told is =
-    let e : suc n ≡ n + 1 = omega arith in
-    subst (λ k. SumsCaches tells arena k s units t) e (m, before, one, walk, subst (λ k. tells m arena k one t) (sym e) told, is)

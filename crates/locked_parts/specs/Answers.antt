@@ -1,26 +1,44 @@
 -- What the parts of a running system answer.
-use Rattle.std.specs.Prelude.{◌≡◌, ℕ, ◌%◌, List, All, Option, Some, false}
+use Rattle.std.specs.Prelude.{◌≡◌, ℕ, ◌+◌, ◌*◌, ◌%◌, ◌≤◌, List, All, Option, Some, false, length}
 use Rattle.deed_core.specs.Tag.{Tag}
 use Rattle.deed_core.specs.declared.segments.Route.TheVariants.{Direct}
+use Rattle.deed_table.specs.Opened.{OpenedState}
 use Rattle.tag_arena.specs.ArenaState.{ArenaState}
 use Rattle.arena_tree.specs.Chains.{Node}
 use Rattle.arena_tree.specs.Events.{Event, AnswerTo}
 use Rattle.arena_tree.specs.Sound.{Sound}
 use Rattle.arena_tree.specs.Stops.{is_stopped}
+use Rattle.arena_tree.specs.declared.limits.TheConstants.{MOST_SPANS}
 use Rattle.locked_parts.specs.declared.kinds.CacheKind.{CacheKind}
 
 -- the answer is sound, and no stop
 abbrev pub AnswersSoundly : List Node → (e : Event) → AnswerTo e → Type 0
 AnswersSoundly nodes e a = Sound nodes e a × (is_stopped e a ≡ false)
 
--- an arena under its lock, with the number of the arena that it imports from
+-- an arena under its lock, with the number of the arena that it imports from, and the further
+-- roots that were opened for it
 pub record ArenaPartState : Type 0 where
   pub source : Option ℕ
   pub arena : ArenaState
+  pub roots : OpenedState
 
 -- all that it imported is of its source
 abbrev pub ImportsItsOwn : ArenaPartState → Type 0
 ImportsItsOwn p = All (λ t. p.source ≡ Some t.arena) p.arena.imported
+
+-- its root numbers are those of its arena, of which as many are used as spans were opened; so where
+-- it owns as many as an arena may, none is left
+pub record NumbersItsRoots (p : ArenaPartState) : Type 0 where
+  pub from : MOST_SPANS * p.arena.id ≤ p.roots.base
+  pub all : p.roots.base + length p.roots.roots + p.roots.left
+      ≡ MOST_SPANS * p.arena.id + MOST_SPANS
+  pub owned : MOST_SPANS * p.arena.id + length p.arena.owned
+      ≤ p.roots.base + length p.roots.roots
+
+-- what is so of an arena under its lock
+pub record IsArenaPart (p : ArenaPartState) : Type 0 where
+  pub imports : ImportsItsOwn p
+  pub numbers : NumbersItsRoots p
 
 -- the span of a slab of the quantum cache
 pub record IsSpanOfKind (k : CacheKind) (t : Tag) : Type 0 where

@@ -2,6 +2,8 @@ pub mod Gates
 pub mod Kinds
 pub mod News
 pub mod Swaps
+pub mod Sums
 pub mod Walks
 pub mod States
 pub mod Answers
+pub mod Growing

@@ -1,18 +1,30 @@
 -- Parts of a system as they are made.
-use Rattle.std.specs.Prelude.{◌≡◌, ℕ, List, All, Option, Some, map, slice_get}
+use Rattle.std.specs.Prelude.{◌≡◌, ℕ, ◌+◌, ◌==◌, List, [], ◌∷◌, All, Option, Some, map, filter}
+use Rattle.std.specs.Prelude.{slice_get}
+use Rattle.deed_core.specs.Extent.{Extent}
 use Rattle.deed_core.specs.Holding.{Holding}
 use Rattle.tag_arena.specs.ArenaState.{ArenaState}
 use Rattle.tag_arena.specs.declared.policies.Policy.{Policy}
 use Rattle.arena_tree.specs.Chains.{quantum_in}
 use Rattle.arena_tree.specs.Trees.{nodes_of}
+use Rattle.arena_tree.specs.declared.setups.OwnedSpan.{OwnedSpan}
 use Rattle.arena_tree.specs.declared.trees.TreeArena.{TreeArena}
 use Rattle.locked_parts.specs.Kinds.{count_of_caches, kinds_up_to}
 use Rattle.locked_parts.specs.declared.kinds.CacheKind.{CacheKind}
 
--- the arena of this number as it was set up
-abbrev pub IsArenaOf : List TreeArena → ℕ → ArenaState → Type 0
-IsArenaOf arenas id a = (x : TreeArena) × (slice_get arenas id ≡ Some x)
-    × (a.id ≡ id) × (a.quantum ≡ x.quantum) × (a.policy ≡ x.policy)
+-- the ranges of those spans that the arena of this number owns, in order of coming
+abbrev pub ranges_owned : ℕ → List OwnedSpan → List Extent
+ranges_owned id spans = map (λ o. o.range) (filter (λ o. o.arena == id) spans)
+
+-- a root of each of these ranges, with numbers that go on from the first one
+abbrev pub numbered_from : ℕ → List Extent → List Holding
+numbered_from first [] = []
+numbered_from first (e ∷ ranges) =
+    record { root = first; range = e } ∷ numbered_from (first + 1) ranges
+
+-- the arena owns the whole of each of these roots and nothing else, and all of it is free
+abbrev pub AreWhole : ArenaState → List Holding → Type 0
+AreWhole a roots = (a.owned ≡ roots) × (a.free ≡ roots) × (a.imported ≡ [])
 
 -- a quantum cache, and how many units each slab of it has
 pub record NewCacheState : Type 0 where
@@ -24,14 +36,14 @@ abbrev pub HasSlabsOf : List TreeArena → ℕ → NewCacheState → Type 0
 HasSlabsOf arenas id c = (x : TreeArena) × (slice_get arenas id ≡ Some x)
     × (c.slab_size ≡ x.slab_size)
 
--- an arena as it is made, with its source, its quantum caches and its root
+-- an arena as it is made, with its source, its quantum caches and its roots, in order of opening
 pub record NewArenaState : Type 0 where
   pub id : ℕ
   pub quantum : ℕ
   pub policy : Policy
   pub source : Option ℕ
   pub caches : List NewCacheState
-  pub root : Option Holding
+  pub roots : List Holding
 
 -- it is the arena of this number as it was set up
 pub record IsMadeAsSet (arenas : List TreeArena) (id : ℕ) (a : NewArenaState) : Type 0 where

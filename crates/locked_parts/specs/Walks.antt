@@ -1,5 +1,5 @@
 -- Walks over the depots of quantum caches, in order of arenas and of caches, whatever keeps them.
-use Rattle.std.specs.Prelude.{◌≡◌, ◌||◌, ℕ, zero, suc, ◌+◌, ◌-◌, ◌^◌, min, Bool, false, List}
+use Rattle.std.specs.Prelude.{◌≡◌, ◌||◌, ℕ, zero, suc, Bool, false, List}
 use Rattle.arena_tree.specs.declared.trees.TreeArena.{TreeArena}
 use Rattle.locked_parts.specs.Kinds.{count_of_caches}
 
@@ -25,12 +25,3 @@ ResizesCaches resizes arena size zero s rose t = (t ≡ s) × (rose ≡ false)
 ResizesCaches {S} resizes arena size (suc n) s rose t = (m : S) × (before one : Bool)
     × ResizesCaches resizes arena size n s before m × resizes m arena (suc n) size one t
     × (rose ≡ before || one)
-
--- what was told of a part of the arena's first caches, so many, one after another, is added up, and
--- stays at the greatest number
-abbrev pub SumsCaches : {S : Type 0} → (S → ℕ → ℕ → ℕ → S → Type 0) → (arena count : ℕ) → S → ℕ
-    → S → Type 0
-SumsCaches tells arena zero s units t = (t ≡ s) × (units ≡ 0)
-SumsCaches {S} tells arena (suc n) s units t = (m : S) × (before one : ℕ)
-    × SumsCaches tells arena n s before m × tells m arena (suc n) one t
-    × (units ≡ min (before + one) (2 ^ 128 - 1))

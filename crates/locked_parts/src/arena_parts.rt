@@ -1,30 +1,34 @@
 //! An arena as its lock keeps it. What lies there when the lock is taken is known by its type
 //! alone, so that each event looks whether it is the arena that is meant.
-ghost use Rattle.std.specs.Prelude.{◌≡◌, ◌≢◌, ◌<◌, ◌≤◌, ◌↔◌, List, [], Some, Ok, IsOk, OnErr};
-ghost use Rattle.std.specs.Prelude.{IfOk};
-ghost use Rattle.deed_core.specs.Covering.{units_held};
-ghost use Rattle.tag_arena.specs.ArenaState.{ranges_of};
+ghost use Rattle.std.specs.Prelude.{◌≡◌, ◌≢◌, ◌<◌, ◌≤◌, ◌↔◌, ◌++◌, List, [], Some, Ok, IsOk};
+ghost use Rattle.std.specs.Prelude.{OnOk, OnErr, IfOk};
 ghost use Rattle.std.specs.Prelude.{IfErr};
-ghost use Rattle.tag_arena.specs.Calls.{IsTagged, RefusesCarve, RefusesSpan};
+ghost use Rattle.deed_core.specs.Covering.{units_held};
 ghost use Rattle.deed_core.specs.Request.{rounding_of, plain_of};
+ghost use Rattle.tag_arena.specs.ArenaState.{ranges_of};
+ghost use Rattle.tag_arena.specs.Calls.{IsTagged, RefusesCarve, RefusesSpan};
 ghost use Rattle.tag_arena.specs.Outcomes.{CarveOf, ImportOf, FreeOf, RemoveOf};
 ghost use Rattle.std.specs.Option.{option_map};
 ghost use Rattle.arena_tree.specs.Chains.{Node, quantum_in, source_of};
 ghost use Rattle.arena_tree.specs.Events.{Carve, Free, AddCarve};
-ghost use Rattle.locked_parts.specs.Answers.{AnswersSoundly};
 ghost use Rattle.arena_tree.specs.Tags.{wording_of};
+ghost use Rattle.locked_parts.specs.Answers.{AnswersSoundly};
+ghost use Rattle.locked_parts.specs.Growing.{CanGrow, HasRootsMore, IsOfArena, PartGrew};
+ghost use Rattle.locked_parts.specs.Growing.{RefusesGrow};
+ghost use Rattle.locked_parts.specs.Sums.{ArenaTells};
 
-use arena_tree::{GivenFault, PartFault};
-use deed_core::{Request, Route, Segment};
-use deed_table::{Name, Opener, SeatDeed};
+use arena_tree::{GivenFault, GrowFault, PartFault};
+use deed_core::{Range, Request, Route, Segment};
+use deed_table::{Name, Root, Roots, SeatDeed};
+use std::alloc::AllocError;
 use std::marker::Model;
-use tag_arena::{Arena, ArenaFault, SpanFault};
+use tag_arena::{Arena, ArenaFault, RangeFault, SpanFault};
 
-/// An arena, the number of its source, if it has one, and the opener of its further roots.
+/// An arena, the number of its source, if it has one, and its further roots with their opener.
 pub(crate) struct ArenaPart<N: Name> {
     pub(crate) source: Option<u32>,
     pub(crate) arena: Arena<SeatDeed<N>>,
-    pub(crate) opener: Opener<N>,
+    pub(crate) roots: Roots<N>,
 }
 
 impl<N: Name> Model for ArenaPart<N> {
@@ -32,16 +36,17 @@ impl<N: Name> Model for ArenaPart<N> {
     ghost use Rattle.std.specs.Ordering.{nat_cmp};
     ghost use Rattle.std.specs.FinMap as finmap;
     ghost use Rattle.deed_core.specs.Holding.{Holding};
-    ghost use Rattle.locked_parts.specs.Answers.{ArenaPartState, ImportsItsOwn};
+    ghost use Rattle.locked_parts.specs.Answers.{ArenaPartState, IsArenaPart};
 
     ghost Value = { ArenaPartState };
 
     ghost coded = { Prim.hlevel
         (codes, finmap.code {X = Holding} {R = nat_cmp} coded_ℕ (Prim.hlevel codes)) };
 
-    ghost view = { λ p. record { source = p.source; arena = p.arena } };
+    ghost view = { λ p. record { source = p.source; arena = p.arena; roots = p.roots } };
 
-    ghost invariant = { λ p. ImportsItsOwn (record { source = p.source; arena = p.arena }) };
+    ghost invariant = { λ p.
+        IsArenaPart (record { source = p.source; arena = p.arena; roots = p.roots }) };
 }
 
 impl<N: Name> ArenaPart<N> {
@@ -127,8 +132,10 @@ impl<N: Name> ArenaPart<N> {
         self.arena.add_span_and_carve(span, &request)
     }
 
-    /// The units of its free ranges and of its allocated ones; none where another arena stands here.
+    /// The units of its free ranges and of its allocated ones; none where another arena stands
+    /// here.
     pub(crate) fn units_of(&self, id: u32) -> (u128, u128)
+        ensures tells { ArenaTells id result.0 result.1 }
         ensures free { self.now.arena.id ≡ id → result.0 ≡ units_held self.now.arena.free }
         ensures allocated { self.now.arena.id ≡ id
             → result.1 ≡ units_held (ranges_of self.now.arena.allocated) }
@@ -141,6 +148,65 @@ impl<N: Name> ArenaPart<N> {
         (report.free, report.allocated)
     }
 
+    /// Whether the arena with this number can have a further root of this range, were there memory
+    /// for it, or the first reason why not. Of another that stands here nothing is said.
+    pub(crate) fn judge_growth(&self, id: u32, range: &Range) -> Result<(), GrowFault>
+        ensures of_arena { IsOfArena result }
+        ensures can { OnOk result (self.now.arena.id ≡ id → CanGrow self.now range.now) }
+        ensures refused { IfErr result (λ f. self.now.arena.id ≡ id
+            → RefusesGrow self.now range.now f) }
+        ensures judged { IfErr result (λ f. f ≢ GrowFault.NoMemory) }
+    {
+        if self.arena.id() != id {
+            return Ok(());
+        }
+        match self.arena.admits(range) {
+            Ok(()) => {}
+            Err(RangeFault::Overlaps) => return Err(GrowFault::Overlaps),
+            Err(RangeFault::NotAligned) => return Err(GrowFault::NotAligned),
+        }
+        if self.roots.left() == 0 {
+            return Err(GrowFault::TooMany);
+        }
+        Ok(())
+    }
+
+    /// Opens a further root of this range for the arena with this number, and adds its deed. Where
+    /// another stands here, it is refused.
+    pub(crate) fn grow(&mut self, id: u32, range: Range) -> Result<(), GrowFault>
+        ensures of_arena { IsOfArena result }
+        ensures grown { OnOk result (PartGrew self.old range self.new) }
+        ensures refused { IfErr result (λ f. self.old.arena.id ≡ id
+            → RefusesGrow self.old range f) }
+        ensures unchanged { OnErr result (self.new ≡ self.old) }
+    {
+        if self.arena.id() != id {
+            return Err(GrowFault::NoMemory);
+        }
+        self.judge_growth(id, &range)?;
+        match self.arena.grow(range, &mut self.roots) {
+            Ok(()) => Ok(()),
+            Err(AllocError) => Err(GrowFault::NoMemory),
+        }
+    }
+
+    /// Moves the further roots of the arena with this number behind others. Of another that stands
+    /// here none is moved.
+    pub(crate) fn hand_over(&mut self, id: u32, to: &mut Vec<Root<N>>) -> Result<(), AllocError>
+        ensures moved { OnOk result (self.old.arena.id ≡ id
+            → (to.new.items ≡ to.old.items ++ self.old.roots.roots) × (self.new.roots.roots ≡ [])) }
+        ensures more { HasRootsMore id to.old.items to.new.items }
+        ensures arena { self.new.arena ≡ self.old.arena }
+        ensures unchanged { OnErr result ((to.new.items ≡ to.old.items) × (self.new ≡ self.old)) }
+    {
+        if self.arena.id() != id {
+            return Ok(());
+        }
+        // For its clause: which numbers the roots have.
+        let _ = self.roots.left();
+        self.roots.hand_over(to)
+    }
+
     /// Takes out the lowest owned span that is wholly free.
     pub(crate) fn remove_owned(&mut self) -> Option<SeatDeed<N>>
         ensures { RemoveOf self.old.arena (option_map (λ d. d) result) self.new.arena }
@@ -148,22 +214,29 @@ impl<N: Name> ArenaPart<N> {
         self.arena.remove_owned()
     }
 
-    /// Ends an arena in which no deed lies, and hands back another.
+    /// Ends an arena in which no deed lies and whose further roots were handed out, and hands back
+    /// another.
     pub(crate) fn close(self) -> Result<(), ArenaPart<N>>
-        ensures exactly { IsOk result ↔ (self.arena.free ≡ []) }
+        ensures exactly { IsOk result ↔ ((self.arena.free ≡ []) × (self.roots.roots ≡ [])) }
         ensures handed_back { IfErr result (λ same. same ≡ self) }
     {
+        if !self.roots.roots().is_empty() {
+            return Err(self);
+        }
         let ArenaPart {
             source,
             arena,
-            opener,
+            roots,
         } = self;
         match arena.close() {
-            Ok(()) => Ok(()),
+            Ok(()) => {
+                roots.end();
+                Ok(())
+            }
             Err(arena) => Err(ArenaPart {
                 source,
                 arena,
-                opener,
+                roots,
             }),
         }
     }

@@ -6,6 +6,7 @@ ghost use Rattle.magazine_layer.specs.Magazines.{IsSize};
 ghost use Rattle.magazine_layer.specs.Depots.{new_depot, after_tick, after_resize, depot_rounds};
 ghost use Rattle.magazine_layer.specs.Calls.{DepotReapOf, ResizeOf};
 ghost use Rattle.locked_parts.specs.Kinds.{IsOfKind};
+ghost use Rattle.locked_parts.specs.Sums.{DepotTells};
 ghost use Rattle.locked_parts.specs.Swaps.{GivesFull, GivesEmpty, TakesFull};
 
 use crate::kinds::CacheKind;
@@ -157,6 +158,8 @@ impl<D: Deed> KindDepot<D> {
     /// The units of its rounds where it is the depot of this quantum cache, or 2^128 - 1 where they
     /// are more; another tells none. It takes constant time.
     pub(crate) fn units_of(&self, kind: &CacheKind) -> u128
+        requires { 0 < kind.now.quantum }
+        ensures tells { DepotTells kind.now result }
         ensures told { self.now.kind ≡ kind.now
             → result ≡ min (units_tagged (depot_rounds self.now.depot)) (2 ^ 128 - 1) }
         ensures other { self.now.kind ≢ kind.now → result ≡ 0 }

@@ -4,7 +4,12 @@
 //! (slab_parts) and `KindDepot` (kind_depots). What lies there when a lock is taken is known by its
 //! type alone, so each event looks whether it is the part that is meant. `LockedParts` (parts) has
 //! them by the numbers of their arenas; they are made of arenas as they stand before their locks
-//! (new_arenas, new_caches), and ended by taking them from under the locks (ending).
+//! (new_arenas, owned_spans, new_caches), and ended by taking them from under the locks (ending).
+//!
+//! Each span that an arena owns is a root of its own, numbered by its arena and its place among the
+//! arena's spans. Those of the setup are opened before the arena comes under its lock, and their
+//! roots are handed out; further ones are opened under the lock, and their roots stay there until
+//! they are asked for (`LockedParts::{grow, hand_over}`).
 //!
 //! `Running` (running) is `arena_tree::Parts` over them for one CPU, which has two magazines for
 //! each quantum cache (own_caches, own_rounds): each event of a shared part takes its lock, and no
@@ -14,7 +19,8 @@
 //!
 //! `specs/Kinds.antt` has quantum caches and what contracts see of magazines and depots,
 //! `Swaps.antt` exchanges, `Answers.antt` what an event answers, `Gates.antt` what a gate may say,
-//! `News.antt` what parts are made as, `Walks.antt` walks over depots.
+//! `News.antt` what parts are made as, `Growing.antt` which arenas get further roots and why not,
+//! `Walks.antt` walks over depots, `Sums.antt` what parts tell of themselves.
 //!
 //! A part is found by its number, in constant time. An event costs what the part's own call does
 //! (`tag_arena`, `slab_layer`, `magazine_layer`) and a few looks whether it is the part that is
@@ -37,6 +43,7 @@ mod one_lock;
 mod own_caches;
 mod own_events;
 mod own_rounds;
+mod owned_spans;
 mod part_sums;
 mod parts;
 mod running;

@@ -14,9 +14,9 @@ use crate::new_arenas::NewArena;
 use crate::own_events::{swap_empty_in, swap_fresh_in, swap_full_in};
 use crate::own_rounds::{end_rounds, new_rounds};
 use crate::parts::LockedParts;
-use arena_tree::{GivenFault, NewRoot, Setting, Setup};
+use arena_tree::{GivenFault, GrowFault, NewRoot, Setting, Setup};
 use deed_core::{Range, Request, Route, Segment};
-use deed_table::{Ground, Name, SeatDeed, close};
+use deed_table::{Ground, Name, Root, SeatDeed, close};
 use lease_terms::ArenaName;
 use std::alloc::AllocGlobal;
 use std::marker::Brand;
@@ -54,31 +54,42 @@ fn events_of<N: Name, R: Abort + Wait + AllocGlobal>(rt: &R, ground: Ground, set
 {
     assert!(rt; setup.tree().len() == 1);
     let mut numbers = ground.start();
-    let span = Range::new(0, 64);
-    let Ok(opened) = NewArena::<N>::open(rt.alloc(), setup.tree(), 0, span, &mut numbers) else {
+    let Ok(opened) = NewArena::<N>::open(rt.alloc(), setup.tree(), 0, setup.spans(), &mut numbers)
+    else {
         panic!(rt; "memory")
     };
-    let (locked, root) = opened.lock();
+    let (locked, roots) = opened.lock();
     let Ok(mut arenas) = Vec::with_capacity(rt.alloc(), 1) else {
-        stuck(rt, (locked, root))
+        stuck(rt, (locked, roots))
     };
     arenas.push_reserved(locked);
     let mut parts = LockedParts::new(rt.alloc(), setup.into_tree(), arenas);
     of_arena(rt, &parts);
     of_slabs(rt, &parts);
     of_depot(rt, &parts);
-    let Some(root) = root else { stuck(rt, parts) };
-    let Some(deed) = parts.remove_owned(rt, 0) else {
-        stuck(rt, (root, parts))
-    };
-    match close(root, deed) {
-        Ok(_) => {}
-        Err(held) => stuck(rt, (held, parts)),
-    }
+    close_all(rt, &parts, roots);
     if !parts.end_arenas() {
         stuck(rt, parts)
     }
     parts.end();
+}
+
+/// Closes the arena's roots, those that it was made with and those that were opened since.
+fn close_all<N: Name, R: Abort + Wait>(rt: &R, parts: &LockedParts<N>, mut roots: Vec<Root<N>>) {
+    let Ok(()) = parts.hand_over(rt, 0, &mut roots) else {
+        stuck(rt, roots)
+    };
+    while !roots.is_empty() {
+        let root = roots.remove(0);
+        let Some(deed) = parts.remove_owned(rt, 0) else {
+            stuck(rt, (root, roots))
+        };
+        match close(root, deed) {
+            Ok(_) => {}
+            Err(held) => stuck(rt, (held, roots)),
+        }
+    }
+    roots.destroy_empty();
 }
 
 /// A segment that the arena carved.
@@ -101,7 +112,7 @@ fn freed<N: Name, R: Abort + Wait>(rt: &R, parts: &LockedParts<N>, segment: Segm
     }
 }
 
-/// The arena imports nothing, so that it refuses the span.
+/// The arena imports nothing, so that it refuses the span; it grows by a range beside its own.
 fn of_arena<N: Name, R: Abort + Wait>(rt: &R, parts: &LockedParts<N>)
     requires { 0 < length parts.now.arenas }
 {
@@ -115,6 +126,10 @@ fn of_arena<N: Name, R: Abort + Wait>(rt: &R, parts: &LockedParts<N>)
         Err(GivenFault::Refused(SpanFault::Overlaps(segment))) => freed(rt, parts, segment),
         held => stuck(rt, held),
     }
+    let over = Range::new(60, 8).expect(rt, "a range");
+    assert!(rt; parts.judge_growth(rt, 0, &over) == Err(GrowFault::Overlaps));
+    let beside = Range::new(64, 8).expect(rt, "a range");
+    assert!(rt; parts.grow(rt, 0, beside).is_ok());
 }
 
 /// The events of the slabs of the first cache.

@@ -1,8 +1,8 @@
 //! The sums of an arena's parts, each part as it is under its own lock.
 ghost use Rattle.std.specs.Prelude.{◌<◌, length};
-ghost use Rattle.locked_parts.specs.Walks.{SumsCaches};
+ghost use Rattle.locked_parts.specs.Sums.{AddsUp, ArenaTells, SumsOf};
 
-use crate::kinds::cache_count;
+use crate::kinds::{CacheKind, cache_count};
 use crate::parts::LockedParts;
 use crate::slab_parts::slab_units;
 use deed_table::Name;
@@ -22,49 +22,56 @@ pub struct PartSums {
     pub magazine: u128,
 }
 
-/// Parts of quantum caches, by the numbers of their arenas and their own.
+/// Parts of the quantum caches of one arena, by their numbers.
 pub(crate) trait CacheUnits {
     ghost use Rattle.std.specs.Prelude.{ℕ};
 
     // so many units were told of this cache's part
-    ghost tells: { Self → ℕ → ℕ → ℕ → Self → Type 0 };
+    ghost tells: { Self → ℕ → ℕ → Type 0 };
 
     /// The units that lie in it.
-    fn units(&mut self, arena: u32, cache: u8) -> u128
-        ensures { tells self.old arena cache result self.new };
+    fn units(&self, cache: u8) -> u128
+        requires { 0 < cache }
+        ensures { tells self.now cache result };
 }
 
-/// Adds up what is told of the arena's first caches, so many, one after another; it stays at the
-/// greatest number.
-pub(crate) fn sum_caches<C: CacheUnits>(caches: &mut C, arena: u32, count: u8) -> u128
-    ensures { SumsCaches C.tells arena count caches.old result caches.new }
+/// Adds up what is told of the first caches, so many, one after another; it stays at the greatest
+/// number.
+pub(crate) fn sum_caches<C: CacheUnits>(caches: &C, count: u8) -> u128
+    ensures { AddsUp (C.tells caches.now) count result }
 {
     let mut units: u128 = 0;
     for before in 0..count {
-        let one = caches.units(arena, before + 1);
+        let one = caches.units(before + 1);
         units = units.saturating_add(one);
     }
     units
 }
 
-/// The slabs of the parts, each under its lock.
+/// The slabs of an arena with this number and quantum, each under its lock.
 #[derive(Drop)]
 struct LockedSlabs<'a, N: Name, R: Wait> {
     parts: &'a LockedParts<N>,
     rt: &'a R,
+    arena: u32,
+    quantum: u64,
+    ghost some: { 0 < quantum },
 }
 
 impl<N: Name, R: Wait> CacheUnits for LockedSlabs<'_, N, R> {
-    ghost use Rattle.std.specs.Prelude.{◌≡◌};
+    ghost use Rattle.locked_parts.specs.Sums.{SlabsTell};
 
-    // What the slabs are lies behind their lock.
-    ghost tells = { λ s _ _ _ t. t.parts.now ≡ s.parts.now };
+    ghost tells = { λ s cache units.
+        SlabsTell (record { arena = s.arena; number = cache; quantum = s.quantum }) units };
 
-    fn units(&mut self, arena: u32, cache: u8) -> u128 {
-        let (Some(kind), Some(locked)) = (
-            self.parts.kind(arena, cache),
-            self.parts.cache(arena, cache),
-        ) else {
+    #[tactic(auto, using(crate::proofs::Sums::no_slabs))]
+    fn units(&self, cache: u8) -> u128 {
+        let kind = CacheKind {
+            arena: self.arena,
+            number: cache,
+            quantum: self.quantum,
+        };
+        let Some(locked) = self.parts.cache(self.arena, cache) else {
             return 0;
         };
         let slab = locked.slab.lock(self.rt);
@@ -72,24 +79,30 @@ impl<N: Name, R: Wait> CacheUnits for LockedSlabs<'_, N, R> {
     }
 }
 
-/// The depots of the parts, each under its lock.
+/// Its depots, each under its lock.
 #[derive(Drop)]
 struct LockedRounds<'a, N: Name, R: Wait> {
     parts: &'a LockedParts<N>,
     rt: &'a R,
+    arena: u32,
+    quantum: u64,
+    ghost some: { 0 < quantum },
 }
 
 impl<N: Name, R: Wait> CacheUnits for LockedRounds<'_, N, R> {
-    ghost use Rattle.std.specs.Prelude.{◌≡◌};
+    ghost use Rattle.locked_parts.specs.Sums.{DepotTells};
 
-    // What the depots are lies behind their locks.
-    ghost tells = { λ s _ _ _ t. t.parts.now ≡ s.parts.now };
+    ghost tells = { λ s cache units.
+        DepotTells (record { arena = s.arena; number = cache; quantum = s.quantum }) units };
 
-    fn units(&mut self, arena: u32, cache: u8) -> u128 {
-        let (Some(kind), Some(locked)) = (
-            self.parts.kind(arena, cache),
-            self.parts.cache(arena, cache),
-        ) else {
+    #[tactic(auto, using(crate::proofs::Sums::no_rounds))]
+    fn units(&self, cache: u8) -> u128 {
+        let kind = CacheKind {
+            arena: self.arena,
+            number: cache,
+            quantum: self.quantum,
+        };
+        let Some(locked) = self.parts.cache(self.arena, cache) else {
             return 0;
         };
         locked.depot.lock(self.rt).units_of(&kind)
@@ -98,23 +111,47 @@ impl<N: Name, R: Wait> CacheUnits for LockedRounds<'_, N, R> {
 
 impl<N: Name> LockedParts<N> {
     /// The sums of the arena's parts: its own lock is taken first, then that of the slabs of each
-    /// of its caches, one after another, and of each depot. What is told of a part was so under its
-    /// lock, and nothing stops for it.
+    /// of its caches, one after another, and of each depot. What is told of a part was so at some
+    /// moment under its lock, so that these are sums of different moments; nothing stops for it.
+    /// Of a part that is ended nothing is told, as of an empty one. The clause says of each number
+    /// that some part of this arena or cache has it: that it is this one, at a moment of the call,
+    /// no clause can say of what lies under a lock.
     pub fn sums<R: Wait>(&self, rt: &R, arena: u32) -> PartSums
         requires { arena < length self.now.arenas }
+        ensures { SumsOf self.now.arenas arena result }
     {
+        let quantum = self.tree.quantum(arena);
         let count = cache_count(&self.tree, arena);
-        let (free, allocated) = match self.arenas.get(arena as usize) {
-            Some(locked) => locked.part.lock(rt).units_of(arena),
-            None => (0, 0),
+        let (free, allocated) = self.arena_units(rt, arena);
+        let slabs = LockedSlabs {
+            parts: self,
+            rt,
+            arena,
+            quantum,
         };
-        let slab = sum_caches(&mut LockedSlabs { parts: self, rt }, arena, count);
-        let magazine = sum_caches(&mut LockedRounds { parts: self, rt }, arena, count);
+        let slab = sum_caches(&slabs, count);
+        let rounds = LockedRounds {
+            parts: self,
+            rt,
+            arena,
+            quantum,
+        };
+        let magazine = sum_caches(&rounds, count);
         PartSums {
             free,
             allocated,
             slab,
             magazine,
+        }
+    }
+
+    /// The free and the allocated units of the arena with this number.
+    fn arena_units<R: Wait>(&self, rt: &R, arena: u32) -> (u128, u128)
+        ensures { ArenaTells arena result.0 result.1 }
+    {
+        match self.arenas.get(arena as usize) {
+            Some(locked) => locked.part.lock(rt).units_of(arena),
+            None => (0, 0),
         }
     }
 }

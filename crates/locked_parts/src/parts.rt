@@ -1,8 +1,9 @@
 //! The parts of a system, each under its lock.
-ghost use Rattle.std.specs.Prelude.{◌≡◌, ◌+◌, ◌<◌, IfSome, length, true};
+ghost use Rattle.std.specs.Prelude.{◌≡◌, ◌+◌, ◌<◌, IfErr, IfSome, OnErr, OnOk, Err, length, true};
 ghost use Rattle.arena_tree.specs.Chains.{quantum_in};
 ghost use Rattle.arena_tree.specs.Trees.{nodes_of};
 ghost use Rattle.locked_parts.specs.Kinds.{count_of_caches, caches_before, AreCachesBefore};
+ghost use Rattle.locked_parts.specs.Growing.{AnswersGrow, HasRootsMore, IsRootArena};
 ghost use Rattle.magazine_layer.specs.Magazines.{IsSize};
 
 use crate::arena_parts::ArenaPart;
@@ -10,10 +11,11 @@ use crate::depot_walks::{resize_each, tick_each};
 use crate::kind_depots::KindDepot;
 use crate::kinds::{CacheKind, cache_count};
 use crate::locked_depots::LockedDepots;
-use arena_tree::{MOST_ARENAS, Tree};
-use deed_table::{Name, SeatDeed};
+use arena_tree::{GrowFault, MOST_ARENAS, Tree};
+use deed_core::Range;
+use deed_table::{Name, Root, SeatDeed};
 use slab_layer::SlabCache;
-use std::alloc::Global;
+use std::alloc::{AllocError, Global};
 use std::marker::Model;
 use std::sync::{Mutex, Wait};
 
@@ -132,6 +134,63 @@ impl<N: Name> LockedParts<N> {
     {
         let mut depots = LockedDepots { parts: self, rt };
         resize_each(&mut depots, &self.tree, arena, size)
+    }
+
+    /// Whether the arena with this number can have a further root of this range, were there memory
+    /// for it, or the first reason why not; of an arena that is ended nothing stands against it. It
+    /// takes the arena's lock, so another thread may change that before the next call.
+    pub fn judge_growth<R: Wait>(&self, rt: &R, arena: u32, range: &Range) -> Result<(), GrowFault>
+        ensures { AnswersGrow self.now.arenas arena result }
+    {
+        match self.root_arena(arena)? {
+            Some(locked) => locked.part.lock(rt).judge_growth(arena, range),
+            None => Ok(()),
+        }
+    }
+
+    /// Opens a further root of this range for the arena with this number, and adds its deed, under
+    /// the arena's lock and no other: `Overlaps` where the range has a unit in common with a span
+    /// of the arena, `NotAligned` where it isn't in whole quanta, `TooMany` where the arena has no
+    /// root number left, `NoMemory` else, in this order. A root that is opened is always added. Its
+    /// number is the least of the arena's numbers that wasn't used.
+    pub fn grow<R: Wait>(&self, rt: &R, arena: u32, range: Range) -> Result<(), GrowFault>
+        ensures { AnswersGrow self.now.arenas arena result }
+    {
+        match self.root_arena(arena)? {
+            Some(locked) => locked.part.lock(rt).grow(arena, range),
+            None => Err(GrowFault::NoMemory),
+        }
+    }
+
+    /// The arena with this number, which has to be a root; None where it is ended.
+    fn root_arena(&self, arena: u32) -> Result<Option<&LockedArena<N>>, GrowFault>
+        ensures root { OnOk result (IsRootArena self.now.arenas arena) }
+        ensures refused { IfErr result (λ f. AnswersGrow self.now.arenas arena (Err f)) }
+    {
+        if arena as usize >= self.tree.len() {
+            return Err(GrowFault::NoArena);
+        }
+        if self.tree.arena(arena).source.is_some() {
+            return Err(GrowFault::NotRoot);
+        }
+        Ok(self.arenas.get(arena as usize))
+    }
+
+    /// Moves the further roots of the arena with this number behind others, in order of opening.
+    /// Where there is room for them, it takes no memory; out of memory, they stay.
+    pub fn hand_over<R: Wait>(
+        &self,
+        rt: &R,
+        arena: u32,
+        to: &mut Vec<Root<N>>,
+    ) -> Result<(), AllocError>
+        ensures more { HasRootsMore arena to.old.items to.new.items }
+        ensures unchanged { OnErr result (to.new.items ≡ to.old.items) }
+    {
+        let Some(locked) = self.arenas.get(arena as usize) else {
+            return Ok(());
+        };
+        locked.part.lock(rt).hand_over(arena, to)
     }
 
     /// Takes the lowest owned span that is wholly free out of the arena with this number.

@@ -1,6 +1,6 @@
 //! The events of a slab cache under its lock. Each looks whether it is the cache that is meant;
 //! what is put back tells that by itself.
-ghost use Rattle.std.specs.Prelude.{◌≡◌, ◌↔◌, All, IsTrue, IfSome, IfOk, IfErr, Ok, Err, Some};
+ghost use Rattle.std.specs.Prelude.{◌≡◌, ◌↔◌, ◌<◌, All, IsTrue, IfSome, IfOk, IfErr, Ok, Err, Some};
 ghost use Rattle.std.specs.Prelude.{OnErr};
 ghost use Rattle.std.specs.Prelude.{IfNone};
 ghost use Rattle.slab_layer.specs.Calls.{TakeOf, AddOf, ReapOf};
@@ -10,6 +10,7 @@ ghost use Rattle.deed_core.specs.Covering.{units_held};
 ghost use Rattle.arena_tree.specs.Events.{segment_of_slab_add};
 ghost use Rattle.locked_parts.specs.Answers.{IsSpanOfKind};
 ghost use Rattle.locked_parts.specs.Kinds.{IsOfKind, AreSlabsOf};
+ghost use Rattle.locked_parts.specs.Sums.{SlabsTell};
 
 use crate::kinds::CacheKind;
 use arena_tree::GivenFault;
@@ -72,12 +73,17 @@ pub(crate) fn reap_slab<D: Deed>(slab: &mut SlabCache<D>, kind: &CacheKind) -> O
 
 /// The units that lie in the slabs; none where they are of another cache.
 pub(crate) fn slab_units<D: Deed>(slab: &SlabCache<D>, kind: &CacheKind) -> u128
+    requires number { 0 < kind.now.number }
+    requires quantum { 0 < kind.now.quantum }
+    ensures tells { SlabsTell kind.now result }
     ensures told { AreSlabsOf kind.now slab.now → result ≡ units_held (deeds_of slab.now) }
     ensures other { ¬ AreSlabsOf kind.now slab.now → result ≡ 0 }
 {
     if !is_kind(slab, kind) {
         return 0;
     }
+    // For its clause: what is always so of slabs.
+    let _ = slab.arena();
     let report = slab.report();
     u128::from(report.idle) + u128::from(report.gap) + u128::from(report.tail)
 }

@@ -23,3 +23,5 @@ mod Lasting
 mod Owning
 mod Numbering
 pub mod LawProofs
+mod Growths
+mod Numbered

@@ -1,14 +1,14 @@
 -- What a stock is set up as by a setup: the arenas of its tree, and the spans that its roots own.
-use Rattle.std.specs.Prelude.{◌≡◌, ℕ, ◌+◌, ◌/◌, ◌==◌, if◌then◌else◌, List, [], ◌∷◌, map}
-use Rattle.std.specs.Prelude.{replicate}
-use Rattle.std.specs.Prelude.{slice_get, Some}
+use Rattle.std.specs.Prelude.{◌≡◌, ℕ, ◌+◌, ◌*◌, ◌/◌, ◌==◌, if◌then◌else◌, List, [], ◌∷◌, ◌++◌, map}
+use Rattle.std.specs.Prelude.{replicate, slice_get, Some}
 use Rattle.std.specs.FinMap as finmap
 use Rattle.deed_core.specs.Holding.{Holding}
 use Rattle.tag_arena.specs.declared.policies.Policy.{Policy}
 use Rattle.tag_arena.specs.ArenaState.{ArenaState, empty_arena}
+use Rattle.arena_tree.specs.declared.limits.TheConstants.{MOST_SPANS}
 use Rattle.arena_tree.specs.declared.trees.TreeArena.{TreeArena}
 use Rattle.arena_tree.specs.declared.setups.OwnedSpan.{OwnedSpan}
-use Rattle.arena_tree.specs.Settings.{SetupState}
+use Rattle.arena_tree.specs.Settings.{SetupState, span_count}
 use Rattle.stock.specs.Spaces.{SpaceState, QuantumCacheState, SpacePlan, plans_of}
 use Rattle.stock.specs.Steps.{new_cache}
 
@@ -40,11 +40,22 @@ pub record IsNewSpace (rounds : ℕ) (s : SpaceState) : Type 0 where
 abbrev pub AreDeedsOf : List OwnedSpan → List Holding → Type 0
 AreDeedsOf spans deeds = map (λ h. h.range) deeds ≡ map (λ o. o.range) spans
 
--- a deed for each span, each of a root of its own, the numbers from this one on
-abbrev pub numbered_deeds : ℕ → List OwnedSpan → List Holding
-numbered_deeds root [] = []
-numbered_deeds root (o ∷ spans) =
-    record { root = root; range = o.range } ∷ numbered_deeds (root + 1) spans
+-- the number of the root at this place among an arena's own: each arena has as many numbers as it
+-- may own spans
+abbrev pub root_number : ℕ → ℕ → ℕ
+root_number arena place = MOST_SPANS * arena + place
+
+-- a deed for each span, each of a root of its own, whose place is how many spans of its arena stand
+-- before it: these do before the first
+abbrev pub deeds_after : List OwnedSpan → List OwnedSpan → List Holding
+deeds_after before [] = []
+deeds_after before (o ∷ spans) =
+    record { root = root_number o.arena (span_count o.arena before); range = o.range }
+    ∷ deeds_after (before ++ o ∷ []) spans
+
+-- the same for all spans of a setup
+abbrev pub numbered_deeds : List OwnedSpan → List Holding
+numbered_deeds spans = deeds_after [] spans
 
 -- those of the deeds whose spans are this arena's
 abbrev pub deeds_owned : ℕ → List OwnedSpan → List Holding → List Holding
@@ -64,6 +75,7 @@ unused_arena id quantum policy spans = record {
   free = spans;
   allocated = finmap.empty;
   rover = 0;
+  looks = 0;
 }
 
 -- the arena of this number owns these spans, all of them free, and its caches have nothing

@@ -5,6 +5,7 @@ ghost use Rattle.stock.specs.Laws.{AlwaysSlab, AlwaysOnGrid, OutIsApart, OutWeig
 ghost use Rattle.stock.specs.Laws.{SourceStandsBefore, PlansStay, CachesStay};
 ghost use Rattle.stock.specs.Laws.{ArenaWeighs, AllocatedOfArena};
 ghost use Rattle.stock.specs.Endings.{EndsOnceReaped, EndsWithNothingOut};
+ghost use Rattle.stock.specs.Growing.{PlainSetupNumbers, GrownNumbers};
 ghost use Rattle.stock.specs.Laws.{PopFrames, PushFrames, ChangeFrames};
 
 /// Each unit of an arena is in one home: free, in a slab, in a magazine, exported, leased or in a
@@ -57,4 +58,11 @@ pub fn chain_laws()
 pub fn weight_laws()
     ensures arena { ArenaWeighs }
     ensures allocated { AllocatedOfArena }
+{}
+
+/// Over plain deeds a root's number is its arena's times as many as an arena may own, plus its
+/// place among the arena's: so at the setup, and after each grow. No two roots have one number.
+pub fn number_laws()
+    ensures setup { PlainSetupNumbers }
+    ensures grown { GrownNumbers }
 {}

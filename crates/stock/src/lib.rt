@@ -14,13 +14,15 @@
 //!
 //! Begin with `Stock::of` in `making`, which makes a `Stock` of a setup (`plain_stock` does over
 //! plain deeds), and with its calls in `stocks`; `specs/Setups.antt` says what a stock is set up
-//! as, `specs/Steps.antt` has the steps, and `laws` what follows from the accounts. A stock is made
-//! so and grows by nothing else.
+//! as, `specs/Steps.antt` has the steps, and `laws` what follows from the accounts. Arenas and
+//! caches come by nothing else, and further spans by `Stock::grow`, or over plain deeds by
+//! `grow_by`.
 #![tactic(auto)]
 
 mod arena_steps;
 mod depot_steps;
 mod endings;
+mod growing;
 mod laws;
 mod making;
 mod own_caches;
@@ -34,7 +36,8 @@ mod stocks;
 mod sums;
 
 pub use laws::{
-    apart_laws, chain_laws, end_laws, frame_laws, never_refused_laws, one_home_laws, weight_laws,
+    apart_laws, chain_laws, end_laws, frame_laws, never_refused_laws, number_laws, one_home_laws,
+    weight_laws,
 };
 pub use own_caches::OwnCache;
 pub use plain_stocks::{close_plain_stock, plain_stock};

@@ -6,13 +6,14 @@ ghost use Rattle.stock.specs.Endings.{IsReaped, IsTakenOut, IsTakenOutAt, Others
 ghost use Rattle.stock.specs.Setups.{IsSetUpFrom, numbered_deeds};
 ghost use Rattle.stock.specs.Spaces.{plans_of};
 
+use crate::growing::number_of;
 use crate::stocks::Stock;
-use arena_tree::Setup;
+use arena_tree::{MOST_ARENAS, Setup};
 use deed_core::PlainDeed;
 use std::alloc::{AllocError, Global};
 
-/// The stock of a setup, of which each owned span is a root of its own: its index among them. Its
-/// magazines take `rounds` rounds.
+/// The stock of a setup, of which each owned span is a root of its own, numbered by its arena and
+/// its place among the arena's spans. Its magazines take `rounds` rounds.
 pub fn plain_stock(
     alloc: Global,
     setup: &Setup,
@@ -20,7 +21,7 @@ pub fn plain_stock(
 ) -> Result<Stock<PlainDeed>, AllocError>
     requires rounds { IsSize rounds }
     ensures set_up { IfOk result
-        (IsSetUpFrom setup.now (numbered_deeds 0 setup.now.spans) rounds) }
+        (IsSetUpFrom setup.now (numbered_deeds setup.now.spans) rounds) }
     ensures nothing_out { IfOk result (λ spaces. Accounts spaces []) }
 {
     let deeds = plain_deeds(alloc, setup)?;
@@ -33,16 +34,20 @@ pub fn plain_stock(
     }
 }
 
-/// A plain deed of each span of the setup, numbered in order.
+/// A plain deed of each span of the setup, each of a root of its own.
 fn plain_deeds(alloc: Global, setup: &Setup) -> Result<Vec<PlainDeed>, AllocError>
-    ensures { IfOk result (λ deeds. deeds.items ≡ numbered_deeds 0 setup.now.spans) }
+    ensures { IfOk result (λ deeds. deeds.items ≡ numbered_deeds setup.now.spans) }
 {
     // For its clause: what is so of every tree.
     let _ = setup.tree();
     let spans = setup.spans();
     let mut deeds = Vec::with_capacity(alloc, spans.len())?;
-    for index in 0..spans.len() {
-        deeds.push_reserved(PlainDeed::new(index as u32, spans[index].range));
+    let mut owned = [0; MOST_ARENAS];
+    for span in spans {
+        let arena = span.arena as usize;
+        let place: usize = owned[arena];
+        deeds.push_reserved(PlainDeed::new(number_of(arena, place), span.range));
+        owned[arena] = place + 1;
     }
     Ok(deeds)
 }

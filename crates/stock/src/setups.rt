@@ -1,5 +1,5 @@
-//! How a stock grows: here and nowhere else, and nothing is out of it at the end. Of a setup it is
-//! made by `Stock::of`.
+//! How arenas, their caches and the spans of a setup come into a stock: here and nowhere else, and
+//! nothing is out of it at the end. Of a setup it is made by `Stock::of`.
 ghost use Rattle.std.specs.Prelude.{◌≡◌, ◌+◌, ◌^◌, ◌<◌, [], ◌∷◌, ◌++◌, length, slice_get};
 ghost use Rattle.std.specs.Prelude.{Some, None, All, IfOk, OnOk, OnErr};
 ghost use Rattle.std.specs.Int.{IsPowerOfTwo};

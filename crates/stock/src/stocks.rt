@@ -1,4 +1,4 @@
-//! The stock. What grows one is called by `setups` alone.
+//! The stock. What makes one is called by `setups` alone; `grow` gives one a further span.
 ghost use Rattle.std.specs.Prelude.{◌≡◌, ◌+◌, ◌^◌, ◌<◌, [], ◌∷◌, ◌++◌, length, slice_get, Some};
 ghost use Rattle.std.specs.Prelude.{None};
 ghost use Rattle.std.specs.Prelude.{OnOk, OnErr, IfSome};
@@ -6,14 +6,16 @@ ghost use Rattle.deed_core.specs.Weights.{Loses};
 ghost use Rattle.std.specs.Int.{IsPowerOfTwo};
 ghost use Rattle.magazine_layer.specs.Magazines.{IsSize};
 ghost use Rattle.std.specs.Option.{option_map};
+ghost use Rattle.tag_arena.specs.Calls.{AdmitsRange};
 ghost use Rattle.tag_arena.specs.Outcomes.{AddSpanOf, RemoveOf};
 ghost use Rattle.stock.specs.Spaces.{SpaceState, plans_of};
 ghost use Rattle.stock.specs.Stocks.{IsStock};
 ghost use Rattle.stock.specs.Accounts.{Accounts, Frames};
-ghost use Rattle.stock.specs.Steps.{OnArena, CanImportFrom, HasRoomForCache, GainsCache, new_space};
+ghost use Rattle.stock.specs.Steps.{OnArena, CanImportFrom, HasRoomForCache, GainsCache, GrowOf};
+ghost use Rattle.stock.specs.Steps.{new_space};
 
 use crate::spaces::{QuantumCache, Space};
-use deed_core::Deed;
+use deed_core::{Deed, Opens, Range};
 use magazine_layer::Depot;
 use slab_layer::SlabCache;
 use std::alloc::{AllocError, Global};
@@ -106,6 +108,30 @@ impl<D: Deed> Stock<D> {
     {
         let space = &mut self.spaces[arena];
         space.arena.add_span(deed)
+    }
+
+    /// Opens the range as a root for an arena that doesn't import, and adds it as an owned span.
+    /// All memory is asked for before the range is opened, so an opened root is always added. The
+    /// arena grows by all units of the range, each of them free.
+    pub fn grow<O: Opens<D>>(
+        &mut self,
+        arena: usize,
+        range: Range,
+        opener: &mut O,
+    ) -> Result<(), AllocError>
+        requires within { arena < length self.old }
+        requires root { (s : SpaceState) → slice_get self.old arena ≡ Some s → s.source ≡ None }
+        requires admitted { (s : SpaceState) → slice_get self.old arena ≡ Some s
+            → AdmitsRange s.arena range }
+        requires left { O.can_open opener.old }
+        ensures grown { OnArena arena
+            (λ a b. GrowOf O.opens a opener.old range result b opener.new) self.old self.new }
+        ensures unchanged { OnErr result (self.new ≡ self.old) }
+        ensures frame { Frames self.old [] self.new [] }
+        ensures fixed { plans_of self.new ≡ plans_of self.old }
+    {
+        let space = &mut self.spaces[arena];
+        space.arena.grow(range, opener)
     }
 
     /// Takes the lowest owned span of an arena that is wholly free out. It takes no memory.

@@ -5,4 +5,4 @@ use Rattle.stock.proofs.Numbering.{are_deeds, map_same}
 use Rattle.stock.proofs.plain_stocks.plain_stock.Goals as goal
 
 pub of-requires-clause-deeds : goal.of-requires-clause-deeds
-of-requires-clause-deeds c = subst (λ (hs : List Holding). AreDeedsOf c.args.setup.now.spans hs) (sym (map_same c.in_ok-deeds.deeds.items ∙ c.in_ok-deeds.ensures)) (are_deeds 0 c.args.setup.now.spans)
+of-requires-clause-deeds c = subst (λ (hs : List Holding). AreDeedsOf c.args.setup.now.spans hs) (sym (map_same c.in_ok-deeds.deeds.items ∙ c.in_ok-deeds.ensures)) (are_deeds c.args.setup.now.spans)

@@ -1,0 +1,30 @@
+-- What a grow is answered, and which roots are handed over.
+use Rattle.std.proofs.Common.{◌≡◌, ℕ, ◌+◌, ◌*◌, ◌/◌, ◌<◌, ◌≤◌, sym, ◌∙◌, List, [], ◌++◌, length, Result, Ok, Err, OnOk, OnErr, arith}
+use Rattle.std.proofs.lemmas.List.{append-nil}
+use Rattle.std.proofs.lemmas.List.Elements.{All-nil}
+use Rattle.deed_core.specs.Holding.{Holding}
+use Rattle.deed_table.specs.Opened.{OpenedState, RunFrom}
+use Rattle.arena_tree.specs.declared.limits.TheConstants.{MOST_SPANS}
+use Rattle.arena_tree.specs.declared.part_faults.GrowFault.{GrowFault}
+use Rattle.arena_tree.specs.declared.part_faults.GrowFault.TheVariants.{NoArena, NotRoot, Overlaps, NotAligned, TooMany, NoMemory}
+use Rattle.arena_tree.specs.declared.trees.TreeArena.{TreeArena}
+use Rattle.locked_parts.specs.Growing.{IsRootArena, AnswersGrow, IsOfArena, HasRootsMore}
+
+pub root_answers : (arenas : List TreeArena) (id : ℕ) (r : Result (Unit {0}) GrowFault) → IsRootArena arenas id → IsOfArena r → AnswersGrow arenas id r
+root_answers arenas id (Ok x) root of = root
+root_answers arenas id (Err NoArena) root of = absurd of
+root_answers arenas id (Err NotRoot) root of = absurd of
+root_answers arenas id (Err Overlaps) root of = root
+root_answers arenas id (Err NotAligned) root of = root
+root_answers arenas id (Err TooMany) root of = root
+root_answers arenas id (Err NoMemory) root of = root
+
+-- which arena a root is of
+of_owner : (id base before left k root : ℕ) → MOST_SPANS * id ≤ base → base + before + left ≡ MOST_SPANS * id + MOST_SPANS → k < before → root ≡ base + k → root / MOST_SPANS ≡ id
+of_owner id base before left k root from all within is = omega (arith, from, all, within, is)
+
+pub handed_over : {E : Type 0} (B : Type 0) (id owner : ℕ) (o : OpenedState) (r : Result (Unit {0}) E) (old new : List Holding) → owner ≡ id → MOST_SPANS * owner ≤ o.base → o.base + length o.roots + o.left ≡ MOST_SPANS * owner + MOST_SPANS
+    → RunFrom o.base o.roots → OnOk r (new ≡ old ++ o.roots) → OnErr r ((new ≡ old) × B) → HasRootsMore id old new
+handed_over B id owner o (Ok x) old new is from all run moved same =
+    (o.roots, (λ k d within. of_owner owner o.base (length o.roots) o.left k _ from all within (run k d within) ∙ is), moved)
+handed_over B id owner o (Err e) old new is from all run moved same = ([], All-nil (λ (h : Holding). h.root / MOST_SPANS ≡ id), same.0 ∙ sym (append-nil old))
