@@ -2,6 +2,7 @@
 ghost use Rattle.std.specs.Prelude.{◌≡◌, ◌≢◌, ◌+◌, ◌*◌, ◌<◌, ◌≤◌, ◌==◌, ◌↔◌, List, [], ◌∷◌};
 ghost use Rattle.std.specs.Prelude.{◌++◌, length, All, OnOk, OnErr, IfErr, IfSome, IfNone, IsTrue};
 ghost use Rattle.std.specs.Prelude.{Some, None, slice_get, position, sum_by, nat_lt, option_map};
+ghost use Rattle.std.specs.Prelude.{vec_len, vec_capacity};
 ghost use Rattle.std.specs.List.{find};
 ghost use Rattle.lease_terms.specs.declared.values.TheConstants.{LAST_CLIENT};
 ghost use Rattle.lease_book.specs.Receipts.{IsEarned};
@@ -13,7 +14,7 @@ ghost use Rattle.lease_book.specs.declared.books.TheConstants.{MOST_LEASES};
 
 use crate::leases::{Held, Leases, Which};
 use crate::receipts::{Kept, KeptReply, Terms};
-use crate::reports::ClientReport;
+use crate::reports::{ClientReport, LeaseReport};
 use crate::standings::Standing;
 use crate::totals::Totals;
 use deed_core::{Deed, Segment};
@@ -50,7 +51,7 @@ impl<D: Deed> Accounts<D> {
     ghost use Rattle.lease_book.specs.Shelf.{account_with, update_at, standing_of, with_standing};
     ghost use Rattle.lease_book.specs.Shelf.{with_leases, with_settled};
     ghost use Rattle.lease_book.specs.BookState.{segments_of_accounts, units_of_arena};
-    ghost use Rattle.lease_book.specs.Reports.{report_of};
+    ghost use Rattle.lease_book.specs.Reports.{report_of, lease_reports};
 
     /// No accounts.
     pub(crate) fn new(alloc: Global) -> Accounts<D>
@@ -257,6 +258,18 @@ impl<D: Deed> Accounts<D> {
             last: standing.last(),
             leases: self.leases[index].len(),
         })
+    }
+
+    /// Appends what is told of each lease of the client at this index.
+    pub(crate) fn tell_leases(&self, index: usize, out: &mut Vec<LeaseReport>)
+        requires { vec_len out.old + MOST_LEASES ≤ vec_capacity out.old }
+        ensures leases { out.new.items
+            ≡ out.old.items ++ lease_reports (slice_get self.now index) }
+        ensures capacity { vec_capacity out.new ≡ vec_capacity out.old }
+    {
+        if index < self.len() {
+            self.leases(index).tell(out);
+        }
     }
 
     /// The units of the arena that are leased.

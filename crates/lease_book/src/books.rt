@@ -1,7 +1,7 @@
 //! The book of leases.
 ghost use Rattle.std.specs.Prelude.{◌≡◌, ◌==◌, ◌<◌, ◌≤◌, ◌↔◌, List, [], length, All, IsOk, IsNone};
 ghost use Rattle.std.specs.Prelude.{OnOk, OnErr, IfOk, IfErr, IfSome, IfNone, IsTrue, Some, None};
-ghost use Rattle.std.specs.Prelude.{slice_get, sum_by};
+ghost use Rattle.std.specs.Prelude.{◌+◌, ◌++◌, slice_get, sum_by, vec_len, vec_capacity};
 ghost use Rattle.std.specs.List.{find, list_any};
 ghost use Rattle.std.specs.Option.{option_map};
 ghost use Rattle.deed_core.specs.Request.{Fits};
@@ -13,14 +13,14 @@ ghost use Rattle.lease_book.specs.Account.{is_lease, is_older};
 ghost use Rattle.lease_book.specs.History.{account, clients_of};
 ghost use Rattle.lease_book.specs.BookState.{BookState, IsHistory, HasHistory, Enters, account_in};
 ghost use Rattle.lease_book.specs.BookState.{leased_segments, leased_in, units_of_arena};
-ghost use Rattle.lease_book.specs.Reports.{report_of};
+ghost use Rattle.lease_book.specs.Reports.{report_of, lease_reports};
 ghost use Rattle.lease_book.specs.declared.books.TheConstants.{MOST_LEASES};
 
 use crate::accounts::Accounts;
 use crate::answers::{Answer, HelloFault, Look, NotLeased};
 use crate::leases::{Held, Which};
 use crate::receipts::{Kept, KeptReply, Receipt, Terms};
-use crate::reports::ClientReport;
+use crate::reports::{ClientReport, LeaseReport};
 use crate::standings::Standing;
 use deed_core::{Deed, Request, Segment};
 use lease_terms::{ClientId, Ordinal, Protocol, Quantity, Refusal, RequestId};
@@ -329,6 +329,22 @@ impl<D: Deed> Book<D> {
             (slice_get (clients_of entries) index) }
     {
         self.accounts.report(index)
+    }
+
+    /// Appends each lease of the client that stands at an index in order of first hello, in order
+    /// of grant, those of older incarnations among them; none where no client stands there. It looks
+    /// at that client's leases alone, at most `MOST_LEASES`, and takes no memory.
+    pub fn leases_at(&self, index: usize, out: &mut Vec<LeaseReport>)
+        requires room { vec_len out.old + MOST_LEASES ≤ vec_capacity out.old }
+        ensures leases { out.new.items
+            ≡ out.old.items ++ lease_reports (slice_get self.now.accounts index) }
+        ensures capacity { vec_capacity out.new ≡ vec_capacity out.old }
+        ensures history { (entries : List Entry)
+            → IsHistory entries self.now
+            → out.new.items ≡ out.old.items ++ lease_reports
+            (option_map (account entries) (slice_get (clients_of entries) index)) }
+    {
+        self.accounts.tell_leases(index, out);
     }
 
     /// Where the account of the client stands, and what is kept there, the leases apart.

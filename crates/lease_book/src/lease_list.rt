@@ -1,14 +1,16 @@
 //! Some leases of a client in a list, in order of grant. A search reads through it, so it is for
 //! few.
 ghost use Rattle.std.specs.Prelude.{◌≡◌, ◌+◌, ◌*◌, ◌<◌, ◌≤◌, [], ◌∷◌, ◌++◌, length, OnOk, OnErr};
-ghost use Rattle.std.specs.Prelude.{IfOk, IfErr, IfNone, true, position};
+ghost use Rattle.std.specs.Prelude.{IfOk, IfErr, IfNone, true, position, map, vec_len, vec_capacity};
 ghost use Rattle.std.specs.List.{find, list_any};
 ghost use Rattle.lease_book.specs.Account.{is_lease, is_older, without_first};
 ghost use Rattle.lease_book.specs.Places.{is_asked, leases_in};
+ghost use Rattle.lease_book.specs.Reports.{lease_report};
 ghost use Rattle.lease_book.specs.declared.places.TheConstants.{CHAINS_EACH};
 
 use crate::leases::{Held, Which};
 use crate::places::Places;
+use crate::reports::LeaseReport;
 use deed_core::{Deed, Segment};
 use lease_terms::{Ordinal, Quantity, RequestId};
 use std::alloc::Global;
@@ -140,6 +142,17 @@ impl<D: Deed> LeaseList<D> {
         ensures { result ≡ list_any (is_older incarnation) self.now }
     {
         first_older(&self.held, incarnation).is_some()
+    }
+
+    /// Appends what is told of each.
+    pub(crate) fn tell(&self, out: &mut Vec<LeaseReport>)
+        requires { vec_len out.old + length self.now ≤ vec_capacity out.old }
+        ensures leases { out.new.items ≡ out.old.items ++ map lease_report self.now }
+        ensures capacity { vec_capacity out.new ≡ vec_capacity out.old }
+    {
+        for boxed in &self.held {
+            out.push_reserved(boxed.held.report());
+        }
     }
 
     /// Moves all leases to places that have room for them.

@@ -1,15 +1,17 @@
 //! The leases of one client, in order of grant.
 ghost use Rattle.std.specs.Prelude.{◌≡◌, ◌<◌, ◌≤◌, [], ◌∷◌, ◌++◌, length, OnOk, OnErr};
-ghost use Rattle.std.specs.Prelude.{IfErr, IfNone, All};
+ghost use Rattle.std.specs.Prelude.{IfErr, IfNone, All, ◌+◌, map, vec_len, vec_capacity};
 ghost use Rattle.std.specs.List.{find, list_any};
 ghost use Rattle.deed_core.specs.Extent.{IsRange};
 ghost use Rattle.lease_book.specs.Account.{Lease, is_lease, is_older, lease_of};
 ghost use Rattle.lease_book.specs.Account.{granted_request, without_first};
 ghost use Rattle.lease_book.specs.Places.{is_asked, leases_in};
+ghost use Rattle.lease_book.specs.Reports.{lease_report};
 ghost use Rattle.lease_book.specs.declared.books.TheConstants.{MOST_LEASES};
 
 use crate::lease_list::LeaseList;
 use crate::places::Places;
+use crate::reports::LeaseReport;
 use deed_core::{Deed, Segment};
 use lease_terms::{ClientId, Ordinal, Quantity, RequestId};
 use std::alloc::Global;
@@ -96,6 +98,20 @@ impl<D: Deed> Held<D> {
             number,
         };
         (id, segment)
+    }
+
+    /// What is told of it.
+    pub(crate) fn report(&self) -> LeaseReport
+        ensures { result ≡ lease_report self.now }
+    {
+        let range = self.segment.range();
+        LeaseReport {
+            incarnation: self.incarnation,
+            number: self.number,
+            arena: self.segment.arena(),
+            base: range.base(),
+            units: range.len(),
+        }
     }
 
     /// Its arena, and how many units of it are leased.
@@ -190,6 +206,16 @@ impl<D: Deed> Leases<D> {
         let held = take_out(&mut self.few, &mut self.places, self.count, &which)?;
         self.count -= 1;
         Some(held)
+    }
+
+    /// Appends what is told of each.
+    pub(crate) fn tell(&self, out: &mut Vec<LeaseReport>)
+        requires { vec_len out.old + length self.now ≤ vec_capacity out.old }
+        ensures leases { out.new.items ≡ out.old.items ++ map lease_report self.now }
+        ensures capacity { vec_capacity out.new ≡ vec_capacity out.old }
+    {
+        self.few.tell(out);
+        self.places.tell(out);
     }
 
     /// Whether there is one of an incarnation before this one.

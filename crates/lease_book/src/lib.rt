@@ -51,4 +51,4 @@ pub use laws::{
     outcome_laws,
 };
 pub use receipts::{KeptReply, Receipt, Terms};
-pub use reports::ClientReport;
+pub use reports::{ClientReport, LeaseReport};

@@ -5,16 +5,18 @@
 //! own choice).
 ghost use Rattle.std.specs.Prelude.{◌≡◌, ◌+◌, ◌*◌, ◌/◌, ◌<◌, ◌≤◌, [], ◌∷◌, ◌++◌, length};
 ghost use Rattle.std.specs.Prelude.{Some, None, IfOk, OnOk, OnErr, IfNone, position};
-ghost use Rattle.std.specs.Prelude.{is_some, nat_le};
+ghost use Rattle.std.specs.Prelude.{is_some, nat_le, map, vec_len, vec_capacity};
 ghost use Rattle.std.specs.List.{find, list_any};
 ghost use Rattle.lease_book.specs.Account.{Lease, is_lease, is_older, without_first};
 ghost use Rattle.lease_book.specs.Places.{leases_in, is_asked, holds, chain_of, EmptyBefore};
+ghost use Rattle.lease_book.specs.Reports.{lease_report};
 ghost use Rattle.lease_book.specs.declared.books.TheConstants.{MOST_LEASES};
 ghost use Rattle.lease_book.specs.declared.places.TheConstants.{CHAINS_EACH, MOST_PLACES};
 
 use crate::books::MOST_LEASES;
 use crate::lease_list::LeaseList;
 use crate::leases::{Held, Which};
+use crate::reports::LeaseReport;
 use deed_core::Deed;
 use lease_terms::{Ordinal, Quantity, RequestId};
 use std::alloc::{AllocError, Global};
@@ -278,6 +280,20 @@ impl<D: Deed> Places<D> {
             };
         }
         found
+    }
+
+    /// Appends what is told of each lease.
+    pub(crate) fn tell(&self, out: &mut Vec<LeaseReport>)
+        requires { vec_len out.old + length (leases_in self.now.places) ≤ vec_capacity out.old }
+        ensures leases { out.new.items
+            ≡ out.old.items ++ map lease_report (leases_in self.now.places) }
+        ensures capacity { vec_capacity out.new ≡ vec_capacity out.old }
+    {
+        for place in &self.places {
+            if let Some(held) = &place.held {
+                out.push_reserved(held.report());
+            }
+        }
     }
 
     /// Whether a lease of an incarnation before this one stands there.

@@ -10,6 +10,7 @@ pub mod Leasing
 pub mod Taking
 pub mod Requesting
 pub mod Greeting
+pub mod Growing
 pub mod Kept
 pub mod Stopping
 pub mod Refusing

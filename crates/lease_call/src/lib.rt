@@ -5,7 +5,8 @@
 //! event, with its answer. `request` (requesting) answers a request, by `release` (releasing) or
 //! `lease` (leasing), and `hello` (greeting) a hello, over any book and any parts; `place`
 //! (placing) takes a segment back. What a line comes to stands in `outcomes`, why a call ended
-//! without that in `call_faults`.
+//! without that in `call_faults`. What an operator's line that grows a root asks for, and what it is
+//! told, stands in `growing`.
 //!
 //! specs/Calls.antt has the book's calls with the type of their answers, specs/CallPlans.antt what
 //! a list of steps over both is, BookEvents.antt what each call does to a book, and Placing.antt,
@@ -20,6 +21,7 @@
 mod books;
 mod call_faults;
 mod greeting;
+mod growing;
 mod laws;
 mod leasing;
 mod outcomes;
@@ -30,6 +32,7 @@ mod requesting;
 pub use books::Books;
 pub use call_faults::{CallFault, NotGreeted, NotReleased, NotSettled};
 pub use greeting::hello;
+pub use growing::{Growth, grow_outcome, growth_asked};
 pub use laws::{hand_laws, kept_laws, lock_laws, no_fit_laws, stop_laws};
 pub use outcomes::{Greeting, Outcome};
 pub use placing::place;

@@ -11,7 +11,7 @@ use Rattle.lease_proto.specs.declared.lines.Op.TheVariants.{Lease, Release}
 use Rattle.lease_proto.specs.declared.operators.MagazineSize.{MagazineSize}
 use Rattle.lease_proto.specs.declared.operators.MagazineSize.TheVariants.{Three, Seven, Fifteen, ThirtyOne}
 use Rattle.lease_proto.specs.declared.operators.OperatorLine.{OperatorLine}
-use Rattle.lease_proto.specs.declared.operators.OperatorLine.TheVariants.{Cpu, Offline, Tick, Resize, Reap, Audit, Clients}
+use Rattle.lease_proto.specs.declared.operators.OperatorLine.TheVariants.{Cpu, Offline, Tick, Resize, Grow, Reap, Audit, Clients}
 use Rattle.lease_proto.specs.declared.operators.ServedLine.{ServedLine}
 use Rattle.lease_proto.specs.declared.operators.ServedLine.TheVariants.{Client, Operator}
 use Rattle.lease_proto.specs.Words.{number_in, is_sentence}
@@ -19,10 +19,10 @@ use Rattle.lease_proto.specs.Cpus.{IsCpu, cpu_in}
 use Rattle.lease_proto.specs.Values.{◌>>=◌, words_of}
 use Rattle.lease_proto.specs.Grammar.{end_at, line_of, line_in, line_of_first}
 use Rattle.lease_proto.specs.Texts.{first_word, sentence}
-use Rattle.lease_proto.specs.Operators.{cpu_line_in, size_in, size_word, resize_in, alone_in, operator_in, is_operator_word, operator_word, operator_words, operator_text, IsOperator, served_of, served_in, ClientsAreServed, OperatorsAreServed}
+use Rattle.lease_proto.specs.Operators.{cpu_line_in, size_in, size_word, resize_in, grow_in, alone_in, operator_in, is_operator_word, operator_word, operator_words, operator_text, IsOperator, served_of, served_in, ClientsAreServed, OperatorsAreServed}
 use Rattle.lease_proto.proofs.WordLemmas.{numbers}
-use Rattle.lease_proto.proofs.ReadLemmas.{step, told, named, number_within_says, word_step, end_step, name_step, words_says, join_with_byte-sentence}
-use Rattle.lease_proto.proofs.GrammarLemmas.{decimal_word, decimal_short, name_short, parts_of-sentence}
+use Rattle.lease_proto.proofs.ReadLemmas.{step, told, named, number_within_says, word_step, end_step, name_step, quantity_step, words_says, join_with_byte-sentence}
+use Rattle.lease_proto.proofs.GrammarLemmas.{quantity_again, decimal_word, decimal_short, name_short, parts_of-sentence}
 use Rattle.lease_proto.proofs.LineLemmas.{words_say, line_words}
 
 -- an operator's word is no client's
@@ -98,6 +98,20 @@ resize_says words o e =
     let read_is : Resize (record { arena = arena; size = m }) ≡ o = cc in
     subst (Says (codes "resize") words) read_is (arena_in, refl, cc)))))
 
+grow_says : (words : List (List ℕ)) (o : OperatorLine) → (grow_in words >>= λ g. Ok (Grow g)) ≡ Ok o → Says (codes "grow") words o
+unfolding grow_in
+grow_says words o e =
+    let (line, line_is, grown) = step (grow_in words) (λ g. Ok (Grow g)) o e in
+    word_step words _ line line_is (λ name w1 name_is e1.
+    name_step name _ line e1 (λ arena arena_word arena_in e2.
+    word_step w1 _ line e2 (λ base w2 base_is e3.
+    word_step w2 _ line e3 (λ len w3 len_is e4.
+    end_step w3 _ line e4 (λ none e5.
+    quantity_step base _ line e5 (λ b b_word b_in e6.
+    quantity_step len _ line e6 (λ l l_word l_in e7.
+    let read_is : Grow (record { arena = arena; base = b; len = l }) ≡ o = cc in
+    subst (Says (codes "grow") words) read_is ((arena_in, b_in, l_in), refl, cc))))))))
+
 -- a line that is one word
 one_says : (key : List ℕ) (words : List (List ℕ)) (o p : OperatorLine) → IsOperator o → key ≡ operator_word o → operator_words o ≡ []
     → (end_at words >>= λ e. Ok o) ≡ Ok p → Says key words p
@@ -136,7 +150,10 @@ operator_says first words o e = elim (told first (codes "cpu") _ _ _ e) [
     | inl p ↦ subst (λ f. Says f words o) (sym p.0) (names_cpu (codes "offline") words Offline o (λ n own. (own, refl, refl)) p.1)
     | inr e2 ↦ elim (told first (codes "resize") _ _ _ e2) [
       | inl p ↦ subst (λ f. Says f words o) (sym p.0) (resize_says words o p.1)
-      | inr e3 ↦ alone_says first words o e3
+      | inr e3 ↦ elim (told first (codes "grow") _ _ _ e3) [
+        | inl p ↦ subst (λ f. Says f words o) (sym p.0) (grow_says words o p.1)
+        | inr e4 ↦ alone_says first words o e4
+      ]
     ]
   ]
 ]
@@ -169,11 +186,12 @@ size_again Fifteen = refl
 size_again ThirtyOne = refl
 
 words_again : (o : OperatorLine) → IsOperator o → served_in (operator_word o ∷ operator_words o) ≡ Ok (Operator o)
-unfolding served_in operator_in cpu_line_in resize_in
+unfolding served_in operator_in cpu_line_in resize_in grow_in
 words_again (Cpu n) is = rw (cpu_again n is) refl
 words_again (Offline n) is = rw (cpu_again n is) refl
 words_again Tick is = refl
 words_again (Resize r) is = rw (is, size_again r.size) refl
+words_again (Grow g) is = rw (is.0, quantity_again g.base is.1, quantity_again g.len is.2) refl
 words_again Reap is = refl
 words_again Audit is = refl
 words_again Clients is = refl
@@ -195,6 +213,7 @@ first_is_word (Cpu n) = refl
 first_is_word (Offline n) = refl
 first_is_word Tick = refl
 first_is_word (Resize r) = refl
+first_is_word (Grow g) = refl
 first_is_word Reap = refl
 first_is_word Audit = refl
 first_is_word Clients = refl
@@ -206,6 +225,9 @@ are_words Tick is = refl
 are_words (Resize r) is =
     let name = and_parts (is_word r.arena) _ is in
     rw (name.0, size_is_word r.size) refl
+are_words (Grow g) is =
+    let name = and_parts (is_word g.arena) _ is.0 in
+    rw (name.0, decimal_word g.base is.1, decimal_word g.len is.2) refl
 are_words Reap is = refl
 are_words Audit is = refl
 are_words Clients is = refl
@@ -231,6 +253,11 @@ short (Cpu n) is = let d = decimal_short 19 n (omega arith) (omega arith) (omega
 short (Offline n) is = let d = decimal_short 19 n (omega arith) (omega arith) (omega arith) in simp length-append (omega arith)
 short Tick is = omega arith
 short (Resize r) is = let a = name_short r.arena is in let m = size_short r.size in simp length-append (omega arith)
+short (Grow g) is =
+    let a = name_short g.arena is.0 in
+    let b = decimal_short 19 g.base (omega arith) (omega arith) is.1 in
+    let l = decimal_short 19 g.len (omega arith) (omega arith) is.2 in
+    simp length-append (omega arith)
 short Reap is = omega arith
 short Audit is = omega arith
 short Clients is = omega arith

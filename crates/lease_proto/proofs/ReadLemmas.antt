@@ -109,9 +109,15 @@ error_word_says word r e = elim (named error_word word (errors.Line faults.TooLo
             | inl is ↦ is
             | inr e6 ↦ elim (named error_word word errors.Size _ r e6) [
               | inl is ↦ is
-              | inr e7 ↦ elim (named error_word word errors.Busy _ r e7) [
+              | inr e7 ↦ elim (named error_word word errors.Range _ r e7) [
                 | inl is ↦ is
-                | inr none ↦ absurd (cc)
+                | inr e8 ↦ elim (named error_word word errors.Many _ r e8) [
+                  | inl is ↦ is
+                  | inr e9 ↦ elim (named error_word word errors.Busy _ r e9) [
+                    | inl is ↦ is
+                    | inr none ↦ absurd (cc)
+                  ]
+                ]
               ]
             ]
           ]

@@ -4,7 +4,8 @@ use Rattle.std.specs.Str.{bytes_eq}
 use Rattle.lease_proto.specs.declared.faults.LineFault.{LineFault}
 use Rattle.lease_proto.specs.declared.faults.LineFault.TheVariants.{TooLong, BadLine, Word, Number}
 use Rattle.lease_proto.specs.declared.faults.ErrorWord.{ErrorWord}
-use Rattle.lease_proto.specs.declared.faults.ErrorWord.TheVariants.{Line, Memory, NoArena, Size, Busy}
+use Rattle.lease_proto.specs.declared.faults.ErrorWord.TheVariants.{Line, Memory, NoArena, Size}
+use Rattle.lease_proto.specs.declared.faults.ErrorWord.TheVariants.{Range, Many, Busy}
 
 -- the word of a fault
 abbrev pub fault_word : LineFault → List ℕ
@@ -19,6 +20,8 @@ error_word (Line fault) = fault_word fault
 error_word Memory = codes "memory"
 error_word NoArena = codes "noarena"
 error_word Size = codes "size"
+error_word Range = codes "range"
+error_word Many = codes "many"
 error_word Busy = codes "busy"
 
 -- the `error` line, with its line feed
@@ -39,5 +42,7 @@ error_word_in word =
     else if bytes_eq word (codes "memory") then Ok Memory
     else if bytes_eq word (codes "noarena") then Ok NoArena
     else if bytes_eq word (codes "size") then Ok Size
+    else if bytes_eq word (codes "range") then Ok Range
+    else if bytes_eq word (codes "many") then Ok Many
     else if bytes_eq word (codes "busy") then Ok Busy
     else Err BadLine

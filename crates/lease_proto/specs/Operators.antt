@@ -3,17 +3,19 @@ use Rattle.std.specs.Prelude.{◌↔◌, ◌≡◌, ℕ, List, [], ◌∷◌, if
 use Rattle.std.specs.Prelude.{Result, Ok, Err, codes, decimal}
 use Rattle.std.specs.Str.{bytes_eq}
 use Rattle.lease_terms.specs.Names.{is_name}
+use Rattle.lease_terms.specs.Ranges.{IsQuantity}
 use Rattle.lease_proto.specs.declared.faults.LineFault.{LineFault}
 use Rattle.lease_proto.specs.declared.faults.LineFault.TheVariants.{Word, Number}
 use Rattle.lease_proto.specs.declared.lines.Line.{Line}
 use Rattle.lease_proto.specs.declared.operators.MagazineSize.{MagazineSize}
 use Rattle.lease_proto.specs.declared.operators.MagazineSize.TheVariants as size
+use Rattle.lease_proto.specs.declared.operators.GrowLine.{GrowLine}
 use Rattle.lease_proto.specs.declared.operators.OperatorLine.{OperatorLine}
 use Rattle.lease_proto.specs.declared.operators.OperatorLine.TheVariants as operator
 use Rattle.lease_proto.specs.declared.operators.ServedLine.{ServedLine}
 use Rattle.lease_proto.specs.declared.operators.ServedLine.TheVariants.{Client, Operator}
 use Rattle.lease_proto.specs.Cpus.{IsCpu, cpu_in}
-use Rattle.lease_proto.specs.Values.{◌>>=◌, words_of, name_in}
+use Rattle.lease_proto.specs.Values.{◌>>=◌, words_of, name_in, quantity_in}
 use Rattle.lease_proto.specs.Grammar.{word_at, end_at, line_of, line_of_first}
 use Rattle.lease_proto.specs.Texts.{sentence}
 
@@ -56,6 +58,18 @@ resize_in words = do
   m ← size_in rounds.0
   Ok (operator.Resize (record { arena = arena; size = m }))
 
+-- `grow NAME BASE LEN`
+unfoldable pub grow_in : List (List ℕ) → Result GrowLine LineFault
+grow_in words = do
+  name ← word_at words
+  arena ← name_in name.0
+  base ← word_at name.1
+  len ← word_at base.1
+  end ← end_at len.1
+  b ← quantity_in base.0
+  l ← quantity_in len.0
+  Ok (record { arena = arena; base = b; len = l })
+
 -- the line that is this word alone
 abbrev pub alone_in : List ℕ → List (List ℕ) → Result OperatorLine LineFault
 alone_in first words =
@@ -72,14 +86,15 @@ operator_in first words =
     else if bytes_eq first (codes "offline")
     then (cpu_line_in words >>= λ n. Ok (operator.Offline n))
     else if bytes_eq first (codes "resize") then resize_in words
+    else if bytes_eq first (codes "grow") then (grow_in words >>= λ g. Ok (operator.Grow g))
     else alone_in first words
 
 -- the words that an operator's line begins with
 abbrev pub is_operator_word : List ℕ → Bool
 is_operator_word word = bytes_eq word (codes "cpu") || (bytes_eq word (codes "offline")
     || (bytes_eq word (codes "tick") || (bytes_eq word (codes "resize")
-    || (bytes_eq word (codes "reap") || (bytes_eq word (codes "audit")
-    || bytes_eq word (codes "clients"))))))
+    || (bytes_eq word (codes "grow") || (bytes_eq word (codes "reap")
+    || (bytes_eq word (codes "audit") || bytes_eq word (codes "clients")))))))
 
 -- the line that words are
 unfoldable pub served_in : List (List ℕ) → Result ServedLine LineFault
@@ -92,12 +107,22 @@ served_in (first ∷ words) =
 unfoldable pub served_of : List ℕ → Result ServedLine LineFault
 served_of bytes = words_of bytes >>= served_in
 
+-- where no other line is taken: each other first word is refused
+unfoldable pub grow_line_in : List (List ℕ) → Result GrowLine LineFault
+grow_line_in [] = Err Word
+grow_line_in (first ∷ words) = if bytes_eq first (codes "grow") then grow_in words else Err Word
+
+-- that line, or the first reason why bytes are none
+unfoldable pub grow_of : List ℕ → Result GrowLine LineFault
+grow_of bytes = words_of bytes >>= grow_line_in
+
 -- the words of an operator's line: the first, and those after it
 abbrev pub operator_word : OperatorLine → List ℕ
 operator_word (operator.Cpu n) = codes "cpu"
 operator_word (operator.Offline n) = codes "offline"
 operator_word operator.Tick = codes "tick"
 operator_word (operator.Resize r) = codes "resize"
+operator_word (operator.Grow g) = codes "grow"
 operator_word operator.Reap = codes "reap"
 operator_word operator.Audit = codes "audit"
 operator_word operator.Clients = codes "clients"
@@ -107,6 +132,7 @@ operator_words (operator.Cpu n) = decimal n ∷ []
 operator_words (operator.Offline n) = decimal n ∷ []
 operator_words operator.Tick = []
 operator_words (operator.Resize r) = r.arena ∷ size_word r.size ∷ []
+operator_words (operator.Grow g) = g.arena ∷ decimal g.base ∷ decimal g.len ∷ []
 operator_words operator.Reap = []
 operator_words operator.Audit = []
 operator_words operator.Clients = []
@@ -120,6 +146,7 @@ abbrev pub IsOperator : OperatorLine → Type 0
 IsOperator (operator.Cpu n) = IsCpu n
 IsOperator (operator.Offline n) = IsCpu n
 IsOperator (operator.Resize r) = is_name r.arena ≡ true
+IsOperator (operator.Grow g) = (is_name g.arena ≡ true) × IsQuantity g.base × IsQuantity g.len
 IsOperator operator.Tick = Unit {0}
 IsOperator operator.Reap = Unit {0}
 IsOperator operator.Audit = Unit {0}

@@ -1,5 +1,7 @@
 -- The lines that an operator is told.
-use Rattle.std.specs.Prelude.{ℕ, List, ◌++◌, codes, decimal}
+use Rattle.std.specs.Prelude.{ℕ, List, ◌++◌, Result, Ok, Err, codes, decimal}
+use Rattle.lease_proto.specs.Faults.{error_text}
+use Rattle.lease_proto.specs.declared.faults.ErrorWord.{ErrorWord}
 use Rattle.lease_proto.specs.declared.reports.AuditLine.{AuditLine}
 use Rattle.lease_proto.specs.declared.reports.ClientLine.{ClientLine}
 use Rattle.lease_proto.specs.declared.reports.ReapedLine.{ReapedLine}
@@ -33,3 +35,8 @@ reaped_text r = codes "reaped " ++ decimal r.units ++ codes "\n"
 -- what was asked for was done
 abbrev pub ok_text : List ℕ
 ok_text = codes "ok\n"
+
+-- what came of what was asked for
+abbrev pub outcome_text : Result (Unit {0}) ErrorWord → List ℕ
+outcome_text (Ok _) = ok_text
+outcome_text (Err word) = error_text word

@@ -63,6 +63,11 @@ pub enum ErrorWord {
     NoArena,
     /// An operator's line has a size that the arena can't be given.
     Size,
+    /// An operator's line has a base and a length that are no range, or none that the arena may be
+    /// given.
+    Range,
+    /// The arena of an operator's line has as many owned spans as it may have.
+    Many,
     /// A server has as many connections as it serves at a time.
     Busy,
 }
@@ -88,6 +93,10 @@ impl ErrorWord {
             Ok(ErrorWord::NoArena)
         } else if word == b"size".as_slice() {
             Ok(ErrorWord::Size)
+        } else if word == b"range".as_slice() {
+            Ok(ErrorWord::Range)
+        } else if word == b"many".as_slice() {
+            Ok(ErrorWord::Many)
         } else if word == b"busy".as_slice() {
             Ok(ErrorWord::Busy)
         } else {
@@ -105,6 +114,8 @@ impl ErrorWord {
             ErrorWord::Memory => b"memory",
             ErrorWord::NoArena => b"noarena",
             ErrorWord::Size => b"size",
+            ErrorWord::Range => b"range",
+            ErrorWord::Many => b"many",
             ErrorWord::Busy => b"busy",
         }
     }
@@ -118,6 +129,8 @@ impl ErrorWord {
             ErrorWord::Memory => b"error memory\n",
             ErrorWord::NoArena => b"error noarena\n",
             ErrorWord::Size => b"error size\n",
+            ErrorWord::Range => b"error range\n",
+            ErrorWord::Many => b"error many\n",
             ErrorWord::Busy => b"error busy\n",
         }
     }

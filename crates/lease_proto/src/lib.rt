@@ -41,12 +41,12 @@ pub use faults::{ErrorWord, LineFault};
 pub use framing::{FramedLine, LineReader, fault_at_end, framing_law, line_feed_law};
 pub use limits::{LAST_CPU, LINE_ROOM, LONGEST_LINE, MOST_CPUS, limit_law};
 pub use lines::{HelloLine, LeaseLine, LeaseOptions, Line, Op, ReleaseLine, line_law};
-pub use numbers::number_law;
+pub use numbers::{number_law, value_of};
 pub use operators::{
-    MagazineSize, OperatorLine, ResizeLine, ServedLine, is_operator_word, served_law,
+    GrowLine, MagazineSize, OperatorLine, ResizeLine, ServedLine, is_operator_word, served_law,
 };
 pub use replies::{Again, Granted, Old, OutOfTurn, RefusedRequest, Reply, Welcome, reply_law};
-pub use reports::{AuditLine, ClientLine, ReapedLine, ok_line};
+pub use reports::{AuditLine, ClientLine, ReapedLine, ok_line, outcome_line};
 pub use setup_lines::{
     ChildLine, PolicyWord, RootLine, SetupLine, SpanLine, is_setup_word, setup_law,
 };

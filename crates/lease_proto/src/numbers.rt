@@ -18,7 +18,8 @@ pub(crate) fn number(word: &[u8]) -> Result<u64, LineFault>
     }
 }
 
-fn value_of(word: &[u8]) -> Option<u64>
+/// The number that a word writes, 0 to 2^62, or `None` where it writes none.
+pub fn value_of(word: &[u8]) -> Option<u64>
     ensures value { result ≡ number_in word.now }
     ensures fits { IfSome result (λ n. n ≤ LARGEST) }
 {

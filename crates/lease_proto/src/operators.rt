@@ -1,16 +1,18 @@
 //! The lines of an operator, and what may be served after a setup.
 ghost use Rattle.std.specs.Prelude.{◌≡◌};
-ghost use Rattle.lease_proto.specs.Operators.{cpu_line_in, resize_in, size_in, operator_in};
-ghost use Rattle.lease_proto.specs.Operators.{served_in, served_of, rounds_named};
+ghost use Rattle.lease_proto.specs.Operators.{cpu_line_in, resize_in, grow_in, size_in};
+ghost use Rattle.lease_proto.specs.Operators.{operator_in, served_in, served_of, rounds_named};
+ghost use Rattle.lease_proto.specs.Operators.{grow_line_in, grow_of};
 ghost use Rattle.lease_proto.specs.Operators.{ClientsAreServed, OperatorsAreServed};
 ghost use Rattle.lease_proto.specs.Operators as spec;
 
 use crate::cpus::{CpuNumber, cpu};
 use crate::faults::LineFault;
 use crate::lines::Line;
+use crate::numbers::quantity;
 use crate::sentences::{Words, name};
-use crate::taking::{first_fault, parts};
-use lease_terms::ArenaName;
+use crate::taking::{first_fault, parts, words};
+use lease_terms::{ArenaName, Quantity};
 
 /// How many rounds a magazine takes, by the word of a line.
 #[derive(Clone, Copy, Debug, PartialEq, Eq)]
@@ -73,6 +75,58 @@ impl ResizeLine {
     }
 }
 
+/// `grow NAME BASE LEN`: a further owned span of a root, in units, while it is in use. Whether the
+/// two are a range that the root may have is not said by the line.
+#[derive(Clone, Copy, Debug, PartialEq, Eq)]
+pub struct GrowLine {
+    pub arena: ArenaName,
+    pub base: Quantity,
+    pub len: Quantity,
+}
+
+impl GrowLine {
+    /// The line that these bytes are, or the first reason why they are none, where no other line is
+    /// taken: each other first word is `Word`. They are given without the line feed. It takes no
+    /// memory.
+    #[tactic(auto, unfolding(crate::specs::Operators::grow_of))]
+    pub fn read(bytes: &[u8]) -> Result<GrowLine, LineFault>
+        ensures { result ≡ grow_of bytes.now }
+    {
+        GrowLine::of_line(words(bytes)?)
+    }
+
+    /// The line of these words.
+    #[tactic(auto, unfolding(crate::specs::Operators::grow_line_in))]
+    fn of_line(mut words: Words<'_>) -> Result<GrowLine, LineFault>
+        ensures { result ≡ grow_line_in words.entry }
+    {
+        let Some(first) = words.next() else {
+            return Err(LineFault::Word);
+        };
+        if first == b"grow".as_slice() {
+            GrowLine::of_words(&mut words)
+        } else {
+            Err(LineFault::Word)
+        }
+    }
+
+    /// The line of the words after the first.
+    #[tactic(auto, unfolding(crate::specs::Operators::grow_in))]
+    fn of_words(words: &mut Words<'_>) -> Result<GrowLine, LineFault>
+        ensures { result ≡ grow_in words.old }
+    {
+        let arena = name(words.take()?)?;
+        let base = words.take()?;
+        let len = words.take()?;
+        words.end()?;
+        Ok(GrowLine {
+            arena,
+            base: quantity(base)?,
+            len: quantity(len)?,
+        })
+    }
+}
+
 /// A line of an operator.
 #[derive(Clone, Copy, Debug, PartialEq, Eq)]
 pub enum OperatorLine {
@@ -83,6 +137,7 @@ pub enum OperatorLine {
     /// `tick`: an interval begins in each depot.
     Tick,
     Resize(ResizeLine),
+    Grow(GrowLine),
     /// `reap`: what depots and slabs no longer need goes back.
     Reap,
     /// `audit`: the units of each arena, by where they are.
@@ -103,6 +158,8 @@ impl OperatorLine {
             Ok(OperatorLine::Offline(cpu_word(words)?))
         } else if first == b"resize".as_slice() {
             ResizeLine::read(words)
+        } else if first == b"grow".as_slice() {
+            Ok(OperatorLine::Grow(GrowLine::of_words(words)?))
         } else {
             OperatorLine::of_word(first, words)
         }
@@ -148,6 +205,7 @@ pub fn is_operator_word(word: &[u8]) -> bool
         || word == b"offline".as_slice()
         || word == b"tick".as_slice()
         || word == b"resize".as_slice()
+        || word == b"grow".as_slice()
         || word == b"reap".as_slice()
         || word == b"audit".as_slice()
         || word == b"clients".as_slice()

@@ -1,9 +1,11 @@
 //! What an operator's lines are answered.
-ghost use Rattle.std.specs.Prelude.{◌≡◌, ◌++◌, OnOk, OnErr};
+ghost use Rattle.std.specs.Prelude.{◌≡◌, ◌≤◌, ◌++◌, OnOk, OnErr, length};
 ghost use Rattle.std.specs.Io.{StartsWith};
 ghost use Rattle.lease_proto.specs.Reports.{audit_text, sums_text, kept_text, given_text};
-ghost use Rattle.lease_proto.specs.Reports.{client_text, reaped_text, ok_text};
+ghost use Rattle.lease_proto.specs.Reports.{client_text, reaped_text, ok_text, outcome_text};
+ghost use Rattle.lease_proto.specs.declared.limits.TheConstants.{LINE_ROOM};
 
+use crate::faults::ErrorWord;
 use lease_terms::{ArenaName, ClientId, Ordinal, Quantity};
 use std::alloc::AllocError;
 
@@ -123,4 +125,15 @@ pub fn ok_line() -> &'static [u8]
     ensures { result.now ≡ ok_text }
 {
     b"ok\n"
+}
+
+/// The line that says what came of an operator's line, with its line feed.
+pub fn outcome_line(outcome: Result<(), ErrorWord>) -> &'static [u8]
+    ensures text { result.now ≡ outcome_text outcome }
+    ensures short { length result.now ≤ LINE_ROOM }
+{
+    match outcome {
+        Ok(()) => ok_line(),
+        Err(word) => word.line(),
+    }
 }

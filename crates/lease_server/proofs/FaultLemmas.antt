@@ -1,14 +1,14 @@
 -- Lemmas on a serving that ends, or ends early.
 use Rattle.std.proofs.Common.{◌≡◌, ◌⊎◌, ◌≤◌, ◌+◌, ◌-◌, ◌^◌, ℕ, min, length, take, Bool, true, false, List, [], ◌++◌, refl, sym, ◌∙◌, ap, subst, arith, inl, inr, Ok, Err, Option, Result, OnOk, OnErr, IfErr, IsErrOf}
-use Rattle.std.proofs.lemmas.List.{take-take}
+use Rattle.std.proofs.lemmas.List.{append-nil, take-take}
 use Rattle.std.specs.Io.KnownBytes.{Consumes, IsAtEnd}
-use Rattle.std.proofs.KnownBytes.{Consumes-kept}
+use Rattle.std.proofs.KnownBytes.{Consumes-kept, Consumes-trans}
 use Rattle.lease_proto.specs.declared.limits.TheConstants.{LINE_ROOM}
 use Rattle.lease_proto.specs.Frames.{Frame, rest_in, frames_of_rest}
 use Rattle.lease_server.specs.declared.intakes.TheConstants.{MOST_READS}
 use Rattle.lease_server.specs.Watching.{Streams}
 use Rattle.lease_server.specs.Intakes.{AtHand, IntakeState, hand_in, frames_at, begun_at, frames_on, frames_to_end, StopsReading}
-use Rattle.lease_server.specs.Serving.{SameFront, Writes, WritesBefore, Stops, ServesAll, ServeFails}
+use Rattle.lease_server.specs.Serving.{SameFront, Writes, WritesBefore, Stops, ServesAll, ServeFails, TellsAll, TellFails}
 use Rattle.lease_server.specs.declared.faults.ServeFault.{ServeFault}
 use Rattle.lease_server.specs.declared.faults.ServeFault.TheVariants.{Read, Write, Memory, Turns}
 use Rattle.lease_server.proofs.ServingLemmas.{Stops-after, Stops-more, WritesBefore-after, Writes-append, of_all, of_front, frames_of_rest-same}
@@ -115,3 +115,70 @@ module _ {S : Type 0} (may_answer : S → List ℕ → List ℕ → S → Type 0
   rest_fails (Err Read) from here old new first mid last input piece unread between consumed read none end writes same rest is failed reads = absurd (cc)
   rest_fails (Err Memory) from here old new first mid last input piece unread between consumed read none end writes same rest is failed reads = absurd (cc)
   rest_fails (Err Turns) from here old new first mid last input piece unread between consumed read none end writes same rest is failed reads = absurd (cc)
+
+  -- the lines at hand, of which the answers ended early
+  pub held_untold : (from : AtHand) (old new : Streams) (first mid : S) (here : AtHand) (input : List ℕ) (done : List Frame) (between : Option (List ℕ))
+      → frames_on from input ≡ done ++ frames_at here → Writes may_answer first done old.written between mid
+      → Stops may_answer mid (frames_at here) between new.written → Stops may_answer first (frames_to_end from input) old.written new.written
+  held_untold from old new first mid here input done between split writes stops =
+      Stops-more may_answer (frames_on from input) _ first old.written new.written
+      (subst (λ f. Stops may_answer first f old.written new.written) (sym split)
+      (Stops-after may_answer done (frames_at here) first mid old.written between new.written writes stops))
+
+  -- which was a fault of writing
+  pub write_untold : (from : IntakeState) (old new : Streams) (first last : S) (fault : ServeFault) → IsErrOf {T = Unit {0}} (Err fault) Write
+      → TellFails may_answer from old new first last Write → TellFails may_answer from old new first last fault
+  write_untold from old new first last Write is fails = fails
+  write_untold from old new first last Read is fails = absurd (cc)
+  write_untold from old new first last Memory is fails = absurd (cc)
+  write_untold from old new first last Turns is fails = absurd (cc)
+
+  -- a fault of reading
+  pub read_untold : (from held : IntakeState) (old new : Streams) (first last : S) (unread : Option (List ℕ)) (before : Bool) (fault : ServeFault)
+      → StopsReading held unread new.unread before new.reader_failed fault → ServeFails may_answer from old new first last fault → TellFails may_answer from old new first last fault
+  read_untold from held old new first last unread before Read stops fails = fails
+  read_untold from held old new first last unread before Turns stops fails = fails
+  read_untold from held old new first last unread before Write stops fails = absurd stops
+  read_untold from held old new first last unread before Memory stops fails = absurd stops
+
+  -- what was read up to the end
+  pub read_all : (a b d : Option (List ℕ)) (input piece : List ℕ) → Consumes a b input → Consumes b d piece → piece ≡ [] → Consumes a d input
+  read_all a b d input piece consumed read none =
+      subst (λ l. Consumes a d l) (ap (λ l. input ++ l) none ∙ append-nil input) (Consumes-trans a b d input piece consumed read)
+
+  -- the rest that the input ends
+  pub rest_told : (r : Result (Unit {0}) ServeFault) (hand here : AtHand) (old new : Streams) (first mid last : S) (input : List ℕ) (between : Option (List ℕ)) (before : Bool)
+      → Consumes old.unread new.unread input → IsAtEnd new.unread
+      → Writes may_answer first (frames_on hand input) old.written between mid
+      → SameFront here.line (rest_in (begun_at hand) input)
+      → OnOk r (Writes may_answer mid (frames_of_rest here.line) between new.written last) → OnOk r (new.writer_failed ≡ before)
+      → before ≡ false → new.reader_failed ≡ false → OnOk r (TellsAll may_answer hand old new first last)
+  rest_told (Err fault) hand here old new first mid last input between before consumed end writes same rest wrote works reads = tt
+  rest_told (Ok done) hand here old new first mid last input between before consumed end writes same rest wrote works reads = (
+    input,
+    consumed,
+    end,
+    subst (λ f. Writes may_answer first (frames_on hand input ++ f) old.written new.written last) (frames_of_rest-same here.line (rest_in (begun_at hand) input) same)
+        (Writes-append may_answer (frames_on hand input) (frames_of_rest here.line) first mid last old.written between new.written writes rest),
+    reads,
+    wrote ∙ works,
+  )
+
+  pub rest_untold : (r : Result (Unit {0}) ServeFault) (from : IntakeState) (here : AtHand) (old new : Streams) (first mid last : S) (input : List ℕ) (between : Option (List ℕ))
+      → Consumes old.unread new.unread input
+      → Writes may_answer first (frames_on from.hand input) old.written between mid
+      → SameFront here.line (rest_in (begun_at from.hand) input)
+      → OnErr r (Stops may_answer mid (frames_of_rest here.line) between new.written) → OnErr r (IsErrOf r Write) → OnErr r (new.writer_failed ≡ true)
+      → new.reader_failed ≡ false → IfErr r (TellFails may_answer from old new first last)
+  rest_untold (Ok done) from here old new first mid last input between consumed writes same rest is failed reads = tt
+  rest_untold (Err Write) from here old new first mid last input between consumed writes same rest is failed reads = (
+    input,
+    consumed,
+    subst (λ f. Stops may_answer first (frames_on from.hand input ++ f) old.written new.written) (frames_of_rest-same here.line (rest_in (begun_at from.hand) input) same)
+        (Stops-after may_answer (frames_on from.hand input) (frames_of_rest here.line) first mid old.written between new.written writes rest),
+    reads,
+    failed,
+  )
+  rest_untold (Err Read) from here old new first mid last input between consumed writes same rest is failed reads = absurd (cc)
+  rest_untold (Err Memory) from here old new first mid last input between consumed writes same rest is failed reads = absurd (cc)
+  rest_untold (Err Turns) from here old new first mid last input between consumed writes same rest is failed reads = absurd (cc)

@@ -1,7 +1,7 @@
 -- What a server writes for the frames that it reads.
 use Rattle.std.specs.Prelude.{◌≡◌, ◌≤◌, ◌+◌, ◌-◌, ◌^◌, ℕ, List, ◌∷◌, ◌++◌, length, min}
 use Rattle.std.specs.Prelude.{take, true, false, Option, IfSome}
-use Rattle.std.specs.Io.KnownBytes.{Appends, Consumes}
+use Rattle.std.specs.Io.KnownBytes.{Appends, Consumes, IsAtEnd}
 use Rattle.lease_proto.specs.Frames.{Frame}
 use Rattle.lease_proto.specs.Serving.{ServesLines}
 use Rattle.lease_proto.specs.declared.limits.TheConstants.{LINE_ROOM}
@@ -89,3 +89,20 @@ module _ {S : Type 0} (may_answer : S → List ℕ → List ℕ → S → Type 0
       × Consumes old.unread new.unread input
       × WritesBefore first (frames_on from.hand input) old.written new.written last
       × (new.reader_failed ≡ false) × (new.writer_failed ≡ false)
+
+  -- All that is at hand, and all that was read up to the end, is answered.
+  abbrev pub TellsAll : AtHand → Streams → Streams → S → S → Type 0
+  TellsAll hand old new first last = (input : List ℕ) × Consumes old.unread new.unread input
+      × IsAtEnd new.unread × Writes first (frames_to_end hand input) old.written new.written last
+      × (new.reader_failed ≡ false) × (new.writer_failed ≡ false)
+
+  -- What a fault says where answers take no memory: of reading the same; and where the writer
+  -- failed, a front of the answers to what was read is written.
+  abbrev pub TellFails : IntakeState → Streams → Streams → S → S → ServeFault → Type 0
+  TellFails from old new first last fault.Read = ServeFails from old new first last fault.Read
+  TellFails from old new first last fault.Turns = ServeFails from old new first last fault.Turns
+  TellFails from old new first last fault.Write = (input : List ℕ)
+      × Consumes old.unread new.unread input
+      × Stops first (frames_to_end from.hand input) old.written new.written
+      × (new.reader_failed ≡ false) × (new.writer_failed ≡ true)
+  TellFails from old new first last fault.Memory = ⊥

@@ -19,3 +19,15 @@ pub trait Responder {
         ensures unwritten { OnErr result (out.new.items ≡ out.old.items) }
         ensures unchanged { OnErr result (self.new ≡ self.old) };
 }
+
+/// Answers one line at a time by a text that is always there. What a telling may write is stated
+/// over `may_answer`, as with a `Responder`.
+pub trait Teller {
+    /// From a state, a line and an answer to it, given with its line feed, and the state after it:
+    /// what the teller may do.
+    ghost may_answer: { Self → List ℕ → List ℕ → Self → Type 0 };
+
+    /// The answer to a line. `tell` gives each line as `serve` does.
+    fn tell(&mut self, line: &[u8]) -> &'static [u8]
+        ensures { may_answer self.old line.now result.now self.new };
+}

@@ -16,7 +16,8 @@ use Rattle.lease_proto.specs.declared.faults.ErrorWord.TheVariants.{Size}
 use Rattle.lease_proto.specs.Faults.{error_text}
 use Rattle.lease_machine.specs.Operators.{HasSmaller, Resizes, with_depot_by, with_depots_by, after_rise}
 use Rattle.lease_machine.specs.Picture.{Picture}
-use Rattle.stock_desk.specs.Depots.{ResizesAt, outcome_text}
+use Rattle.lease_proto.specs.Reports.{outcome_text}
+use Rattle.stock_desk.specs.Depots.{ResizesAt}
 use Rattle.stock_desk.proofs.FirstChanged.{first_changed, changed_here, changed_next, changed_all, changed_none, set_twice}
 
 -- the arena with its first i depots changed so

@@ -42,5 +42,5 @@ pub opened_unused : (setup : SetupState) (d : Picture) → IsOpenedFrom setup d 
 opened_unused setup d is = record {
   leases = ap segments_of_accounts is.book.accounts;
   rounds = ap (λ (cs : List NumberedCpu). all_own_rounds (flat_map caches_of cs)) is.cpus ∙ ap all_own_rounds (append-nil (caches_of (fresh_cpu 0 d.spaces))) ∙ fresh_cpu_fits.none d.spaces 0;
-  reaped = all_reaped setup (numbered_deeds 0 setup.spans) d.spaces is.stock;
+  reaped = all_reaped setup (numbered_deeds setup.spans) d.spaces is.stock;
 }

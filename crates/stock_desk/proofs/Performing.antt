@@ -1,33 +1,23 @@
 -- What operators' lines come to for a picture.
-use Rattle.std.proofs.Common.{◌≡◌, ℕ, ◌≤◌, refl, sym, subst, ap, List, [], map, length, Result, Ok, Err, OnErr, arith}
+use Rattle.std.proofs.Common.{◌≡◌, ℕ, refl, sym, subst, ap, inl, List, [], map, Result, Ok, Err, OnErr}
 use Rattle.magazine_layer.specs.Depots.{after_tick}
-use Rattle.lease_proto.specs.declared.limits.TheConstants.{LINE_ROOM}
 use Rattle.lease_proto.specs.Cpus.{IsCpu}
-use Rattle.lease_proto.specs.Faults.{error_text}
-use Rattle.lease_proto.specs.Reports.{ok_text}
+use Rattle.lease_proto.specs.Reports.{ok_text, outcome_text}
 use Rattle.lease_proto.specs.declared.faults.ErrorWord.{ErrorWord}
-use Rattle.lease_proto.specs.declared.faults.ErrorWord.TheVariants as word
-use Rattle.lease_proto.specs.declared.faults.LineFault.TheVariants as fault
 use Rattle.lease_proto.specs.declared.operators.OperatorLine.TheVariants as operator
+use Rattle.lease_proto.specs.declared.operators.GrowLine.{GrowLine}
 use Rattle.lease_proto.specs.declared.operators.ResizeLine.{ResizeLine}
 use Rattle.lease_proto.specs.Operators.{rounds_named}
+use Rattle.lease_call.specs.Growing.{AsksGrowth, TellsGrowth}
 use Rattle.lease_book.specs.BookState.{BookState}
+use Rattle.arena_tree.specs.declared.trees.TreeArena.{TreeArena}
 use Rattle.stock.specs.Spaces.{SpaceState}
+use Rattle.stock_audit.specs.Keeping.{IsStep}
 use Rattle.lease_machine.specs.Picture.{NumberedCpu, Picture, IsPicture, IsBookOf, SameSetup, IsHeld}
-use Rattle.lease_machine.specs.Operators.{Resizes, with_depots_by, with_cpu}
-use Rattle.lease_machine.proofs.LawProofs.{ticks_keep, resizes_keep, selected_is_picture}
+use Rattle.lease_machine.specs.Operators.{GrowsAt, Resizes, with_depots_by, with_cpu}
+use Rattle.lease_machine.proofs.LawProofs.{ticks_keep, resizes_keep, grows_keep, selected_is_picture}
 use Rattle.stock_desk.specs.Operators.{StaysPicture, IsPerformed}
 use Rattle.stock_desk.specs.Supplies.{SupplyState, picture_with}
-
-pub error_short : (w : ErrorWord) → length (error_text w) ≤ LINE_ROOM
-error_short (word.Line fault.TooLong) = omega arith
-error_short (word.Line fault.BadLine) = omega arith
-error_short (word.Line fault.Word) = omega arith
-error_short (word.Line fault.Number) = omega arith
-error_short word.Memory = omega arith
-error_short word.NoArena = omega arith
-error_short word.Size = omega arith
-error_short word.Busy = omega arith
 
 pub keeps_none : (d : Picture) → IsPicture d → StaysPicture d d
 keeps_none d is = record { setup = record { tree = refl; owned = refl }; picture = is }
@@ -62,6 +52,16 @@ module _ (b : BookState) (s : SupplyState) (text : List ℕ) (is : IsPicture (pi
   resized_so r spaces resizes =
       let kept = resizes_keep (picture_with b s) (picture_with b (record s { spaces = spaces })) r text is resizes in
       record { performs = resizes; kept = record { setup = kept.1; picture = kept.0 } }
+
+  pub grown_so : (g : GrowLine) (spaces : List SpaceState) (told : Result (Unit {0}) ErrorWord) → text ≡ outcome_text told → TellsGrowth GrowsAt s.tree g (picture_with b s) told (picture_with b (record s { spaces = spaces })) → IsStep s.spaces [] spaces []
+      → IsPerformed (operator.Grow g) (picture_with b s) text (picture_with b (record s { spaces = spaces }))
+  grown_so g spaces told said tells step =
+      let kept = grows_keep (picture_with b s) (picture_with b (record s { spaces = spaces })) g text is (told, said, tells) step in
+      record { performs = (told, said, tells); kept = record { setup = kept.1; picture = kept.0 } }
+
+-- where there is no such root, or no such range, nothing grows
+pub none_asked : (g : GrowLine) (w : ErrorWord) (d : Picture) (tree : List TreeArena) (spaces : List SpaceState) → AsksGrowth tree g (Err w) → d.tree ≡ tree → d.spaces ≡ spaces → TellsGrowth GrowsAt d.tree g d (Err w) (record d { spaces = spaces })
+none_asked g w d tree spaces asks named here = inl (w, subst (λ (t : List TreeArena). AsksGrowth t g (Err w)) (sym named) asks, refl, ap (λ (ss : List SpaceState). record d { spaces = ss }) (sym here))
 
 pub on_err_map : {A E : Type 0} (r : Result A E) (P Q : Type 0) → (P → Q) → OnErr r P → OnErr r Q
 on_err_map (Ok x) P Q f p = tt

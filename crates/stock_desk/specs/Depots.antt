@@ -1,16 +1,9 @@
--- What becomes of an arena's depots that are to keep greater magazines, and what is told of it.
+-- What becomes of an arena's depots that are to keep greater magazines.
 use Rattle.std.specs.Prelude.{◌≡◌, ℕ, List, set, slice_get, Some, Result, Ok, Err}
 use Rattle.lease_proto.specs.declared.faults.ErrorWord.{ErrorWord}
 use Rattle.lease_proto.specs.declared.faults.ErrorWord.TheVariants.{Size}
-use Rattle.lease_proto.specs.Faults.{error_text}
-use Rattle.lease_proto.specs.Reports.{ok_text}
 use Rattle.stock.specs.Spaces.{SpaceState}
 use Rattle.lease_machine.specs.Operators.{HasSmaller, with_depots_by, after_rise}
-
--- the line that tells what came of it
-abbrev pub outcome_text : Result (Unit {0}) ErrorWord → List ℕ
-outcome_text (Ok _) = ok_text
-outcome_text (Err word) = error_text word
 
 -- those of the arena at the index k with smaller magazines than m keep these from here on; where
 -- it has none such nothing changes

@@ -10,7 +10,7 @@ use Rattle.lease_machine.specs.Picture.{Picture, fresh_cpu}
 -- has no round; and a book of which nothing happened
 pub record IsOpenedFrom (setup : SetupState) (d : Picture) : Type 0 where
   pub tree : d.tree ≡ setup.arenas
-  pub stock : IsSetUpFrom setup (numbered_deeds 0 setup.spans) 3 d.spaces
+  pub stock : IsSetUpFrom setup (numbered_deeds setup.spans) 3 d.spaces
   pub cpus : d.cpus ≡ fresh_cpu 0 d.spaces ∷ []
   pub selected : d.selected ≡ 0
   pub book : IsHistory [] d.book

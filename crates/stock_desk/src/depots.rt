@@ -5,9 +5,10 @@ ghost use Rattle.magazine_layer.specs.Magazines.{IsSize};
 ghost use Rattle.stock.specs.Setups.{plans_for};
 ghost use Rattle.stock.specs.Spaces.{SpaceState, plans_of};
 ghost use Rattle.lease_proto.specs.Operators.{rounds_named};
+ghost use Rattle.lease_proto.specs.Reports.{outcome_text};
 ghost use Rattle.lease_machine.specs.Operators.{Resizes, with_depots_by};
 ghost use Rattle.lease_machine.specs.Picture.{Picture};
-ghost use Rattle.stock_desk.specs.Depots.{ResizesAt, outcome_text};
+ghost use Rattle.stock_desk.specs.Depots.{ResizesAt};
 
 use arena_tree::Tree;
 use deed_core::PlainDeed;

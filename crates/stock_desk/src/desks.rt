@@ -10,7 +10,7 @@ ghost use Rattle.lease_machine.specs.Machine.{LeaseStep, ServedStep, ClientStep}
 ghost use Rattle.lease_machine.specs.Picture.{IsPicture, SameSetup};
 ghost use Rattle.stock_desk.specs.Openings.{IsOpenedFrom};
 ghost use Rattle.stock_desk.specs.Supplies.{picture_with};
-ghost use Rattle.stock_desk.specs.Operators.{StaysPicture};
+ghost use Rattle.stock_desk.specs.Operators.{StaysPicture, KeepsPicture};
 
 use crate::endings::{empty_all, end_leases};
 use crate::openings::open_supply;
@@ -113,7 +113,7 @@ impl Desk {
             × ServedStep (served.Operator line) self.old reply self.new) }
         ensures unwritten { OnErr result (out.new.items ≡ out.old.items) }
         ensures unchanged { OnErr result (self.new ≡ self.old) }
-        ensures kept { StaysPicture self.old self.new }
+        ensures kept { KeepsPicture line self.old self.new }
     {
         tell(&mut self.supply, &self.book, line, out)
     }

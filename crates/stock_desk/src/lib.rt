@@ -5,7 +5,7 @@
 //! own: what segments come from (supplies), the book as `lease_call` asks it (own_books), the
 //! answers to requests and hellos by its lists of steps (requests, hellos) and the replies that
 //! they are (replies), the answers to an operator (operators), his choice of a CPU (cpus), his
-//! intervals and magazine sizes (depots), what he is told of the arenas and clients (reports), CPUs
+//! intervals and magazine sizes (depots), the ranges that he adds (growing), what he is told of the arenas and clients (reports), CPUs
 //! that go offline (offlines), what is reaped (reapings), what a setup gives (openings), and how
 //! leases and CPUs end (endings). What a line may be answered is stated in the crate
 //! `lease_machine`.
@@ -22,6 +22,7 @@ mod cpus;
 mod depots;
 mod desks;
 mod endings;
+mod growing;
 mod hellos;
 mod offlines;
 mod openings;

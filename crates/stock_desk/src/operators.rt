@@ -8,17 +8,19 @@ ghost use Rattle.lease_proto.specs.declared.limits.TheConstants.{LINE_ROOM};
 ghost use Rattle.lease_proto.specs.declared.operators.OperatorLine.TheVariants as operator;
 ghost use Rattle.lease_machine.specs.Operators.{LeavesOff, OperatorStep};
 ghost use Rattle.lease_machine.specs.Picture.{IsPicture};
-ghost use Rattle.stock_desk.specs.Depots.{outcome_text};
-ghost use Rattle.stock_desk.specs.Operators.{StaysPicture, IsPerformed};
+ghost use Rattle.stock_desk.specs.Operators.{StaysPicture, KeepsPicture, IsPerformed};
 ghost use Rattle.stock_desk.specs.Supplies.{picture_with};
 
 use crate::cpus::select;
 use crate::depots::{resize, tick};
+use crate::growing::grow;
 use crate::reports::{audit, clients};
 use crate::supplies::Supply;
 use deed_core::PlainDeed;
 use lease_book::Book;
-use lease_proto::{CpuNumber, ErrorWord, OperatorLine, ReapedLine, ResizeLine, ok_line};
+use lease_proto::{
+    CpuNumber, ErrorWord, GrowLine, OperatorLine, ReapedLine, ResizeLine, ok_line, outcome_line,
+};
 use std::alloc::AllocError;
 
 /// Does what an operator asks for. Where its lines find no room, the answer is one that says so.
@@ -35,7 +37,7 @@ pub(crate) fn tell(
         (picture_with book.now supply.new)) }
     ensures unwritten { OnErr result (out.new.items ≡ out.old.items) }
     ensures unchanged { OnErr result (supply.new ≡ supply.old) }
-    ensures kept { StaysPicture (picture_with book.now supply.old)
+    ensures kept { KeepsPicture line (picture_with book.now supply.old)
         (picture_with book.now supply.new) }
 {
     let begin = out.len();
@@ -66,7 +68,7 @@ fn tell_all(
         (picture_with book.now supply.old) (picture_with book.now supply.new)) }
     ensures room { OnErr result ((supply.new ≡ supply.old)
         ⊎ (vec_capacity out.old ≤ vec_capacity out.new)) }
-    ensures kept { StaysPicture (picture_with book.now supply.old)
+    ensures kept { KeepsPicture line (picture_with book.now supply.old)
         (picture_with book.now supply.new) }
 {
     match line {
@@ -78,6 +80,10 @@ fn tell_all(
         }
         OperatorLine::Resize(line) => {
             tell_resize(supply, &line, out);
+            Ok(())
+        }
+        OperatorLine::Grow(line) => {
+            tell_grow(supply, &line, out);
             Ok(())
         }
         OperatorLine::Reap => tell_reap(supply, out),
@@ -155,15 +161,18 @@ fn tell_resize(supply: &mut Supply, line: &ResizeLine, out: &mut Vec<u8>)
     say(outcome_line(outcome), out);
 }
 
-/// The line that tells what came of a resize.
-fn outcome_line(outcome: Result<(), ErrorWord>) -> &'static [u8]
-    ensures text { result.now ≡ outcome_text outcome }
-    ensures short { length result.now ≤ LINE_ROOM }
+/// Gives a root a further range. Out of memory changes nothing, and is told in the room that there
+/// is.
+fn tell_grow(supply: &mut Supply, line: &GrowLine, out: &mut Vec<u8>)
+    requires held { (b : BookState) × IsPicture (picture_with b supply.old) }
+    requires room { vec_len out.old + LINE_ROOM ≤ vec_capacity out.old }
+    ensures { (reply : List ℕ) × (out.new.items ≡ out.old.items ++ reply)
+        × ((b : BookState) → IsPicture (picture_with b supply.old)
+        → IsPerformed (operator.Grow line.now)
+        (picture_with b supply.old) reply (picture_with b supply.new)) }
 {
-    match outcome {
-        Ok(()) => ok_line(),
-        Err(word) => word.line(),
-    }
+    let outcome = grow(&mut supply.stock, &supply.tree, line);
+    say(outcome_line(outcome), out);
 }
 
 /// Puts back what depots and slabs no longer need. What went back stays there where the line that

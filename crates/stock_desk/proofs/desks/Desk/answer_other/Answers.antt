@@ -2,7 +2,7 @@ use Rattle.std.proofs.Common.{◌≡◌, ◌∙◌, ap, sym, subst, List, ◌++�
 use Rattle.lease_proto.specs.declared.operators.ServedLine.TheVariants as served
 use Rattle.lease_machine.specs.Picture.{IsPicture}
 use Rattle.lease_machine.specs.Machine.{ServedStep, LeaseStep}
-use Rattle.stock_desk.proofs.Answering.{appended, left_alone, served_step, refused_step}
+use Rattle.stock_desk.proofs.Answering.{appended, left_alone, operator_step, refused_step}
 use Rattle.stock_desk.proofs.Balances.{on_ok}
 use Rattle.stock_desk.proofs.desks.Desk.answer_other.Goals as goal
 
@@ -13,7 +13,7 @@ returns-in-Ok-Operator-clause-ok c = on_ok c.serve_operator.result
     (λ is. (
       is.0,
       is.1,
-      served_step c.args.self.now c.serve_operator.new.self c.args.line.now is.0 (served.Operator c.in-Ok-Operator.line) (ap Ok (sym c.in-Ok-Operator.field-0-is) ∙ c.in-Ok-Operator.ensures) is.2 c.serve_operator.ensures.kept,
+      operator_step c.args.self.now c.serve_operator.new.self c.args.line.now is.0 c.in-Ok-Operator.line (ap Ok (sym c.in-Ok-Operator.field-0-is) ∙ c.in-Ok-Operator.ensures) is.2 c.serve_operator.ensures.kept,
     ))
     c.serve_operator.ensures.ok
 
