@@ -18,7 +18,7 @@ use Rattle.arena_tree.specs.Trees.{arena_named}
 use Rattle.lease_machine.specs.Machine.{AnswersLine}
 use Rattle.lease_machine.specs.Laws.{Runs}
 use Rattle.lease_machine.specs.AnswerLaws.{reply_bytes, AnswersAgree, RepeatsFit}
-use Rattle.lease_machine.proofs.Homes.{setup_stays}
+use Rattle.lease_machine.proofs.Homes.{setup_only_grows}
 use Rattle.lease_machine.proofs.Entering.{Comes, still, further, answer_comes}
 use Rattle.lease_machine.proofs.Fitting.{grants_fit}
 use Rattle.lease_machine.proofs.Numbers.{kept_outcome, new_outcome}
@@ -83,7 +83,7 @@ answers_agree old mid late new id op again line text between repeat bytes frames
               | inl known ↦
                   let then_kept = known_kept late id b.0 also known.0 in
                   let one : then_kept.0 ≡ was.0 = some_is_one (outcome_of id all) then_kept.0 was.0 (kept_outcome all late.book id grown.1 then_kept.1.current then_kept.0 then_kept.1.there) stays in
-                  let tree : late.tree ≡ old.tree = (setup_stays mid late frames between run).tree ∙ first.setup.tree in
+                  let tree : late.tree ≡ old.tree = (setup_only_grows mid late frames between run).tree ∙ first.setup.tree in
                   let same : b.0 ≡ a.0 = then_kept.2 ∙ ap (λ (k : Kept). reply_to (arena_named late.tree) id k.reply) one ∙ ap (λ (xs : List TreeArena). reply_to (arena_named xs) id was.0.reply) tree ∙ sym was.2 in
                   inl (b.1 ∙ ap reply_bytes same ∙ sym a.1)
             ]

@@ -24,7 +24,7 @@ use Rattle.lease_machine.specs.Picture.{Picture, IsPicture}
 use Rattle.lease_machine.specs.LeaseLaws.{leases_in}
 use Rattle.lease_machine.specs.AnswerLaws.{AreNamed}
 use Rattle.lease_machine.specs.GrantLaws.{IsUnder, root, child, GrantsApart, GrantsStayApart, range_granted}
-use Rattle.lease_machine.proofs.Homes.{pictures_stay, setup_stays, leases_are_apart}
+use Rattle.lease_machine.proofs.Homes.{pictures_stay, setup_only_grows, leases_are_apart}
 use Rattle.lease_machine.proofs.Repeats.{history_of}
 use Rattle.lease_machine.proofs.Granting.{IsLeased, empty_stands, run_stands, step_stands, granted_leased, run_keeps, grant_keeps, contains_cases}
 
@@ -198,7 +198,7 @@ leased_apart d g h is l m other a b top named_g named_h under_a under_b u over_g
 pub grants_stay_apart : GrantsStayApart
 grants_stay_apart start old frames text g h is none names run t other =
     let old_is = pictures_stay start old frames text is run in
-    let tree : old.tree ≡ start.tree = (setup_stays start old frames text run).tree in
+    let tree : old.tree ≡ start.tree = (setup_only_grows start old frames text run).tree in
     let st = run_stands frames start old text is run (empty_stands start.book none) in
     let old_names = subst AreNamed (sym tree) names in
     let first = granted_leased old t.mid t.line t.text g old_is old_names st t.first in

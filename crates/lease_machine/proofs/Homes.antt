@@ -13,20 +13,26 @@ use Rattle.lease_book.specs.BookState.{leased_segments, units_of_arena}
 use Rattle.lease_machine.specs.Picture.{Picture, IsPicture, held_outside, owned_spans}
 use Rattle.lease_machine.specs.Operators.{sums_in}
 use Rattle.lease_machine.specs.Machine.{AnswersLine}
-use Rattle.lease_machine.specs.Laws.{PicturesStay, SetupStays, UnitsHaveOneHome, LeasesAreApart, AuditTellsLeases, AuditIsWhole, AuditIsTold}
+use Rattle.lease_machine.specs.Laws.{PicturesStay, SetupOnlyGrows, SetupStays, UnitsHaveOneHome, LeasesAreApart, AuditTellsLeases, AuditIsWhole, AuditIsTold}
+use Rattle.lease_machine.proofs.Spans.{grows_none, grows_then}
 
 pub pictures_stay : PicturesStay
 pictures_stay old new [] text is run = subst IsPicture (sym run.1) is
 pictures_stay old new (Ok line ∷ frames) text is run = pictures_stay run.2 new frames run.1 (run.3).picture run.5
 pictures_stay old new (Err fault ∷ frames) text is run = pictures_stay old new frames run.0 is run.2
 
+pub setup_only_grows : SetupOnlyGrows
+setup_only_grows old new [] text run = grows_none old new run.1
+setup_only_grows old new (Ok line ∷ frames) text run = grows_then old run.2 new (run.3).setup (setup_only_grows run.2 new frames run.1 run.5)
+setup_only_grows old new (Err fault ∷ frames) text run = setup_only_grows old new frames run.0 run.2
+
 pub setup_stays : SetupStays
-setup_stays old new [] text run = record { tree = ap (λ (d : Picture). d.tree) run.1; owned = ap (λ (d : Picture). map owned_spans d.spaces) run.1 }
-setup_stays old new (Ok line ∷ frames) text run =
-    let rest = setup_stays run.2 new frames run.1 run.5 in
-    let first = (run.3).setup in
+setup_stays old new [] text run none = record { tree = ap (λ (d : Picture). d.tree) run.1; owned = ap (λ (d : Picture). map owned_spans d.spaces) run.1 }
+setup_stays old new (Ok line ∷ frames) text run none =
+    let rest = setup_stays run.2 new frames run.1 run.5 none.1 in
+    let first = (run.3).stays none.0 in
     record { tree = rest.tree ∙ first.tree; owned = rest.owned ∙ first.owned }
-setup_stays old new (Err fault ∷ frames) text run = setup_stays old new frames run.0 run.2
+setup_stays old new (Err fault ∷ frames) text run none = setup_stays old new frames run.0 run.2 none.1
 
 pub units_have_one_home : UnitsHaveOneHome
 units_have_one_home d is k s at u = unit_adds_up d.spaces (held_outside d) is.held.units k s at u

@@ -1,4 +1,5 @@
 pub mod Numbers
+pub mod Spans
 pub mod Homes
 pub mod Repeats
 pub mod Naming
@@ -16,6 +17,7 @@ pub mod FreshCpus
 pub mod CachedSizes
 pub mod Fewer
 pub mod NoRoom
+pub mod Growing
 pub mod Ruling
 pub mod Stepping
 pub mod Settling

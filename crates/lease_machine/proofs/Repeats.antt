@@ -34,7 +34,7 @@ use Rattle.lease_machine.specs.Operators.{Performs, LeavesOff, OperatorStep}
 use Rattle.lease_machine.specs.Machine.{RequestStep, NewRequest, Sweeps, HelloStep, ClientStep, AnswersLine, LeaseStep}
 use Rattle.lease_machine.specs.Laws.{Runs}
 use Rattle.lease_machine.specs.AnswerLaws.{reply_bytes, IsKept, IsRequestLine, AreOfOthers, LinesRepeat}
-use Rattle.lease_machine.proofs.Homes.{pictures_stay, setup_stays}
+use Rattle.lease_machine.proofs.Homes.{pictures_stay, setup_only_grows}
 use Rattle.lease_machine.proofs.Numbers.{not_gap, not_stale, settled_found, some_window}
 
 -- this is kept of the number
@@ -250,6 +250,10 @@ does_keep (operator.Resize m) old new text does = elim does [
   | inr (inl size) ↦ ap (λ (d : Picture). d.book) size.6
   | inr (inr rose) ↦ ap (λ (d : Picture). d.book) rose.6
 ]
+does_keep (operator.Grow g) old new text does = elim does.2 [
+  | inl none ↦ ap (λ (d : Picture). d.book) none.3
+  | inr some ↦ ap (λ (d : Picture). d.book) some.3.1
+]
 does_keep operator.Reap old new text does = ap (λ (d : Picture). d.book) does.2.parts
 does_keep operator.Audit old new text does = ap (λ (d : Picture). d.book) does.1
 does_keep operator.Clients old new text does = ap (λ (d : Picture). d.book) does.1
@@ -259,6 +263,7 @@ leaves_keep (operator.Cpu n) old new left = ap (λ (d : Picture). d.book) left.1
 leaves_keep (operator.Offline n) old new left = ap (λ (d : Picture). d.book) left.1
 leaves_keep operator.Tick old new left = absurd left
 leaves_keep (operator.Resize m) old new left = absurd left
+leaves_keep (operator.Grow g) old new left = absurd left
 leaves_keep operator.Reap old new left = ap (λ (d : Picture). d.book) left.1.parts
 leaves_keep operator.Audit old new left = ap (λ (d : Picture). d.book) left
 leaves_keep operator.Clients old new left = ap (λ (d : Picture). d.book) left
@@ -313,7 +318,7 @@ lines_repeat old mid late new id op again line text between repeat bytes frames 
           let still = still_kept id was.0 mid.book late.book (run_keeps id.client frames mid late between first.picture others run) was.1 in
           let late_is = pictures_stay mid late frames between first.picture run in
           let two = request_again late new (history_of late late_is) id again was.0 b.0 still b.2 in
-          let tree : late.tree ≡ old.tree = (setup_stays mid late frames between run).tree ∙ first.setup.tree in
+          let tree : late.tree ≡ old.tree = (setup_only_grows mid late frames between run).tree ∙ first.setup.tree in
           let same : b.0 ≡ a.0 = two.0 ∙ ap (λ (xs : List TreeArena). reply_to (arena_named xs) id was.0.reply) tree ∙ sym was.2 in
           inl (b.1 ∙ ap reply_bytes same ∙ sym a.1, two.1)
     ]

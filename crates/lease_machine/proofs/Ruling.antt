@@ -28,12 +28,13 @@ use Rattle.local_calls.specs.NoFits.{HasBase}
 use Rattle.lease_proto.specs.Operators.{served_of}
 use Rattle.lease_proto.specs.Requests.{demand_of}
 use Rattle.lease_machine.specs.Serving.{CanServe}
-use Rattle.lease_machine.specs.Machine.{NewLease, NewRelease, NewRequest, RefusesLease, RefusesRelease, RequestStep, HelloStep, SettlesRefusal}
+use Rattle.lease_machine.specs.Machine.{NewLease, NewRelease, NewRequest, RefusesLease, RefusesRelease, HelloStep, SettlesRefusal}
 use Rattle.lease_machine.specs.AnswerLaws.{IsKept}
 use Rattle.lease_machine.specs.LeaseLaws.{grant_told}
 use Rattle.lease_machine.specs.RoomLaws.{HasRun}
 use Rattle.lease_machine.specs.Rules.{NothingServes, WhyNoLease, LeaseRule, ReleaseRule, RequestRule, HelloRule, IsReplyKept, StepsKeepRules, RunsKeepRules}
 use Rattle.lease_machine.proofs.Homes.{leases_are_apart, units_have_one_home}
+use Rattle.lease_machine.proofs.Growing.{grows_add_free}
 use Rattle.lease_machine.proofs.Repeats.{history_of, request_answer, new_kept, operator_keeps, answer_keeps}
 use Rattle.lease_machine.proofs.Fitting.{not_known}
 use Rattle.lease_machine.proofs.Rooms.{run_serves, base_serves}
@@ -162,7 +163,9 @@ steps_keep_rules old new line text is step = record {
   others = λ c apart. answer_keeps c (served_of line) apart old new text (history_of old is) step.answer;
   apart = leases_are_apart new step.picture;
   homes = units_have_one_home new step.picture;
+  grow = λ g read. grows_add_free old new g line text is read step;
   setup = step.setup;
+  stays = step.stays;
   picture = step.picture;
 }
 

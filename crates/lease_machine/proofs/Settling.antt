@@ -26,6 +26,7 @@ use Rattle.lease_machine.specs.StepLaws.{RefusesStill, RefusalsAreAnswered}
 use Rattle.lease_machine.proofs.BookMoves.{same_leases}
 use Rattle.lease_machine.proofs.Naming.{line_is}
 use Rattle.lease_machine.proofs.Numbers.{new_outcome, new_within}
+use Rattle.lease_machine.proofs.Spans.{same_grows}
 
 map_same : (f g : ℕ → Account) (xs : List ℕ) → ((x : ℕ) → f x ≡ g x) → map f xs ≡ map g xs
 map_same f g [] each = refl
@@ -135,7 +136,8 @@ refusals_are_answered d line id op why is read fresh still =
       refl,
       record {
         answer = subst (λ (y : Result ServedLine LineFault). AnswersLine d y (reply_bytes (refusal_to id why)) new) (sym read) (refusal_to id why, refl, inr (fresh, does));
-        setup = record { tree = refl; owned = refl };
+        setup = same_grows d new (record { tree = refl; owned = refl });
+        stays = λ none. record { tree = refl; owned = refl };
         picture = picture d is id in_range fresh why;
       },
     )

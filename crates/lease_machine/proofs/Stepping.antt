@@ -22,6 +22,7 @@ use Rattle.lease_machine.specs.RoomLaws.{refusal_to}
 use Rattle.lease_machine.specs.AnswerLaws.{reply_bytes}
 use Rattle.lease_machine.specs.StepLaws.{FaultsAreAnswered, KnownAreAnswered, OldHellosAreAnswered, AuditsAreAnswered, ClientsAreTold, CpusAreSelected, ResizesAreAnswered, ReleasesAreSettled}
 use Rattle.lease_machine.proofs.FreshCpus.{selected_is_picture}
+use Rattle.lease_machine.proofs.Spans.{same_grows, grows_none}
 use Rattle.lease_machine.proofs.Fitting.{not_known}
 use Rattle.lease_machine.proofs.Repeats.{request_answer}
 use Rattle.lease_machine.proofs.Resizing.{resizes_keep}
@@ -31,7 +32,8 @@ module _ (d : Picture) (is : IsPicture d) (line : List ℕ) (x : Result ServedLi
   stays : (text : List ℕ) → AnswersLine d x text d → LeaseStep d line text d
   stays text answer = record {
     answer = subst (λ (y : Result ServedLine LineFault). AnswersLine d y text d) (sym read) answer;
-    setup = record { tree = refl; owned = refl };
+    setup = grows_none d d refl;
+    stays = λ none. record { tree = refl; owned = refl };
     picture = is;
   }
 
@@ -57,7 +59,8 @@ cpus_are_selected d line n is in_range read =
     let new : Picture = record d { cpus = with_cpu n d; selected = n } in
     record {
       answer = subst (λ (y : Result ServedLine LineFault). AnswersLine d y ok_text new) (sym read) (inl (refl, refl));
-      setup = record { tree = refl; owned = refl };
+      setup = same_grows d new (record { tree = refl; owned = refl });
+      stays = λ none. record { tree = refl; owned = refl };
       picture = selected_is_picture d n is in_range;
     }
 
@@ -66,7 +69,8 @@ resizes_are_answered d new line text r is read resizes =
     let kept = resizes_keep d new r text is resizes in
     record {
       answer = subst (λ (y : Result ServedLine LineFault). AnswersLine d y text new) (sym read) (inl resizes);
-      setup = kept.1;
+      setup = same_grows d new kept.1;
+      stays = λ none. kept.1;
       picture = kept.0;
     }
 

@@ -16,10 +16,11 @@ use Rattle.lease_proto.specs.declared.faults.LineFault.{LineFault}
 use Rattle.lease_proto.specs.declared.operators.ServedLine.{ServedLine}
 use Rattle.lease_proto.specs.Cpus.{IsCpu}
 use Rattle.lease_proto.specs.Reports.{ok_text}
-use Rattle.lease_machine.specs.Picture.{Picture, IsPicture, IsShapedIn, held_outside, owned_spans}
+use Rattle.lease_machine.specs.Picture.{Picture, IsPicture, IsShapedIn, SameSetup, held_outside, owned_spans}
 use Rattle.lease_machine.specs.Operators.{with_depot_by, with_depots_by}
 use Rattle.lease_machine.specs.Machine.{AnswersLine}
 use Rattle.lease_machine.specs.StepLaws.{TicksAreAnswered, TicksKeep}
+use Rattle.lease_machine.proofs.Spans.{same_grows}
 
 pub sums_same : {X : Type 0} (h : X → X) (g : X → ℕ) → ((x : X) → g (h x) ≡ g x) → (xs : List X) → sum_by g (map h xs) ≡ sum_by g xs
 sums_same h g same [] = refl
@@ -123,12 +124,16 @@ module _ (d : Picture) (is : IsPicture d) where
     book = is.book;
   }
 
+setup_stays : (d : Picture) → SameSetup d (record d { spaces = map ticked d.spaces })
+setup_stays d = record { tree = refl; owned = maps_same ticked owned_spans (λ s. refl) d.spaces }
+
 pub ticks_keep : TicksKeep
-ticks_keep d is = (picture_stays d is, record { tree = refl; owned = maps_same ticked owned_spans (λ s. refl) d.spaces })
+ticks_keep d is = (picture_stays d is, setup_stays d)
 
 pub ticks_are_answered : TicksAreAnswered
 ticks_are_answered d line is read = record {
   answer = subst (λ (y : Result ServedLine LineFault). AnswersLine d y ok_text (after d is)) (sym read) (inl (refl, refl));
-  setup = record { tree = refl; owned = maps_same ticked owned_spans (λ s. refl) d.spaces };
+  setup = same_grows d (after d is) (setup_stays d);
+  stays = λ none. setup_stays d;
   picture = picture_stays d is;
 }

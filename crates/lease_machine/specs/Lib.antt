@@ -10,6 +10,7 @@ pub mod AnswerLaws
 pub mod LeaseLaws
 pub mod GrantLaws
 pub mod RoomLaws
+pub mod GrowLaws
 pub mod EmptyingLaws
 pub mod CpuLaws
 pub mod CacheLaws

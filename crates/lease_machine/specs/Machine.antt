@@ -19,6 +19,8 @@ use Rattle.lease_proto.specs.declared.lines.Op.TheVariants as ops
 use Rattle.lease_proto.specs.declared.lines.HelloLine.{HelloLine}
 use Rattle.lease_proto.specs.declared.lines.LeaseLine.{LeaseLine}
 use Rattle.lease_proto.specs.declared.lines.ReleaseLine.{ReleaseLine}
+use Rattle.lease_proto.specs.declared.operators.GrowLine.{GrowLine}
+use Rattle.lease_proto.specs.declared.operators.OperatorLine.TheVariants as operator
 use Rattle.lease_proto.specs.declared.operators.ServedLine.{ServedLine}
 use Rattle.lease_proto.specs.declared.operators.ServedLine.TheVariants as served
 use Rattle.lease_proto.specs.declared.replies.Reply.{Reply}
@@ -37,7 +39,8 @@ use Rattle.lease_book.specs.Answers.{IsNew}
 use Rattle.lease_book.specs.Calls.{IsGranted, IsRefused, IsReleased, IsSwept}
 use Rattle.lease_book.specs.declared.books.TheConstants.{MOST_LEASES}
 use Rattle.lease_history.specs.Told.{IsKnownReply, reply_of_settled}
-use Rattle.lease_machine.specs.Picture.{Picture, IsPicture, SameSetup, BookAlone, Finds}
+use Rattle.lease_machine.specs.Picture.{Picture, IsPicture, SameSetup, SetupGrows, BookAlone}
+use Rattle.lease_machine.specs.Picture.{Finds}
 use Rattle.arena_tree.specs.Trees.{arena_named}
 use Rattle.lease_machine.specs.Moves.{SameNames}
 use Rattle.lease_machine.specs.Chunks.{GoesBack}
@@ -193,8 +196,14 @@ abbrev pub AnswersLine : Picture → Result ServedLine LineFault → List ℕ �
 AnswersLine old (Ok line) text new = ServedStep line old text new
 AnswersLine old (Err fault) text new = (text ≡ error_line fault) × (new ≡ old)
 
--- one line, and what holds after it
+-- the bytes are a grow
+abbrev pub IsGrow : Result ServedLine LineFault → Type 0
+IsGrow line = (g : GrowLine) × (line ≡ Ok (served.Operator (operator.Grow g)))
+
+-- one line, and what holds after it: each arena owns the spans that it owned, and only a grow adds
+-- one
 pub record LeaseStep (old : Picture) (line text : List ℕ) (new : Picture) : Type 0 where
   pub answer : AnswersLine old (served_of line) text new
-  pub setup : SameSetup old new
+  pub setup : SetupGrows old new
+  pub stays : ¬ IsGrow (served_of line) → SameSetup old new
   pub picture : IsPicture new

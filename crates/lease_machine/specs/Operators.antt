@@ -2,29 +2,35 @@
 use Rattle.std.specs.Prelude.{◌≡◌, ◌≢◌, ◌⊎◌, ℕ, ◌+◌, ◌-◌, ◌<◌, ◌==◌, ◌&&◌, not, Bool, false}
 use Rattle.std.specs.Prelude.{List, [], ◌∷◌, ◌++◌, All, Any, map, filter, take, drop, set, length}
 use Rattle.std.specs.Prelude.{nat_lt, nat_le, if◌then◌else◌, sum_by, count_by, slice_get}
-use Rattle.std.specs.Prelude.{Some, None}
+use Rattle.std.specs.Prelude.{Some, None, Result}
 use Rattle.std.specs.List.{find, flat_map, list_any}
-use Rattle.deed_core.specs.Extent.{end_of}
+use Rattle.deed_core.specs.Extent.{Extent, end_of}
 use Rattle.deed_core.specs.Tag.{Tag}
 use Rattle.slab_layer.specs.Slab.{SlabState, IsComplete, idle_count}
 use Rattle.slab_layer.specs.Cache.{SlabCacheState, span_tag}
 use Rattle.magazine_layer.specs.Depots.{DepotState, CanReap, after_tick, after_resize, all_rounds}
+use Rattle.arena_tree.specs.declared.part_faults.GrowFault.{GrowFault}
 use Rattle.arena_tree.specs.declared.trees.TreeArena.{TreeArena}
 use Rattle.arena_tree.specs.Trees.{index_in}
 use Rattle.stock.specs.Spaces.{SpaceState, QuantumCacheState, with_caches}
 use Rattle.stock.specs.Spaces.{with_depot}
+use Rattle.stock.specs.Growing.{GrowsBy}
 use Rattle.stock.specs.Sums.{Sums}
 use Rattle.stock_audit.specs.Audits.{sums_of_arena}
 use Rattle.lease_book.specs.Reports.{report_of}
 use Rattle.lease_book.specs.declared.reports.ClientReport.{ClientReport}
+use Rattle.lease_proto.specs.declared.faults.ErrorWord.{ErrorWord}
 use Rattle.lease_proto.specs.declared.faults.ErrorWord.TheVariants.{Memory, NoArena, Size}
+use Rattle.lease_proto.specs.declared.operators.GrowLine.{GrowLine}
 use Rattle.lease_proto.specs.declared.operators.OperatorLine.{OperatorLine}
 use Rattle.lease_proto.specs.declared.operators.OperatorLine.TheVariants as operator
 use Rattle.lease_proto.specs.declared.reports.AuditLine.{AuditLine}
 use Rattle.lease_proto.specs.declared.reports.ClientLine.{ClientLine}
 use Rattle.lease_proto.specs.Faults.{error_text}
 use Rattle.lease_proto.specs.Operators.{rounds_named}
+use Rattle.lease_call.specs.Growing.{TellsGrowth}
 use Rattle.lease_proto.specs.Reports.{audit_text, client_text, reaped_text, ok_text}
+use Rattle.lease_proto.specs.Reports.{outcome_text}
 use Rattle.lease_machine.specs.Picture.{NumberedCpu, Picture, is_cpu, fresh_cpu, held_outside}
 use Rattle.lease_machine.specs.Moves.{ArenasStay, ReturnAll, arenas_with, outline_of}
 use Rattle.lease_machine.specs.Moves.{outlines_of}
@@ -73,6 +79,17 @@ Resizes name m old text new =
     ⊎ ((index : ℕ) × (s : SpaceState) × (index_in name old.tree ≡ Some index)
     × (slice_get old.spaces index ≡ Some s) × HasSmaller m s × (text ≡ ok_text)
     × (new ≡ record old { spaces = set old.spaces index (with_depots_by (after_rise m) s) }))
+
+-- the root at the index grew by the range, or why it didn't, and nothing else changed
+abbrev pub GrowsAt : Picture → ℕ → Extent → Result (Unit {0}) GrowFault → Picture → Type 0
+GrowsAt old index range grown new =
+    GrowsBy index range grown old.spaces new.spaces × (new ≡ record old { spaces = new.spaces })
+
+-- no root has the name, or the numbers are no range; or the root grew by the range, or why it
+-- didn't
+abbrev pub Grows : GrowLine → Picture → List ℕ → Picture → Type 0
+Grows g old text new = (told : Result (Unit {0}) ErrorWord) × (text ≡ outcome_text told)
+    × TellsGrowth GrowsAt old.tree g old told new
 
 -- where the units of the arena are
 abbrev pub sums_in : Picture → SpaceState → Sums
@@ -195,6 +212,7 @@ Performs (operator.Offline n) old text new = (text ≡ ok_text) × GoesOffline n
 Performs operator.Tick old text new =
     (text ≡ ok_text) × (new ≡ record old { spaces = map (with_depots_by after_tick) old.spaces })
 Performs (operator.Resize r) old text new = Resizes r.arena (rounds_named r.size) old text new
+Performs (operator.Grow g) old text new = Grows g old text new
 Performs operator.Reap old text new =
     (units : ℕ) × (text ≡ reaped_text (record { units = units })) × ReapsAll units old new
 Performs operator.Audit old text new = (text ≡ audit_texts_of old old.tree old.spaces) × (new ≡ old)
@@ -209,6 +227,7 @@ LeavesOff (operator.Cpu n) old new = (list_any (is_cpu n) old.cpus ≡ false) ×
 LeavesOff (operator.Offline n) old new = (find (is_cpu n) old.cpus ≢ None) × (new ≡ old)
 LeavesOff operator.Tick old new = ⊥
 LeavesOff (operator.Resize r) old new = ⊥
+LeavesOff (operator.Grow g) old new = ⊥
 LeavesOff operator.Reap old new = (units : ℕ) × ReapsAll units old new
 LeavesOff operator.Audit old new = new ≡ old
 LeavesOff operator.Clients old new = new ≡ old

@@ -1,6 +1,6 @@
 -- What is seen of a service of leases between two lines, when nothing is in a hand.
-use Rattle.std.specs.Prelude.{◌≡◌, ◌≢◌, ℕ, ◌≤◌, ◌==◌, Bool, List, [], All, AllPairs}
-use Rattle.std.specs.Prelude.{map, slice_get, Some, None}
+use Rattle.std.specs.Prelude.{◌≡◌, ◌≢◌, ℕ, ◌≤◌, ◌==◌, Bool, List, [], ◌++◌, All, AllPairs}
+use Rattle.std.specs.Prelude.{map, length, slice_get, Some, None}
 use Rattle.std.specs.List.{find, flat_map, AllByRecursion}
 use Rattle.deed_core.specs.Holding.{Holding}
 use Rattle.deed_core.specs.Tag.{Tag}
@@ -105,6 +105,17 @@ owned_spans s = s.arena.owned
 pub record SameSetup (old new : Picture) : Type 0 where
   pub tree : new.tree ≡ old.tree
   pub owned : map owned_spans new.spaces ≡ map owned_spans old.spaces
+
+-- the spans are those that there were, and maybe more behind them
+abbrev pub GoOn : List Holding → List Holding → Type 0
+GoOn old new = (more : List Holding) × (new ≡ old ++ more)
+
+-- the arenas are those that were set up, with the spans that they owned, and maybe more behind them
+pub record SetupGrows (old new : Picture) : Type 0 where
+  pub tree : new.tree ≡ old.tree
+  pub count : length new.spaces ≡ length old.spaces
+  pub owned : (k : ℕ) (s : SpaceState) → slice_get old.spaces k ≡ Some s → (t : SpaceState)
+      × (slice_get new.spaces k ≡ Some t) × GoOn s.arena.owned t.arena.owned
 
 -- at most the book changed
 abbrev pub BookAlone : Picture → Picture → Type 0

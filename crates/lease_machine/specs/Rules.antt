@@ -20,7 +20,9 @@ use Rattle.lease_proto.specs.declared.lines.LeaseLine.{LeaseLine}
 use Rattle.lease_proto.specs.declared.lines.ReleaseLine.{ReleaseLine}
 use Rattle.lease_proto.specs.declared.lines.Op.{Op}
 use Rattle.lease_proto.specs.declared.lines.Op.TheVariants as ops
+use Rattle.lease_proto.specs.declared.operators.GrowLine.{GrowLine}
 use Rattle.lease_proto.specs.declared.operators.OperatorLine.{OperatorLine}
+use Rattle.lease_proto.specs.declared.operators.OperatorLine.TheVariants as operators
 use Rattle.lease_proto.specs.declared.operators.ServedLine.TheVariants as served
 use Rattle.lease_proto.specs.declared.replies.Granted.{Granted}
 use Rattle.lease_proto.specs.declared.replies.Reply.{Reply}
@@ -39,15 +41,17 @@ use Rattle.lease_book.specs.Answers.{IsNew}
 use Rattle.lease_book.specs.declared.books.TheConstants.{MOST_LEASES}
 use Rattle.lease_history.specs.Told.{reply_to, IsKnownReply}
 use Rattle.lease_proto.specs.Serving.{ServesLines}
-use Rattle.lease_machine.specs.Picture.{Picture, IsPicture, Finds, SameSetup}
+use Rattle.lease_machine.specs.Picture.{Picture, IsPicture, Finds, SameSetup, SetupGrows}
 use Rattle.arena_tree.specs.Trees.{arena_named}
 use Rattle.lease_machine.specs.Serving.{CanServe}
 use Rattle.lease_machine.specs.Operators.{OperatorStep}
-use Rattle.lease_machine.specs.Machine.{LeaseStep, TakesDemand, RefusesRelease, TakesMemory}
+use Rattle.lease_machine.specs.Machine.{LeaseStep, IsGrow, TakesDemand, RefusesRelease}
+use Rattle.lease_machine.specs.Machine.{TakesMemory}
 use Rattle.lease_machine.specs.Laws.{Runs, UnitsAtHome}
 use Rattle.lease_machine.specs.AnswerLaws.{reply_bytes, IsKept, IsRequestLine, WasReachable}
 use Rattle.lease_machine.specs.LeaseLaws.{leases_in, LeasesStay, LeasesBecome, LosesLease}
 use Rattle.lease_machine.specs.LeaseLaws.{HelloMoves, grant_told}
+use Rattle.lease_machine.specs.GrowLaws.{AddsFreeOrNone}
 use Rattle.lease_machine.specs.RoomLaws.{HasRun, HasRunUp}
 
 -- `granted`: something served the request, and its client had room for a lease. The units fit what
@@ -166,14 +170,18 @@ pub record KeepsRules (old : Picture) (line text : List ℕ) (new : Picture) : T
   -- an operator's is answered as `OperatorStep` says, and changes nothing of the book
   pub operator : (o : OperatorLine) → served_of line ≡ Ok (served.Operator o)
       → OperatorStep o old text new × (new.book ≡ old.book)
+  -- a grow that is answered `ok` adds its units as free, any other answer to it changes nothing
+  pub grow : (g : GrowLine) → served_of line ≡ Ok (served.Operator (operators.Grow g))
+      → AddsFreeOrNone g old text new
   -- a line changes no other client's incarnation, protocol, numbers, kept replies and leases
   pub others : (c : ℕ) → ((l : Line) → served_of line ≡ Ok (served.Client l) → client_of l ≢ c)
       → account_in c new.book ≡ account_in c old.book
   -- afterwards no two leases overlap whose arenas have one top, each unit is in one home, the
-  -- arenas and their spans are as before, and the rules go on
+  -- arenas own the spans that they owned, to which only a grow adds one, and the rules go on
   pub apart : AllPairs (ApartUpChain new.spaces) (leased_segments new.book)
   pub homes : UnitsAtHome new
-  pub setup : SameSetup old new
+  pub setup : SetupGrows old new
+  pub stays : ¬ IsGrow (served_of line) → SameSetup old new
   pub picture : IsPicture new
 
 -- each step keeps them

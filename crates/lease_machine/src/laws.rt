@@ -6,7 +6,8 @@ ghost use Rattle.lease_machine.specs.CallLaws.{OfflineIsLocal, DrainGoesOffline}
 ghost use Rattle.lease_machine.specs.ReapLaws.{ReapReaps, ReapsNone, ReapingsAdd, CachedUnitsFit};
 ghost use Rattle.lease_machine.specs.CpuLaws.{FreshIsPicture, SelectedIsPicture, FreshCpuFits};
 ghost use Rattle.lease_machine.specs.CacheLaws.{CachedByNumber};
-ghost use Rattle.lease_machine.specs.Laws.{PicturesStay, SetupStays, UnitsHaveOneHome};
+ghost use Rattle.lease_machine.specs.Laws.{PicturesStay, SetupOnlyGrows, SetupStays};
+ghost use Rattle.lease_machine.specs.Laws.{SameSetupGrows, SetupGrowsOn, UnitsHaveOneHome};
 ghost use Rattle.lease_machine.specs.Laws.{LeasesAreApart, AuditTellsLeases, AuditIsWhole};
 ghost use Rattle.lease_machine.specs.Laws.{AuditIsTold};
 ghost use Rattle.lease_machine.specs.AnswerLaws.{LinesRepeat, AnswersAgree, GrantsFit};
@@ -18,6 +19,8 @@ ghost use Rattle.lease_machine.specs.GrantLaws.{GrantsStayApart};
 ghost use Rattle.lease_machine.specs.RoomLaws.{NoFitMeansTaken, NoFitMeansTakenUp};
 ghost use Rattle.lease_machine.specs.RoomLaws.{FreedIsWhole, FirstLeaseIsServed, FewerFitToo};
 ghost use Rattle.lease_machine.specs.RoomLaws.{NeverGrantedAndRefused};
+ghost use Rattle.lease_machine.specs.GrowLaws.{GrowsAddFree, GrownIsServed, GrownStays};
+ghost use Rattle.lease_machine.specs.GrowLaws.{GrowsKeep, GrowsKeepNothing, GrowsAreAnswered};
 ghost use Rattle.lease_machine.specs.EmptyingLaws.{ReapLeavesNone, OfflineHasNoRound};
 ghost use Rattle.lease_machine.specs.EmptyingLaws.{TickAndReapEmpty, AgainMeansRoom};
 ghost use Rattle.lease_machine.specs.StepLaws.{FaultsAreAnswered, KnownAreAnswered};
@@ -34,10 +37,14 @@ pub fn picture_laws()
     ensures cpu { FreshCpuFits }
 {}
 
-/// After any lines each unit is in one home, and no two leases overlap whose arenas have one top.
+/// After any lines each unit is in one home, and no two leases overlap whose arenas have one top; the
+/// arenas own the spans that they owned, and more only by grows.
 pub fn home_laws()
     ensures stay { PicturesStay }
+    ensures grows { SetupOnlyGrows }
     ensures setup { SetupStays }
+    ensures same { SameSetupGrows }
+    ensures on { SetupGrowsOn }
     ensures home { UnitsHaveOneHome }
     ensures apart { LeasesAreApart }
 {}
@@ -105,6 +112,17 @@ pub fn emptying_laws()
 /// Which quantum cache serves a request.
 pub fn cache_laws()
     ensures { CachedByNumber }
+{}
+
+/// A grow that is taken adds its units, all of them free, and changes no lease; any other answer to
+/// it changes nothing. What it added stays, and what fits in it isn't refused for want of room.
+pub fn grow_laws()
+    ensures adds { GrowsAddFree }
+    ensures serves { GrownIsServed }
+    ensures stays { GrownStays }
+    ensures keeps { GrowsKeep }
+    ensures nothing { GrowsKeepNothing }
+    ensures answered { GrowsAreAnswered }
 {}
 
 /// From each picture these lines can be answered so: the machine isn't empty. A new release is

@@ -11,13 +11,14 @@
 //! (`specs/Conversations.antt`).
 //! The other laws say what follows for each picture and for each run of lines (`specs/Laws.antt`,
 //! `specs/LeaseLaws.antt`, `specs/GrantLaws.antt`, `specs/AnswerLaws.antt`, `specs/RoomLaws.antt`,
-//! `specs/EmptyingLaws.antt`), and which lines have an answer in each picture
-//! (`specs/StepLaws.antt`).
+//! `specs/GrowLaws.antt`, `specs/EmptyingLaws.antt`), and which lines have an answer in each
+//! picture (`specs/StepLaws.antt`).
 #![tactic(auto)]
 
 mod laws;
 
 pub use laws::{
     audit_laws, cache_laws, call_laws, conversation_laws, depot_laws, emptying_laws, grant_laws,
-    home_laws, lease_laws, no_fit_laws, picture_laws, reap_laws, repeat_laws, rule_laws, step_laws,
+    grow_laws, home_laws, lease_laws, no_fit_laws, picture_laws, reap_laws, repeat_laws, rule_laws,
+    step_laws,
 };

@@ -195,6 +195,7 @@ moves_leave (events.SwapsFresh by arena cache) cpu w v other from m = own_leaves
 moves_leave (events.Changes by arena cache size) cpu w v other from m = own_leaves cpu w v by arena cache _ other m
 moves_leave (events.Adopts by from) cpu w v other differ (inl m) = hand_adopted_leaves by from cpu w v other differ m
 moves_leave (events.Adopts by from) cpu w v other differ (inr m) = round_adopted_leaves by from cpu w v other differ m
+moves_leave (events.Grows arena range) cpu w v other from m = part_leaves cpu w v _ m
 moves_leave (events.Ticks arena cache) cpu w v other from m = part_leaves cpu w v _ m
 moves_leave (events.Resizes arena cache size) cpu w v other from m = part_leaves cpu w v _ m
 

@@ -48,6 +48,7 @@ moves_keep (events.SwapsFresh cpu arena cache) w v is m = own_move_keeps cpu are
 moves_keep (events.Changes cpu arena cache size) w v is m = own_move_keeps cpu arena cache _ w v is m
 moves_keep (events.Adopts cpu other) w v is (inl m) = hand_adopted_keeps cpu other w v is m
 moves_keep (events.Adopts cpu other) w v is (inr m) = round_adopted_keeps cpu other w v is m
+moves_keep (events.Grows arena range) w v is m = part_move_keeps _ w v is m
 moves_keep (events.Ticks arena cache) w v is m = part_move_keeps _ w v is m
 moves_keep (events.Resizes arena cache size) w v is m = part_move_keeps _ w v is m
 

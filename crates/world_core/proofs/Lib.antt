@@ -20,3 +20,4 @@ mod AdoptLemmas
 mod Having
 mod Draining
 mod GoingHome
+mod GrowLemmas

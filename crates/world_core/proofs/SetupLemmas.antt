@@ -1,8 +1,9 @@
 -- A world that is set up is one.
-use Rattle.std.proofs.Common.{◌≡◌, ◌≢◌, ℕ, Bool, ◌≤◌, ◌^◌, List, [], ◌∷◌, ◌++◌, length, Option, Some, None, refl, sym, subst}
+use Rattle.std.proofs.Common.{◌≡◌, ◌≢◌, ℕ, Bool, ◌≤◌, List, [], ◌∷◌, ◌++◌, length, Option, Some, None, refl, sym, subst}
 use Rattle.std.specs.Prelude.{nat_eq}
 use Rattle.std.specs.List.{IsDistinct}
 use Rattle.deed_core.specs.Tag.{Tag}
+use Rattle.arena_tree.specs.declared.limits.TheConstants.{MOST_ARENAS}
 use Rattle.stock.specs.Spaces.{SpaceState}
 use Rattle.stock.specs.OwnCaches.{OwnCacheState}
 use Rattle.stock.specs.Stocks.{IsStock}
@@ -38,7 +39,7 @@ no_caches = record { owned = refl; order = λ i j cpu o p less mine here yours t
 no_cpus : AreSoManyCpus 0 [] [] []
 no_cpus = record { served = refl; marked = refl; owned = nothing _ }
 
-made : (stock : List SpaceState) (names : List (List ℕ)) (book : BookState) → IsStock stock → Accounts stock [] → length names ≡ length stock → length names ≤ 2 ^ 32 → AreNames names
+made : (stock : List SpaceState) (names : List (List ℕ)) (book : BookState) → IsStock stock → Accounts stock [] → length names ≡ length stock → length names ≤ MOST_ARENAS → AreNames names
     → IsHistory [] book → IsWorld (record { stock = stock; names = names; hands = []; tasks = []; failed = []; owners = []; caches = []; book = book; entries = []; clients = []; requests = []; replies = [] })
 made stock names book sound balances named few apart empty = record {
   parts = subst (λ (accounts : List Account). IsAccountedFor stock (outside (in_hands []) (segments_of_accounts accounts) [])) (sym empty.accounts)
@@ -59,7 +60,7 @@ made stock names book sound balances named few apart empty = record {
 }
 
 pub born : (stock : List SpaceState) (names : List (List ℕ)) (book : BookState) (hands : List (Option Tag)) (tasks : List (Option Task)) (failed : List Bool) (owners : List ℕ) (caches : List OwnCacheState) (log : List Logged) (clients : List ClientState)
-    (requests : List Line) (replies : List Reply) → IsStock stock → Accounts stock [] → length names ≡ length stock → length names ≤ 2 ^ 32 → AreNames names → IsHistory [] book
+    (requests : List Line) (replies : List Reply) → IsStock stock → Accounts stock [] → length names ≡ length stock → length names ≤ MOST_ARENAS → AreNames names → IsHistory [] book
     → hands ≡ [] → tasks ≡ [] → failed ≡ [] → owners ≡ [] → caches ≡ [] → log ≡ [] → clients ≡ [] → requests ≡ [] → replies ≡ []
     → IsWorld (record { stock = stock; names = names; hands = hands; tasks = tasks; failed = failed; owners = owners; caches = caches; book = book; entries = entries_of log; clients = clients; requests = requests; replies = replies })
 born stock names book hands tasks failed owners caches log clients requests replies sound balances named few apart empty h t f o x l c q r =

@@ -6,7 +6,9 @@ use Rattle.deed_core.specs.Request.{Fits, IsGood, plain_of}
 use Rattle.deed_core.specs.declared.requests.Request.{Request}
 use Rattle.deed_core.specs.declared.segments.Route.TheVariants.{Direct}
 use Rattle.tag_arena.specs.ArenaState.{IsChosen}
+use Rattle.tag_arena.specs.Calls.{after_add}
 use Rattle.tag_arena.specs.Outcomes.{WasCarved, WasImported}
+use Rattle.arena_tree.specs.declared.part_faults.GrowFault.TheVariants as growing
 use Rattle.slab_layer.specs.Slab.{IsAllOut, IsComplete}
 use Rattle.slab_layer.specs.Calls.{TakeOf, AddOf, ReapOf}
 use Rattle.magazine_layer.specs.Magazines.{CpuCacheState, IsSize, BothEmpty, BothFull}
@@ -17,6 +19,7 @@ use Rattle.stock.specs.Spaces.{SpaceState, QuantumCacheState, IsCacheAt, HasCach
 use Rattle.stock.specs.OwnCaches.{OwnCacheState}
 use Rattle.stock.specs.Steps.{HasQuantum, OnArena, OnSlab, OnDepot, FreeIn, PutIn, CanImport}
 use Rattle.stock.specs.Steps.{IsTaggedIn, IsOutOf}
+use Rattle.stock.specs.Growing.{CanGrow, OnRoot, RefusesToGrow, next_root}
 use Rattle.lease_terms.specs.Requests.{RequestId}
 use Rattle.lease_terms.specs.declared.refusals.Refusal.{Refusal}
 use Rattle.lease_terms.specs.declared.refusals.Refusal.TheVariants as refusals
@@ -139,8 +142,8 @@ abbrev pub HasSegment : WorldState → ℕ → Type 0
 HasSegment w cpu = ((t : Tag) × HasInHand w cpu (Some t))
     ⊎ ((index : ℕ) × (own : OwnCacheState) × HasRoundAt w cpu index own)
 
--- where an event can be tried: the client is there, or the CPU, its hand, its request and the
--- message are as the event asks
+-- where an event can be tried: the client is there, or the CPU, its hand, its request, the arena
+-- and the message are as the event asks
 abbrev pub IsReady : WorldEvent → WorldState → Type 0
 IsReady (events.Restarts c i p) w = c < length w.clients
 IsReady (events.Says c op) w = c < length w.clients
@@ -179,6 +182,7 @@ IsReady (events.SwapsFresh cpu arena cache) w = HasOwn w cpu arena cache BothFul
 IsReady (events.Changes cpu arena cache size) w = HasDepot w cpu arena cache (CanGrowTo size)
 IsReady (events.Adopts cpu other) w = (cpu ≢ other) × (other < length w.failed)
     × HasInHand w cpu None × HasSegment w other
+IsReady (events.Grows arena range) w = OnRoot arena (λ a. Unit {0}) w.stock
 IsReady (events.Ticks arena cache) w = HasCache w.stock arena cache
 IsReady (events.Resizes arena cache size) w = HasCache w.stock arena cache × IsSize size
 
@@ -194,6 +198,7 @@ IsEnabled (events.Carves cpu arena q) w = HasInHand w cpu None × (s : SpaceStat
     × (slice_get w.stock arena ≡ Some s) × CanCarve s q
 IsEnabled (events.SlabAdds cpu arena cache) w = (span : Tag) × (c : QuantumCacheState)
     × HasSpanFor w cpu arena cache span c × (span.holding.range.len ≡ c.slab.slab_size)
+IsEnabled (events.Grows arena range) w = OnRoot arena (λ a. CanGrow a range) w.stock
 IsEnabled (events.Resizes arena cache size) w = (c : QuantumCacheState)
     × IsCacheAt w.stock arena cache c × IsSize size × (c.depot.size < size)
 IsEnabled (events.SwapsFull cpu arena cache) w = HasDepot w cpu arena cache
@@ -225,6 +230,12 @@ RefusesEvent (events.Carves cpu arena q) faults.NoFit w = HasInHand w cpu None �
 RefusesEvent (events.SlabAdds cpu arena cache) faults.WrongSize w = (span : Tag)
     × (c : QuantumCacheState) × HasSpanFor w cpu arena cache span c
     × (span.holding.range.len ≢ c.slab.slab_size)
+RefusesEvent (events.Grows arena range) faults.Overlaps w =
+    RefusesToGrow arena range growing.Overlaps w.stock
+RefusesEvent (events.Grows arena range) faults.NotAligned w =
+    RefusesToGrow arena range growing.NotAligned w.stock
+RefusesEvent (events.Grows arena range) faults.TooMany w =
+    RefusesToGrow arena range growing.TooMany w.stock
 RefusesEvent (events.Resizes arena cache size) faults.NotGreater w = (c : QuantumCacheState)
     × IsCacheAt w.stock arena cache c × IsSize size × (size ≤ c.depot.size)
 RefusesEvent (events.SwapsFull cpu arena cache) faults.OldSize w =
@@ -318,6 +329,8 @@ MovesBy (events.Changes cpu arena cache size) old new = OwnMoves cpu arena cache
     (λ c x s v. (x ≡ after_change size c) × (v ≡ s)) old new
 MovesBy (events.Adopts cpu other) old new =
     HandAdopted cpu other old new ⊎ RoundAdopted cpu other old new
+MovesBy (events.Grows arena range) old new = PartMoves
+    (OnArena arena (λ a b. b ≡ after_add a (next_root arena a range))) old new
 MovesBy (events.Ticks arena cache) old new =
     PartMoves (OnDepot arena cache (λ a b. b ≡ after_tick a)) old new
 MovesBy (events.Resizes arena cache size) old new =

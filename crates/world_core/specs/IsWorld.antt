@@ -1,9 +1,10 @@
 -- What every world is.
-use Rattle.std.specs.Prelude.{◌≡◌, ◌⊎◌, ℕ, ◌<◌, ◌≤◌, ◌^◌, nat_eq, List, length, map, slice_get}
+use Rattle.std.specs.Prelude.{◌≡◌, ◌⊎◌, ℕ, ◌<◌, ◌≤◌, nat_eq, List, length, map, slice_get}
 use Rattle.std.specs.Prelude.{Bool}
 use Rattle.std.specs.Prelude.{Option, Some, None}
 use Rattle.std.specs.List.{IsDistinct}
 use Rattle.deed_core.specs.Tag.{Tag}
+use Rattle.arena_tree.specs.declared.limits.TheConstants.{MOST_ARENAS}
 use Rattle.stock.specs.Spaces.{SpaceState}
 use Rattle.stock_audit.specs.Accounted.{IsAccountedFor}
 use Rattle.stock.specs.Steps.{HasQuantum}
@@ -86,7 +87,7 @@ pub record AreSoManyCpus (count : ℕ) (tasks : List (Option Task)) (failed : Li
 pub record IsWorld (w : WorldState) : Type 0 where
   pub parts : IsAccountedFor w.stock (outside_of w)
   pub named : length w.names ≡ length w.stock
-  pub few : length w.names ≤ 2 ^ 32
+  pub few : length w.names ≤ MOST_ARENAS
   pub names : AreNames w.names
   pub book : IsHistory w.entries w.book
   pub due : Each (IsDue w.stock w.names w.requests) w.entries

@@ -5,3 +5,4 @@ pub mod Events
 pub mod Safe
 pub mod Drains
 pub mod Setups
+pub mod Growing

@@ -45,7 +45,7 @@ own_owners (suc cpus) arenas =
 -- serve, none of them failed, each with own caches for all quantum caches; a book to which nothing
 -- happened; and no client and no message
 pub record IsNewWorld (setup : SetupState) (cpus : ℕ) (w : WorldState) : Type 0 where
-  pub stock : IsSetUpFrom setup (numbered_deeds 0 setup.spans) 3 w.stock
+  pub stock : IsSetUpFrom setup (numbered_deeds setup.spans) 3 w.stock
   pub names : w.names ≡ map (λ x. x.name) setup.arenas
   pub hands : w.hands ≡ replicate cpus None
   pub tasks : w.tasks ≡ replicate cpus None

@@ -2,7 +2,7 @@
 ghost use Rattle.std.specs.Prelude.{◌≡◌};
 ghost use Rattle.world_core.specs.Events.{cpu_of};
 
-use deed_core::Request;
+use deed_core::{Range, Request};
 use lease_proto::Op;
 use lease_terms::{ClientId, Protocol, Refusal};
 
@@ -21,8 +21,8 @@ pub enum WorldEvent {
         client: usize,
         op: Op,
     },
-    /// A client sends a line again that is outstanding: the request with this number, or, where none
-    /// is named, the first one. A hello is outstanding alone.
+    /// A client sends a line again that is outstanding: the request with this number, or, where
+    /// none is named, the first one. A hello is outstanding alone.
     Repeats {
         client: usize,
         number: Option<u64>,
@@ -150,6 +150,12 @@ pub enum WorldEvent {
         cpu: usize,
         other: usize,
     },
+    /// An arena that doesn't import gets this range as a further span, a root of its own, whatever
+    /// is out.
+    Grows {
+        arena: usize,
+        range: Range,
+    },
     /// An interval begins in a depot.
     Ticks {
         arena: usize,
@@ -183,6 +189,12 @@ pub enum EventFault {
     BadRequest,
     /// No free range of the arena serves the request.
     NoFit,
+    /// The range overlaps a span of the arena.
+    Overlaps,
+    /// The range isn't in whole quanta of the arena.
+    NotAligned,
+    /// The arena owns `MOST_SPANS` spans.
+    TooMany,
     /// The segment hasn't the length of the cache's slabs.
     WrongSize,
     /// The CPU's magazines are of another size than the depot's.
@@ -198,7 +210,8 @@ pub enum EventFault {
 pub enum Outcome {
     /// Its move was made.
     Done,
-    /// A client, a CPU, its hand, its request or a message isn't as the event asks.
+    /// A client, a CPU, its hand, its request, an arena, a cache or a message isn't as the event
+    /// asks.
     NotEnabled,
     /// The part that it asks refuses it.
     Refused(EventFault),

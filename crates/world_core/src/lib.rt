@@ -18,7 +18,8 @@
 //! where it can happen, why its part refuses it, and what may become of a world at it;
 //! `specs/Moves.antt` has the moves. A CPU that another adopts from has failed: it has no further
 //! events, and what it had goes to others, one segment an event, until it has nothing
-//! (`specs/Drains.antt`). What holds of every list of events holds from any world that is one.
+//! (`specs/Drains.antt`). An arena that doesn't import may grow between any two events. What holds
+//! of every list of events holds from any world that is one.
 //!
 //! What it costs: a world keeps each line, reply and entry of the book for good. An event takes the
 //! time of its part's call, and a release looks the name of its arena up among all names.
@@ -32,6 +33,7 @@ mod closings;
 mod cpu_caches;
 mod depots;
 mod events;
+mod growing;
 mod hands;
 mod laws;
 mod logs;

@@ -15,7 +15,7 @@ ghost use Rattle.world_core.specs.Events.{IsIdle, EndsAs, HappensAs};
 use crate::events::{Outcome, WorldEvent};
 use crate::logs::Logged;
 use crate::tasks::Task;
-use deed_core::{Deed, Segment};
+use deed_core::{Deed, Numbered, Segment};
 use lease_book::Book;
 use lease_client::Client;
 use lease_proto::{LeaseLine, Line, Op, ReleaseLine, Reply};
@@ -150,7 +150,9 @@ impl<D: Deed> WorldParts<D> {
     {
         self.stock.quantum(arena)
     }
+}
 
+impl<D: Numbered> WorldParts<D> {
     /// Lets an event happen.
     pub(crate) fn step(&mut self, event: WorldEvent) -> Outcome
         requires world { IsWorld self.old }
@@ -206,6 +208,7 @@ impl<D: Deed> WorldParts<D> {
                 size,
             } => self.change(cpu, arena, cache, size),
             WorldEvent::Adopts { cpu, other } => self.adopt(cpu, other),
+            WorldEvent::Grows { arena, range } => self.grow(arena, range),
             WorldEvent::Ticks { arena, cache } => self.tick(arena, cache),
             WorldEvent::Resizes { arena, cache, size } => self.resize(arena, cache, size),
         }

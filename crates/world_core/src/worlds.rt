@@ -5,7 +5,7 @@ ghost use Rattle.world_core.specs.Safe.{Safe};
 
 use crate::events::{Outcome, WorldEvent};
 use crate::parts::WorldParts;
-use deed_core::Deed;
+use deed_core::{Deed, Numbered};
 use std::alloc::{AllocError, Global};
 use std::marker::Model;
 
@@ -32,7 +32,7 @@ impl<D: Deed> Model for World<D> {
     ghost invariant = { λ w. IsWorld w.parts };
 }
 
-impl<D: Deed> World<D> {
+impl<D: Numbered> World<D> {
     /// Lets an event happen.
     pub fn step(&mut self, event: WorldEvent) -> Outcome
         ensures ended { HappensAs event result self.old self.new }

@@ -1,4 +1,4 @@
-use Rattle.std.proofs.Common.{◌≡◌, ℕ, ◌≤◌, ◌++◌, ◌^◌, List, [], map, replicate, length, Option, None, refl, sym, ap, ◌∙◌, arith}
+use Rattle.std.proofs.Common.{◌≡◌, ℕ, ◌≤◌, ◌++◌, List, [], map, replicate, length, Option, None, refl, sym, ap, ◌∙◌, arith}
 use Rattle.std.proofs.lemmas.List.{length-map, length-replicate}
 use Rattle.deed_core.specs.Tag.{Tag}
 use Rattle.arena_tree.specs.declared.limits.TheConstants.{MOST_ARENAS}
@@ -22,7 +22,7 @@ invariant_of-result c =
     let is : names ≡ map (λ x. x.name) arenas = c.in_ok-names.ensures.value ∙ ap (map (λ (x : TreeArena). x.name)) c.tree.ensures.value in
     let alike : map plan_of stock ≡ map plan_for arenas = c.in-Ok-plain_stock.ensures.set_up.plans in
     let count : length names ≡ length stock = as_many arenas names is ∙ sym (length-map arenas plan_for) ∙ sym (ap length alike) ∙ length-map stock plan_of in
-    let few : length names ≤ 2 ^ 32 = (let f : length arenas ≤ MOST_ARENAS = c.tree.ensures.tree.few in let n : length names ≡ length arenas = as_many arenas names is in omega (arith, f, n)) in
+    let few : length names ≤ MOST_ARENAS = (let f : length arenas ≤ MOST_ARENAS = c.tree.ensures.tree.few in let n : length names ≡ length arenas = as_many arenas names is in omega (arith, f, n)) in
     let w : WorldState = record { stock = stock; names = names; hands = []; tasks = []; failed = []; owners = []; caches = []; book = c.new-2.result; entries = entries_of c.new-3.result.items; clients = c.new-4.result.items; requests = c.new-5.result.items; replies = c.new-6.result.items } in
     let idle : IsWorld w = born stock names c.new-2.result [] [] [] [] [] c.new-3.result.items c.new-4.result.items c.new-5.result.items c.new-6.result.items c.count.ensures.stock c.in-Ok-plain_stock.ensures.nothing_out count few
     (are_names arenas names is c.tree.ensures.tree.names c.in_ok-names.ensures.names) c.new-2.ensures.empty refl refl refl refl refl c.new-3.ensures.items c.new-4.ensures.items c.new-5.ensures.items c.new-6.ensures.items in
