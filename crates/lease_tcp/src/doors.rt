@@ -2,6 +2,7 @@
 
 use crate::pacing::Pace;
 use crate::rolls::Roll;
+use crate::tallies::Counts;
 use std::io;
 use std::net::{TcpListener, TcpStream};
 use std::sync::atomic::{AtomicBool, Ordering};
@@ -16,6 +17,8 @@ pub struct Door<'a> {
     pub pace: Pace,
     /// The connections that are served.
     pub roll: &'a Roll,
+    /// What was asked and answered.
+    pub counts: &'a Counts,
 }
 
 impl Door<'_> {

@@ -8,8 +8,10 @@
 //! `next_open` (arrivals) gives the next connection that is accepted while a door is open, and
 //! `serve_each` serves whatever connections come so, one after another. `worker_loop` (loops) does
 //! so for a worker with those of a `Door` (doors), each through a reader and a writer that wait for
-//! its peer no longer than a `Pace` allows (pacing), and while it stands on a `Roll` (rolls), by
-//! which all can be ended.
+//! its peer no longer than a `Pace` allows (pacing, deadlines), and while it stands on a `Roll`
+//! (rolls), by which all can be ended. A `Counted` worker (counts) has each line and reply counted
+//! once, by the words of specs/Counting.antt, in a `Tally` (tallies): a server has some, so that
+//! threads seldom count in the same.
 //! `SystemWorker` (system_workers) is a worker of a running system, and `accept_loop` its loop.
 //!
 //! `serve_talks` (talks) gives each connection of a `House` (houses) a thread, up to as many as its
@@ -35,6 +37,8 @@
 
 mod arrivals;
 mod connections;
+mod counts;
+mod deadlines;
 mod doors;
 mod houses;
 mod keepers;
@@ -49,16 +53,19 @@ mod shared_workers;
 mod shortages;
 mod system_workers;
 mod talks;
+mod tallies;
 mod workers;
 
 pub use arrivals::{Arrivals, Server, next_open, serve_each};
 pub use connections::serve_connection;
+pub use counts::{Counted, Counter, count_exchange};
+pub use deadlines::{Deadline, Limited, Side};
 pub use doors::Door;
 pub use houses::House;
 pub use keepers::{go_round, keep};
-pub use links::Link;
-pub use loops::{ACCEPT_PAUSE, worker_loop};
-pub use pacing::{Limited, Pace, PacedReader, PacedWriter, Side};
+pub use links::{Link, let_go};
+pub use loops::{ACCEPT_PAUSE, pause, worker_loop};
+pub use pacing::{Pace, PacedReader, PacedWriter};
 pub use replying::ClientLines;
 pub use rolls::{NotEntered, Roll, SharedStream};
 pub use seats::{Seat, new_seats};
@@ -67,4 +74,5 @@ pub use shared_workers::SharedWorker;
 pub use shortages::{Overseer, Shortage};
 pub use system_workers::{REAP_LIMIT, SystemWorker, accept_loop};
 pub use talks::{serve_talks, turn_away};
+pub use tallies::{Counts, LineSums, Tally};
 pub use workers::Worker;

@@ -125,6 +125,6 @@ pub(crate) fn serve_stream<R: Clock, K: Worker>(
 }
 
 /// Waits after a connection that couldn't be accepted.
-pub(crate) fn pause<R: Clock>(rt: &R) {
+pub fn pause<R: Clock>(rt: &R) {
     thread::sleep(rt, Duration::from_millis(ACCEPT_PAUSE));
 }

@@ -1,34 +1,11 @@
 //! A stream whose peer is waited for no longer than it is allowed. Pacing changes no byte: a paced
 //! reader has to give what its stream has, and a paced writer wrote what its stream took.
-ghost use Rattle.std.specs.Prelude.{◌≡◌, ◌<◌, ◌≤◌, IfOk};
-ghost use Rattle.std.specs.Duration.{as_nanos};
+ghost use Rattle.std.specs.Prelude.{◌≡◌};
 
+use crate::deadlines::{Deadline, Limited, Side};
 use std::io;
 use std::io::{ErrorKind, Read, Write};
-use std::net::TcpStream;
 use std::time::{Clock, Duration, Instant};
-
-/// A side of a stream.
-#[derive(Clone, Copy, Debug, PartialEq, Eq)]
-pub enum Side {
-    Reads,
-    Writes,
-}
-
-/// A stream each of whose reads and writes waits no longer than is set.
-pub trait Limited {
-    /// Sets how long a call of this side may wait.
-    fn limit(&self, side: Side, limit: Duration) -> io::Result<()>;
-}
-
-impl Limited for &TcpStream {
-    fn limit(&self, side: Side, limit: Duration) -> io::Result<()> {
-        match side {
-            Side::Reads => self.set_read_timeout(Some(limit)),
-            Side::Writes => self.set_write_timeout(Some(limit)),
-        }
-    }
-}
 
 /// How long a peer is waited for.
 #[derive(Clone, Copy, Debug, PartialEq, Eq)]
@@ -38,6 +15,16 @@ pub struct Pace {
     pub line: Duration,
     /// For it to begin another line.
     pub idle: Duration,
+}
+
+impl Pace {
+    /// When the peer of a line or of an answer that was begun then is waited for no more.
+    fn until(self, since: Instant) -> Deadline {
+        Deadline {
+            since,
+            limit: self.line,
+        }
+    }
 }
 
 /// What a reader waits for.
@@ -83,7 +70,7 @@ impl<S: Read + Limited, C: Clock> Read for PacedReader<'_, S, C> {
     fn read(&mut self, buf: &mut [u8]) -> io::Result<usize> {
         let limit = match self.awaited {
             Awaited::Line => self.pace.idle,
-            Awaited::Rest(since) => left_of(self.clock, since, self.pace.line)?,
+            Awaited::Rest(since) => self.pace.until(since).left(self.clock)?,
             Awaited::Nothing => return Err(io::Error::from(ErrorKind::TimedOut)),
         };
         set_limit(&self.stream, Side::Reads, &mut self.limit, limit)?;
@@ -148,7 +135,7 @@ impl<S: Write + Limited, C: Clock> Write for PacedWriter<'_, S, C> {
                 self.begun = Some(Instant::now(self.clock)?);
                 self.pace.line
             }
-            Some(since) => left_of(self.clock, since, self.pace.line)?,
+            Some(since) => self.pace.until(since).left(self.clock)?,
         };
         set_limit(&self.stream, Side::Writes, &mut self.limit, limit)?;
         self.stream.write(buf)
@@ -172,14 +159,4 @@ fn set_limit<S: Limited>(
         *is = Some(limit);
     }
     Ok(())
-}
-
-/// What is left of a limit; an error where nothing is.
-fn left_of<C: Clock>(clock: &C, since: Instant, limit: Duration) -> io::Result<Duration>
-    ensures { IfOk result (λ left. (0 < as_nanos left) × (as_nanos left ≤ as_nanos limit)) }
-{
-    match limit.checked_sub(since.elapsed(clock)?) {
-        Some(left) if !left.is_zero() => Ok(left),
-        _ => Err(io::Error::from(ErrorKind::TimedOut)),
-    }
 }

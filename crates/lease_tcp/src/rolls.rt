@@ -1,8 +1,9 @@
 //! The connections that are served now, so that an end can reach each of them.
 ghost use Rattle.std.specs.Prelude.{◌≡◌, ◌+◌, ◌<◌, ◌≤◌, ◌↔◌, true, false, OnOk, OnErr, IsErrOf};
-ghost use Rattle.std.specs.Prelude.{None, IfOk};
+ghost use Rattle.std.specs.Prelude.{None, IfOk, ◌-◌, ◌^◌, min};
 ghost use Rattle.slab.specs.Slab.{ContainsKey, Updates, get, slab_len};
 
+use lease_watch::ConnectionCounts;
 use slab::Slab;
 use std::alloc::Global;
 use std::net::{Shutdown, TcpStream};
@@ -36,6 +37,8 @@ struct Rows {
     streams: Slab<SharedStream>,
     most: usize,
     ended: bool,
+    total: u64,
+    refused: u64,
     ghost within: { slab_len streams ≤ most },
 }
 
@@ -54,6 +57,8 @@ impl Roll {
             streams: Slab::new(alloc),
             most,
             ended: false,
+            total: 0,
+            refused: 0,
         };
         Roll {
             rows: Mutex::new(rows),
@@ -83,6 +88,16 @@ impl Roll {
         self.shut(rt, Shutdown::Both);
     }
 
+    /// How many there are, were and were turned away.
+    pub fn counts<R: Wait>(&self, rt: &R) -> ConnectionCounts {
+        let guard = self.rows.lock(rt);
+        ConnectionCounts {
+            served: guard.streams.len() as u64,
+            total: guard.total,
+            refused: guard.refused,
+        }
+    }
+
     /// Lets no further one enter, and shuts each down so.
     fn shut<R: Wait>(&self, rt: &R, how: Shutdown) {
         let mut guard = self.rows.lock(rt);
@@ -110,18 +125,25 @@ impl Rows {
             ↔ ((self.old.ended ≡ false) × (slab_len self.old.streams ≡ self.old.most)) }
         ensures ended { IsErrOf result NotEntered.Ended ↔ (self.old.ended ≡ true) }
         ensures kept { (self.new.most ≡ self.old.most) × (self.new.ended ≡ self.old.ended) }
+        ensures total { OnOk result (self.new.total ≡ min (self.old.total + 1) (2 ^ 64 - 1)) }
+        ensures turned_away { IsErrOf result NotEntered.Full
+            → self.new.refused ≡ min (self.old.refused + 1) (2 ^ 64 - 1) }
     {
         if self.ended {
             return Err(NotEntered::Ended);
         }
         if self.streams.len() >= self.most {
+            self.refused = self.refused.saturating_add(1);
             return Err(NotEntered::Full);
         }
         let Ok(own) = Arc::try_clone(stream) else {
             return Err(NotEntered::Memory);
         };
         match self.streams.insert(own) {
-            Ok(key) => Ok(key),
+            Ok(key) => {
+                self.total = self.total.saturating_add(1);
+                Ok(key)
+            }
             Err(_) => Err(NotEntered::Memory),
         }
     }

@@ -38,12 +38,20 @@ impl<'a, N: Name> SharedCpus<'a, N> {
     /// Takes the first seat from this place on that no one has, else waits for the one of this
     /// place.
     pub(crate) fn take<R: Wait>(&self, rt: &R, place: usize) -> MutexGuard<'a, Seat<N>> {
+        match self.free(place) {
+            Some(guard) => guard,
+            None => self.seats[place % self.seats.len()].lock(rt),
+        }
+    }
+
+    /// Takes the first seat from this place on that no one has.
+    pub(crate) fn free(&self, place: usize) -> Option<MutexGuard<'a, Seat<N>>> {
         let count = self.seats.len();
         for turn in 0..count {
             if let Some(guard) = self.seats[place.wrapping_add(turn) % count].try_lock() {
-                return guard;
+                return Some(guard);
             }
         }
-        self.seats[place % count].lock(rt)
+        None
     }
 }

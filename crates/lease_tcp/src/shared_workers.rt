@@ -2,6 +2,7 @@
 ghost use Rattle.std.specs.Prelude.{◌≡◌};
 
 use crate::shared_cpus::SharedCpus;
+use crate::tallies::Tally;
 use crate::workers::Worker;
 use deed_table::Name;
 use lease_proto::{Line, Reply};
@@ -15,6 +16,7 @@ pub struct SharedWorker<'a, N: Name, R: Wait> {
     rt: &'a R,
     cpus: &'a SharedCpus<'a, N>,
     place: usize,
+    tally: &'a Tally,
 }
 
 impl<'a, N: Name, R: Wait> Model for SharedWorker<'a, N, R> {
@@ -27,11 +29,21 @@ impl<'a, N: Name, R: Wait> Model for SharedWorker<'a, N, R> {
 }
 
 impl<'a, N: Name, R: Wait> SharedWorker<'a, N, R> {
-    /// A worker whose own seat is at this place, counted round.
-    pub fn new(rt: &'a R, cpus: &'a SharedCpus<'a, N>, place: usize) -> SharedWorker<'a, N, R>
+    /// A worker whose own seat is at this place, counted round, and whose waits are counted there.
+    pub fn new(
+        rt: &'a R,
+        cpus: &'a SharedCpus<'a, N>,
+        place: usize,
+        tally: &'a Tally,
+    ) -> SharedWorker<'a, N, R>
         ensures { result ≡ cpus.entry.now }
     {
-        SharedWorker { rt, cpus, place }
+        SharedWorker {
+            rt,
+            cpus,
+            place,
+            tally,
+        }
     }
 }
 
@@ -45,9 +57,14 @@ impl<N: Name, R: Wait> Worker for SharedWorker<'_, N, R> {
 
     fn reply(&mut self, line: &Line) -> Reply {
         let cpus = self.cpus;
-        cpus.take(self.rt, self.place)
-            .answer(self.rt, cpus.system, line)
-            .reply
+        let mut seat = match cpus.free(self.place) {
+            Some(seat) => seat,
+            None => {
+                self.tally.note_wait();
+                cpus.take(self.rt, self.place)
+            }
+        };
+        seat.answer(self.rt, cpus.system, line).reply
     }
 
     // (the keeper of the system tidies, by time)

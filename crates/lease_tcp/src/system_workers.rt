@@ -2,6 +2,7 @@
 ghost use Rattle.std.specs.Prelude.{◌≡◌};
 ghost use Rattle.lease_tcp.specs.Workers.{StaysCpu};
 
+use crate::counts::Counted;
 use crate::doors::Door;
 use crate::loops::worker_loop;
 use crate::workers::Worker;
@@ -93,6 +94,9 @@ pub fn accept_loop<N: Name, R: Wait + Clock>(
     system: &System<N>,
     cpu: Cpu<N>,
 ) -> Cpu<N> {
-    let worker = SystemWorker::new(rt, system, cpu);
-    worker_loop(rt, alloc, door, worker).into_cpu()
+    let tally = door.counts.at(cpu.number() as usize);
+    let worker = Counted::new(SystemWorker::new(rt, system, cpu), tally);
+    worker_loop(rt, alloc, door, worker)
+        .into_worker()
+        .into_cpu()
 }

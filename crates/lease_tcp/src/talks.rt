@@ -6,9 +6,10 @@ ghost use Rattle.lease_server.specs.Serving.{WritesFront};
 ghost use Rattle.lease_server.specs.Watching.{inner_of};
 
 use crate::arrivals::{Arrivals, next_open};
+use crate::counts::Counted;
 use crate::doors::Door;
 use crate::houses::House;
-use crate::links::Link;
+use crate::links::{Link, let_go};
 use crate::loops::{pause, serve_stream};
 use crate::replying::ClientLines;
 use crate::rolls::{NotEntered, SharedStream};
@@ -18,7 +19,7 @@ use deed_table::Name;
 use lease_proto::ErrorWord;
 use lease_server::{ServeFault, Watched, deliver};
 use std::alloc::AllocGlobal;
-use std::io::{Error, Read, Write};
+use std::io::{Error, Write};
 use std::net::TcpStream;
 use std::sync::atomic::Ordering;
 use std::sync::{Arc, Wait};
@@ -140,15 +141,11 @@ fn admit<'s, E, N: Name + Send + Sync, R: Threads + Wait + Clock + Sync + AllocG
     }
 }
 
-/// Turns a connection away. What it sent by now is read, up to a piece, since a socket that is
-/// closed with bytes unread may take what it wrote from its peer.
+/// Turns a connection away.
 fn turn_stream_away(stream: &TcpStream) {
     let mut link = stream;
-    let mut reader = stream;
     let _ = turn_away(&mut Watched::new(stream), &mut link);
-    if stream.set_nonblocking(true).is_ok() {
-        let _ = reader.read(&mut [0u8; 1024]);
-    }
+    let_go(stream);
 }
 
 /// Tells a peer that its connection is one too many, and that no answer follows.
@@ -171,7 +168,9 @@ fn talk<N: Name, R: Wait + Clock + AllocGlobal>(
     stream: SharedStream,
     key: usize,
 ) {
-    let mut lines = ClientLines::new(SharedWorker::new(rt, &house.cpus, key));
+    let tally = house.door.counts.at(key);
+    let worker = SharedWorker::new(rt, &house.cpus, key, tally);
+    let mut lines = ClientLines::new(Counted::new(worker, tally));
     serve_stream(rt, rt.alloc(), &stream, &mut lines, house.door.pace);
     drop(lines.into_worker());
     house.door.roll.leave(rt, key);

@@ -3,5 +3,6 @@ mod Runs
 mod CallRuns
 mod CallEnds
 mod LineLaws
-mod Spans
+mod Roots
 mod Reaped
+mod Told

@@ -1,24 +1,18 @@
 -- What a contract sees of a system and of a CPU.
-use Rattle.std.specs.Prelude.{◌≡◌, ℕ, ◌+◌, ◌++◌, List, All, Option, None, map, sum_by}
+use Rattle.std.specs.Prelude.{◌≡◌, ℕ, ◌+◌, List, All, Option, None, sum_by}
 use Rattle.std.specs.Option.{option_to_list}
 use Rattle.deed_core.specs.Covering.{units_tagged}
-use Rattle.deed_core.specs.Extent.{Extent}
 use Rattle.deed_core.specs.Holding.{Holding}
 use Rattle.deed_core.specs.Tag.{Tag}
 use Rattle.magazine_layer.specs.Magazines.{BothEmpty, cache_rounds}
 use Rattle.arena_tree.specs.declared.trees.TreeArena.{TreeArena}
 use Rattle.locked_parts.specs.Kinds.{OwnCacheState}
 
--- its arenas by number, the roots that they own, in order of setup, and the ranges of those before
--- them, which are closed: what stands beside the locks
+-- its arenas by number, and the roots that they were set up with, by arena and then in order of
+-- adding: what stands beside the locks
 pub record SystemState : Type 0 where
   pub arenas : List TreeArena
   pub roots : List Holding
-  pub closed : List Extent
-
--- the ranges of all its roots, the closed ones first
-abbrev pub root_ranges : SystemState → List Extent
-root_ranges s = s.closed ++ map (λ r. r.range) s.roots
 
 -- a CPU: its number, its hand, and its magazines
 pub record CpuState : Type 0 where

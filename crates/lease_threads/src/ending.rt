@@ -1,30 +1,27 @@
 //! How the parts and the book of a system are ended.
-ghost use Rattle.std.specs.Prelude.{◌≡◌, [], IfOk, IfErr};
-ghost use Rattle.lease_threads.specs.Systems.{root_ranges};
+ghost use Rattle.std.specs.Prelude.{◌≡◌, [], IfErr};
 
 use crate::systems::System;
-use deed_core::Range;
 use deed_table::Name;
 use std::sync::Mutex;
 
-/// Ends a system whose roots of arenas are all closed, closes the root of its book's mark, and gives
-/// the ranges of the former. It hands the system back where a deed lies in it or a lease stands.
-pub(crate) fn end_parts<N: Name>(system: System<N>) -> Result<Vec<Range>, System<N>>
+/// Ends a system whose roots of arenas are all closed, and closes the root of its book's mark. It
+/// hands the system back where a deed lies in it or a lease stands.
+pub(crate) fn end_parts<N: Name>(system: System<N>) -> Result<(), System<N>>
     requires { system.roots ≡ [] }
-    ensures ranges { IfOk result (λ ranges. ranges.items ≡ root_ranges system) }
     ensures unchanged { IfErr result (λ same. same ≡ system) }
 {
     let System {
         mut parts,
         roots,
-        closed,
+        room,
         book,
     } = system;
     if !parts.end_arenas() {
         return Err(System {
             parts,
             roots,
-            closed,
+            room,
             book,
         });
     }
@@ -32,12 +29,13 @@ pub(crate) fn end_parts<N: Name>(system: System<N>) -> Result<Vec<Range>, System
         Ok(()) => {
             parts.end();
             roots.destroy_empty();
-            Ok(closed)
+            room.into_inner().end();
+            Ok(())
         }
         Err(book) => Err(System {
             parts,
             roots,
-            closed,
+            room,
             book: Mutex::new(book),
         }),
     }

@@ -1,37 +1,42 @@
 //! The running system: each arena, slab cache, depot and the book under a lock of its own.
 //!
-//! `System` (systems) has beside the locks what is fixed at setup: the arenas and the roots that
-//! they own. Its parts are those of `locked_parts`, and its book is a `MarkedBook` (marked_books)
-//! under a lock. A `Cpu` (cpus) has a hand and two magazines for each quantum cache, and needs no
-//! lock. Before each step a `Gate` is asked.
+//! `System` (systems) has beside the locks what is fixed at setup: the arenas and the roots of the
+//! spans that they were set up with. Its parts are those of `locked_parts`, and its book is a
+//! `MarkedBook` (marked_books) under a lock. A `Cpu` (cpus) has a hand and two magazines for each
+//! quantum cache, and needs no lock. Before each step a `Gate` is asked.
 //!
 //! `new` (openings) makes a system of a setup. `request` (requests) answers one line: it goes
 //! through the line's list of steps in `lease_call`, over the parts and the book as one CPU reaches
 //! it (shared_books), and tells what that ended with (replies). A segment that it left is the CPU's
-//! hand (hands). `tick`, `resize` and `reap` (upkeep) keep the system in shape, and `retire`
-//! (retiring) ends a CPU. `shut` (shutting) ends a system: all that lies in its parts is placed
-//! (emptying), its roots are closed (closing), and its parts and its book are ended (ending). `sums` tells those who watch a system
-//! where an arena's units were seen.
+//! hand (hands). `tick`, `resize`, `grow` and `reap` (upkeep) keep the system in shape, and
+//! `retire` (retiring) ends a CPU. `shut` (shutting) ends a system: its roots are brought together
+//! from behind the locks and told (gathering), in room that was made for them (end_rooms), all that
+//! lies in its parts is placed (emptying), the roots are closed (closing), and its parts and its
+//! book are ended (ending). Those who watch a system are told what its parts and its book have, each
+//! under its own lock (sums).
 //!
 //! What contracts see of a system and a CPU stands in `specs/Systems.antt`, what a line may be
 //! answered in `Replying.antt` and `Settling.antt`, that its list of steps was gone through in
 //! `Calling.antt`, what follows of each line's segments in `LineLaws.antt` (laws), what a reaping
-//! tells in `Reaping.antt`, how a system begins and ends in `Openings.antt` and `Ends.antt`.
+//! tells in `Reaping.antt`, what watchers are told in `Sums.antt`, how a system begins and ends in
+//! `Openings.antt` and `Ends.antt`.
 //!
 //! A request takes the book's lock twice at most, as its list of steps shows, and those of its
 //! steps over the parts, of which `lease_call` says how many they are at most (`lock_laws`), by the
 //! depth of its arena; and those of a free where its hand is full before it. A hello takes the
 //! book's lock twice, and once more, with a free, for each lease that it ends; after one more than
 //! a client may have leases it may be sent once more. A lock is held for one event on its part.
-//! `tick` and `resize` take that of one depot after another, `reap` those of its looks, as many as
-//! its limit at most, and of a free for each round and span that they give, `retire` those for each
-//! round of the CPU. `shut` goes over all parts and leases.
+//! `tick` and `resize` take that of one depot after another, `grow` that of its arena, `reap` those
+//! of its looks, as many as its limit at most, and of a free for each round and span that they
+//! give, `retire` those for each round of the CPU. `shut` goes over all parts and leases.
 #![tactic(auto)]
 
 mod closing;
 mod cpus;
 mod emptying;
+mod end_rooms;
 mod ending;
+mod gathering;
 mod hands;
 mod laws;
 mod marked_books;
@@ -48,9 +53,8 @@ mod upkeep;
 pub use cpus::Cpu;
 pub use laws::line_laws;
 pub use locked_parts::{EventName, Gate, NextStep, OpenGate, Pass, RequestStopped};
-pub use openings::SystemFault;
 pub use quantum_cache::Reaping;
 pub use replies::{LineAnswer, Told};
 pub use shutting::{Halted, StoppedAt};
-pub use sums::SystemSums;
+pub use sums::{BookSums, SystemSums};
 pub use systems::System;

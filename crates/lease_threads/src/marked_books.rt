@@ -1,8 +1,15 @@
 //! The book of leases as its lock keeps it.
-ghost use Rattle.std.specs.Prelude.{◌≡◌, ◌↔◌, [], IsNone, IfNone, IfSome, Ok, sum_by};
+ghost use Rattle.std.specs.Prelude.{◌≡◌, ◌+◌, ◌-◌, ◌^◌, ◌<◌, ◌≤◌, ◌↔◌, ◌++◌, [], length, min};
+ghost use Rattle.std.specs.Prelude.{slice_get, sum_by, vec_len, vec_capacity, Ok};
+ghost use Rattle.std.specs.Prelude.{IsNone, IfNone, IfSome};
+ghost use Rattle.lease_terms.specs.declared.values.TheConstants.{LAST_CLIENT};
+ghost use Rattle.lease_threads.specs.Sums.{leases_from, leases_of};
+ghost use Rattle.std.specs.Option.{option_map};
 ghost use Rattle.deed_core.specs.Request.{Fits};
 ghost use Rattle.deed_table.specs.declared.deeds.SeatDeed.{SeatDeed};
-ghost use Rattle.lease_book.specs.BookState.{leased_segments, units_of_arena};
+ghost use Rattle.lease_book.specs.BookState.{HasHistory, leased_segments, units_of_arena};
+ghost use Rattle.lease_book.specs.Reports.{lease_reports, report_of};
+ghost use Rattle.lease_book.specs.declared.books.TheConstants.{MOST_LEASES};
 ghost use Rattle.lease_book.specs.Calls.{IsEnded};
 ghost use Rattle.lease_call.specs.BookEvents.{BookEvent};
 ghost use Rattle.lease_call.specs.Calls.{Look, Settle, Refuse, Release, Hello, Sweep};
@@ -12,7 +19,7 @@ ghost use Rattle.arena_tree.specs.declared.limits.TheConstants.{MOST_ROOTS};
 
 use deed_core::{Request, Segment};
 use deed_table::{Name, Root, SeatDeed, close};
-use lease_book::{Answer, Book, Receipt};
+use lease_book::{Answer, Book, ClientReport, LeaseReport, Receipt};
 use lease_call::{NotGreeted, NotReleased, NotSettled};
 use lease_terms::{ClientId, Ordinal, Protocol, Quantity, Refusal, RequestId};
 use std::marker::Model;
@@ -57,11 +64,13 @@ impl<N: Name> MarkedBook<N> {
         }
     }
 
-    /// Its mark is of the root of a book's mark.
+    /// Its mark is of the root of a book's mark, and the book is what some entries give.
     pub(crate) fn check(&self)
-        ensures { self.now.mark.root ≡ MOST_ROOTS }
+        ensures mark { self.now.mark.root ≡ MOST_ROOTS }
+        ensures history { HasHistory self.now }
     {
-        // For its clause: the mark is the book's.
+        // For its clauses: the mark is the book's.
+        let _ = self.book.mark();
         let _ = self.mark.number();
     }
 
@@ -105,6 +114,56 @@ impl<N: Name> MarkedBook<N> {
         ensures { result ≡ sum_by (units_of_arena arena) (leased_segments self.now) }
     {
         self.book.units(arena)
+    }
+
+    /// How many clients ever said hello.
+    pub(crate) fn clients(&self) -> usize
+        ensures count { result ≡ length self.now.accounts }
+        ensures few { result ≤ LAST_CLIENT }
+    {
+        self.book.clients()
+    }
+
+    /// The client that stands at an index in order of first hello.
+    pub(crate) fn client_at(&self, index: usize) -> Option<ClientReport>
+        ensures { result ≡ option_map report_of (slice_get self.now.accounts index) }
+    {
+        self.book.client_at(index)
+    }
+
+    /// The same, and each of its leases behind others.
+    pub(crate) fn leases_at(&self, index: usize, out: &mut Vec<LeaseReport>) -> Option<ClientReport>
+        requires { vec_len out.old + MOST_LEASES ≤ vec_capacity out.old }
+        ensures client { result ≡ option_map report_of (slice_get self.now.accounts index) }
+        ensures leases { out.new.items
+            ≡ out.old.items ++ lease_reports (slice_get self.now.accounts index) }
+        ensures capacity { vec_capacity out.new ≡ vec_capacity out.old }
+    {
+        self.book.leases_at(index, out);
+        self.book.client_at(index)
+    }
+
+    /// How many leases these clients have, in order of first hello: so many of them, from one on. It
+    /// stays at the greatest number.
+    pub(crate) fn leases(&self, from: usize, count: usize) -> usize
+        requires { from + count < 2 ^ 64 }
+        ensures { result ≡ min (leases_from self.now.accounts from count) (2 ^ 64 - 1) }
+    {
+        let mut leases: usize = 0;
+        for place in 0..count {
+            leases = leases.saturating_add(self.leases_of(from + place));
+        }
+        leases
+    }
+
+    /// How many the one at an index has, if there is one.
+    fn leases_of(&self, index: usize) -> usize
+        ensures { result ≡ leases_of (slice_get self.now.accounts index) }
+    {
+        match self.book.client_at(index) {
+            Some(report) => report.leases,
+            None => 0,
+        }
     }
 
     /// The answer to a request whose number isn't new.

@@ -1,17 +1,15 @@
 //! How a system is made.
-ghost use Rattle.std.specs.Prelude.{◌≡◌, ◌+◌, ◌*◌, ◌<◌, ◌≤◌, ◌↔◌, ◌++◌, [], length, map, take};
-ghost use Rattle.std.specs.Prelude.{IsTrue, IfOk, IfErr, OnOk};
-ghost use Rattle.std.specs.Option.{option_map, option_to_list};
-ghost use Rattle.std.specs.Prelude.{vec_len, vec_capacity};
+ghost use Rattle.std.specs.Prelude.{◌≡◌, ◌+◌, ◌*◌, ◌<◌, ◌≤◌, ◌++◌, [], length};
+ghost use Rattle.std.specs.Prelude.{IfOk, IfErr, OnOk, vec_len, vec_capacity};
 ghost use Rattle.arena_tree.specs.declared.limits.TheConstants.{MOST_ARENAS, MOST_SPANS};
 ghost use Rattle.arena_tree.specs.declared.limits.TheConstants.{MOST_ROOTS};
-ghost use Rattle.lease_threads.specs.Openings.{OneSpanEach, IsSystemOf, RefusesSystem, root_of};
-ghost use Rattle.lease_threads.specs.Openings.{roots_of, new_root, AreFrom};
+ghost use Rattle.lease_threads.specs.Openings.{IsSystemOf, roots_of, roots_of_first};
 ghost use Rattle.locked_parts.specs.News.{AreMadeAsSet};
 
+use crate::end_rooms::EndRoom;
 use crate::marked_books::MarkedBook;
 use crate::systems::System;
-use arena_tree::{MOST_ROOTS, OwnedSpan, Setup, Tree};
+use arena_tree::{MOST_ROOTS, Setup, Tree};
 use deed_core::Range;
 use deed_table::{Ground, Name, Opener, Root};
 use lease_book::Book;
@@ -20,76 +18,39 @@ use std::alloc::{AllocError, Global};
 use std::marker::Model;
 use std::sync::Mutex;
 
-/// Why a system isn't made. The setup comes back as it was.
-pub enum SystemFault {
-    /// An arena owns a further span.
-    Span(Setup),
-    /// Out of memory.
-    NoMemory(Setup),
-}
-
 impl<N: Name> System<N> {
-    /// The arenas of a setup, with all units free and no lease. An arena may own one span, since
-    /// the roots stand beside the locks. The ground is used up, also where no system is made.
-    pub fn new(alloc: Global, ground: Ground, setup: Setup) -> Result<System<N>, SystemFault>
+    /// The arenas of a setup, with all units free and no lease. Out of memory the setup comes back
+    /// as it was. The ground is used up, also where no system is made.
+    pub fn new(alloc: Global, ground: Ground, setup: Setup) -> Result<System<N>, Setup>
         requires { ground ≡ N.table }
         ensures made { IfOk result (IsSystemOf setup) }
-        ensures refused { IfErr result (RefusesSystem setup) }
+        ensures handed_back { IfErr result (λ same. same ≡ setup) }
     {
-        if !are_one_each(setup.spans()) {
-            return Err(SystemFault::Span(setup));
-        }
-        let Ok(room) = Room::new(alloc, setup.tree().len()) else {
-            return Err(SystemFault::NoMemory(setup));
+        let Ok(room) = Room::new(alloc, setup.tree().len(), setup.spans().len()) else {
+            return Err(setup);
         };
         match open_all(alloc, &setup, ground.start()) {
             Ok((made, book)) => Ok(room.fill(alloc, setup.into_tree(), made, book)),
             Err(AllocError) => {
                 room.end();
-                Err(SystemFault::NoMemory(setup))
+                Err(setup)
             }
         }
     }
 }
 
-/// Whether the spans stand in order of their arenas, one each.
-fn are_one_each(spans: &[OwnedSpan]) -> bool
-    ensures { IsTrue result ↔ OneSpanEach spans.now }
-{
-    spans.is_sorted_by(|a, b| a.arena < b.arena)
-}
-
-/// The next span, where the arena owns it; the index is then on the one after it. No span before
-/// the index is of this arena or of a later one.
-fn next_span(spans: &[OwnedSpan], index: &mut usize, arena: u32) -> Option<Range>
-    requires one { OneSpanEach spans.now }
-    requires within { index.old ≤ length spans.now }
-    requires from { AreFrom arena index.old spans.now }
-    ensures within { index.new ≤ length spans.now }
-    ensures from { AreFrom (arena + 1) index.new spans.now }
-    ensures taken { map root_of (take index.new spans.now)
-        ≡ map root_of (take index.old spans.now)
-        ++ option_to_list (option_map (new_root arena) result) }
-{
-    let span = spans.get(*index)?;
-    if span.arena != arena {
-        return None;
-    }
-    *index += 1;
-    Some(span.range)
-}
-
-/// Opens the arenas, each with the span that it owns, and the book.
+/// Opens the arenas, each with the spans that it owns, and the book.
 fn open_all<N: Name>(
     alloc: Global,
     setup: &Setup,
     mut rest: Opener<N>,
 ) -> Result<(Vec<NewArena<N>>, MarkedBook<N>), AllocError>
-    requires one { OneSpanEach setup.now.spans }
-    requires all { (rest.first ≡ 0) × (MOST_ROOTS < rest.left) }
+    requires { (rest.first ≡ 0) × (MOST_ROOTS < rest.left) }
     ensures count { IfOk result (λ r. vec_len r.0 ≡ length setup.now.arenas) }
     ensures set_up { IfOk result (λ r. AreMadeAsSet setup.now.arenas r.0.items) }
-    ensures roots { IfOk result (λ r. roots_of r.0.items ≡ map root_of setup.now.spans) }
+    ensures roots { IfOk result (λ r. roots_of r.0.items
+        ≡ roots_of_first setup.now.spans (length setup.now.arenas)) }
+    ensures few { IfOk result (λ r. length (roots_of r.0.items) ≤ length setup.now.spans) }
 {
     let mut numbers = rest.share(u64::from(MOST_ROOTS))?;
     let mut made = Vec::with_capacity(alloc, setup.tree().len())?;
@@ -106,25 +67,24 @@ fn open_all<N: Name>(
     }
 }
 
-/// Opens each arena. The spans stand in order of their arenas.
+/// Opens each arena.
 fn open_each<N: Name>(
     alloc: Global,
     setup: &Setup,
     numbers: &mut Opener<N>,
     made: &mut Vec<NewArena<N>>,
 ) -> Result<(), AllocError>
-    requires one { OneSpanEach setup.now.spans }
     requires none { made.old.items ≡ [] }
     requires room { length setup.now.arenas ≤ vec_capacity made.old }
     requires numbers { (numbers.old.first ≡ 0) × (MOST_ARENAS * MOST_SPANS ≤ numbers.old.left) }
     ensures count { OnOk result (vec_len made.new ≡ length setup.now.arenas) }
     ensures set_up { OnOk result (AreMadeAsSet setup.now.arenas made.new.items) }
-    ensures roots { OnOk result (roots_of made.new.items ≡ map root_of setup.now.spans) }
+    ensures roots { OnOk result (roots_of made.new.items
+        ≡ roots_of_first setup.now.spans (length setup.now.arenas)) }
+    ensures few { OnOk result (length (roots_of made.new.items) ≤ length setup.now.spans) }
 {
-    let mut index = 0;
     for id in 0..setup.tree().len() as u32 {
-        let span = next_span(setup.spans(), &mut index, id);
-        let opened = NewArena::open(alloc, setup.tree(), id, span, numbers)?;
+        let opened = NewArena::open(alloc, setup.tree(), id, setup.spans(), numbers)?;
         made.push_reserved(opened);
     }
     Ok(())
@@ -146,42 +106,52 @@ fn open_book<N: Name>(alloc: Global, rest: &mut Opener<N>) -> Result<MarkedBook<
     Ok(MarkedBook::new(Book::new(alloc, deed), mark))
 }
 
-/// Room for so many arenas of a system, for a root of each, and for the ranges of these at its end.
+/// Room for so many arenas of a system, for so many roots, and for the end of these. A contract
+/// sees how many, in this order.
 struct Room<N: Name> {
-    count: usize,
+    arena_count: usize,
+    root_count: usize,
     arenas: Vec<LockedArena<N>>,
     roots: Vec<Root<N>>,
-    closed: Vec<Range>,
+    end: EndRoom<N>,
 }
 
 impl<N: Name> Model for Room<N> {
     ghost use Rattle.std.specs.Prelude.{◌≡◌, ◌≤◌, ℕ, vec_len, vec_capacity};
 
-    ghost Value = { ℕ };
+    ghost Value = { ℕ × ℕ };
 
-    ghost view = { λ r. r.count };
+    ghost view = { λ r. (r.arena_count, r.root_count) };
 
-    ghost invariant = { λ r. (vec_len r.arenas ≡ 0) × (r.count ≤ vec_capacity r.arenas)
-        × (vec_len r.roots ≡ 0) × (r.count ≤ vec_capacity r.roots)
-        × (vec_len r.closed ≡ 0) × (r.count ≤ vec_capacity r.closed) };
+    ghost invariant = { λ r. (vec_len r.arenas ≡ 0) × (r.arena_count ≤ vec_capacity r.arenas)
+        × (vec_len r.roots ≡ 0) × (r.root_count ≤ vec_capacity r.roots) };
 }
 
 impl<N: Name> Room<N> {
-    /// Room for so many arenas.
-    fn new(alloc: Global, count: usize) -> Result<Room<N>, AllocError>
-        ensures { IfOk result (λ room. room ≡ count) }
+    /// Room for so many arenas and roots.
+    fn new(alloc: Global, arena_count: usize, root_count: usize) -> Result<Room<N>, AllocError>
+        ensures { IfOk result (λ room. room ≡ (arena_count, root_count)) }
     {
-        let closed = Vec::with_capacity(alloc, count)?;
-        let arenas = Vec::with_capacity(alloc, count)?;
-        let Ok(roots) = Vec::with_capacity(alloc, count) else {
+        let mut end = EndRoom::none(alloc);
+        if let Err(refused) = end.add(root_count) {
+            end.end();
+            return Err(refused);
+        }
+        let Ok(arenas) = Vec::with_capacity(alloc, arena_count) else {
+            end.end();
+            return Err(AllocError);
+        };
+        let Ok(roots) = Vec::with_capacity(alloc, root_count) else {
+            end.end();
             arenas.destroy_empty();
             return Err(AllocError);
         };
         Ok(Room {
-            count,
+            arena_count,
+            root_count,
             arenas,
             roots,
-            closed,
+            end,
         })
     }
 
@@ -193,23 +163,24 @@ impl<N: Name> Room<N> {
         made: Vec<NewArena<N>>,
         book: MarkedBook<N>,
     ) -> System<N>
-        requires room { vec_len made ≤ self }
+        requires arenas { vec_len made ≤ self.0 }
+        requires roots { length (roots_of made.items) ≤ self.1 }
         requires set_up { AreMadeAsSet tree made.items }
         ensures arenas { result.arenas ≡ tree }
         ensures roots { result.roots ≡ roots_of made.items }
-        ensures closed { result.closed ≡ [] }
     {
         let Room {
-            count: _,
+            arena_count: _,
+            root_count: _,
             mut arenas,
             mut roots,
-            closed,
+            end,
         } = self;
         lock_all(made, &mut arenas, &mut roots);
         System {
             parts: LockedParts::new(alloc, tree, arenas),
             roots,
-            closed,
+            room: Mutex::new(end),
             book: Mutex::new(book),
         }
     }
@@ -217,43 +188,57 @@ impl<N: Name> Room<N> {
     /// Lets the room go.
     fn end(self) {
         let Room {
-            count: _,
+            arena_count: _,
+            root_count: _,
             arenas,
             roots,
-            closed: _,
+            end,
         } = self;
         arenas.destroy_empty();
         roots.destroy_empty();
+        end.end();
     }
 }
 
-/// Puts each arena under its lock, and its root beside it.
+/// Puts each arena under its lock, and its roots beside it.
 fn lock_all<N: Name>(
     mut made: Vec<NewArena<N>>,
     arenas: &mut Vec<LockedArena<N>>,
     roots: &mut Vec<Root<N>>,
 )
     requires arenas { vec_len arenas.old + vec_len made ≤ vec_capacity arenas.old }
-    requires roots { vec_len roots.old + vec_len made ≤ vec_capacity roots.old }
+    requires roots { vec_len roots.old + length (roots_of made.items) ≤ vec_capacity roots.old }
     ensures roots { roots.new.items ≡ roots.old.items ++ roots_of made.items }
-    ensures few { vec_len roots.new ≤ vec_len roots.old + vec_len made }
 {
     while !made.is_empty() {
-        let (locked, root) = made.remove(0).lock();
+        let (locked, more) = lock_first(&mut made);
         arenas.push_reserved(locked);
-        push_root(roots, root);
+        append_reserved(roots, more);
     }
     made.destroy_empty();
 }
 
-/// Adds the root, if there is one.
-fn push_root<N: Name>(roots: &mut Vec<Root<N>>, root: Option<Root<N>>)
-    requires { vec_len roots.old < vec_capacity roots.old }
-    ensures roots { roots.new.items ≡ roots.old.items ++ option_to_list root }
-    ensures len { vec_len roots.new ≤ vec_len roots.old + 1 }
-    ensures room { vec_capacity roots.new ≡ vec_capacity roots.old }
+/// Puts the first of the arenas under its lock, and hands out its roots.
+#[tactic(auto, using(crate::proofs::Roots::first_locked))]
+fn lock_first<N: Name>(made: &mut Vec<NewArena<N>>) -> (LockedArena<N>, Vec<Root<N>>)
+    requires { 0 < vec_len made.old }
+    ensures roots { roots_of made.old.items ≡ result.1.items ++ roots_of made.new.items }
+    ensures count { length (roots_of made.old.items)
+        ≡ vec_len result.1 + length (roots_of made.new.items) }
+    ensures len { vec_len made.new + 1 ≡ vec_len made.old }
 {
-    if let Some(root) = root {
-        roots.push_reserved(root);
+    made.remove(0).lock()
+}
+
+/// Moves roots behind others, where there is room.
+fn append_reserved<N: Name>(roots: &mut Vec<Root<N>>, mut more: Vec<Root<N>>)
+    requires { vec_len roots.old + vec_len more ≤ vec_capacity roots.old }
+    ensures items { roots.new.items ≡ roots.old.items ++ more.items }
+    ensures len { vec_len roots.new ≡ vec_len roots.old + vec_len more }
+    ensures room { vec_capacity roots.old ≤ vec_capacity roots.new }
+{
+    match roots.append(&mut more) {
+        Ok(()) => more.destroy_empty(),
+        Err(AllocError) => unreachable!(),
     }
 }

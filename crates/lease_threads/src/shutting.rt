@@ -1,36 +1,49 @@
 //! The end of a system.
-ghost use Rattle.std.specs.Prelude.{◌≡◌, [], IfOk, IfErr, IfSome, IfNone, Some, None, true};
-ghost use Rattle.lease_threads.specs.Ends.{IsLeftOf, stop_of};
-ghost use Rattle.lease_threads.specs.Systems.{root_ranges};
+ghost use Rattle.std.specs.Prelude.{◌≡◌, [], IfOk, OnOk, IfErr, IfSome, IfNone, IsSome, Some, None};
+ghost use Rattle.std.specs.Prelude.{true};
+ghost use Rattle.lease_threads.specs.Ends.{AreRangesOf, AreRangesLeft, IsRestOf, begun, stop_of};
+ghost use Rattle.lease_threads.specs.Systems.{HoldsNothing};
+ghost use Rattle.locked_parts.specs.Kinds.{AreForSame};
 
 use crate::closing::close_roots;
 use crate::cpus::Cpu;
 use crate::ending::end_parts;
+use crate::gathering::gather;
 use crate::systems::{System, owner_of};
 use deed_core::{Range, Segment};
 use deed_table::{Name, SeatDeed};
+use std::alloc::AllocError;
 use std::marker::Model;
 use std::sync::Wait;
 
-/// The rest of a system that no worker has any more, on its way to its end: what isn't ended yet,
-/// the ranges of the roots that are closed among it, and the segment that can't be placed, if there
-/// is one.
+/// The rest of a system that no worker has any more, on its way to its end: the ranges of all its
+/// roots, once they are told, what isn't ended yet, and the segment that can't be placed, if there
+/// is one. No arena of it grows any more.
 pub struct Halted<N: Name> {
+    told: Option<Vec<Range>>,
     system: System<N>,
     cpu: Cpu<N>,
 }
 
 impl<N: Name> Model for Halted<N> {
+    ghost use Rattle.std.specs.Option.{option_map};
     ghost use Rattle.lease_threads.specs.Ends.{HaltedState};
 
     ghost Value = { HaltedState };
 
-    ghost view = { λ h. record { system = h.system; segment = h.cpu.hand } };
+    ghost view = { λ h. record {
+      told = option_map (λ ranges. ranges.items) h.told;
+      system = h.system;
+      segment = h.cpu.hand;
+    } };
 }
 
 /// Where the end of a system stopped. An arena is told by its number.
 #[derive(Clone, Copy, PartialEq, Eq, Debug)]
 pub enum StoppedAt {
+    /// Before anything was ended: the ranges can't be told. Memory for them is taken when a system
+    /// is made and when an arena grows, so that no end stops here; the types alone don't say so.
+    Memory,
     /// At the segment that can't be placed, which is of this arena.
     Segment(u32),
     /// At the root of this arena, the first one that isn't closed: a unit of the arena is out.
@@ -44,6 +57,9 @@ impl<N: Name> Halted<N> {
     pub fn stopped_at(&self) -> StoppedAt
         ensures { result ≡ stop_of self.now }
     {
+        if self.told.is_none() {
+            return StoppedAt::Memory;
+        }
         if let Some(segment) = &self.cpu.hand {
             return StoppedAt::Segment(segment.arena());
         }
@@ -61,34 +77,57 @@ impl<N: Name> Halted<N> {
         self.cpu.hand.as_ref()
     }
 
-    /// The rest of the system, so that a CPU that still has a segment can be retired.
-    pub fn system(&self) -> &System<N>
-        ensures { result.now ≡ self.now.system }
+    /// Places the hand and all rounds of a CPU that still has some, as `System::retire` does.
+    pub fn retire<R: Wait>(&self, rt: &R, cpu: Cpu<N>) -> Result<(), Cpu<N>>
+        ensures number { IfErr result (λ rest. rest.number ≡ cpu.number) }
+        ensures magazines { IfErr result (λ rest. AreForSame cpu.caches rest.caches) }
+        ensures rest { IfErr result (λ rest. ¬ HoldsNothing rest) }
     {
-        &self.system
+        self.system.retire(rt, cpu)
     }
 
     /// Goes on where the end stopped, with the answers of `shut`.
     pub fn again<R: Wait>(mut self, rt: &R) -> Result<Vec<Range>, Halted<N>>
-        ensures ranges { IfOk result (λ ranges. ranges.items ≡ root_ranges self.system) }
-        ensures rest { IfErr result (IsLeftOf self.system) }
+        ensures ranges { IfOk result (λ ranges. AreRangesLeft self ranges.items) }
+        ensures rest { IfErr result (IsRestOf self) }
     {
+        if self.tell(rt).is_err() {
+            return Err(self);
+        }
         if !self.empty(rt) || !self.cpu.is_drained() {
             return Err(self);
         }
-        let Halted { system, cpu } = self;
+        let Halted { told, system, cpu } = self;
         match end_parts(system) {
-            Ok(ranges) => {
+            Ok(()) => {
                 cpu.end();
-                Ok(ranges)
+                match told {
+                    Some(ranges) => Ok(ranges),
+                    None => unreachable!(),
+                }
             }
-            Err(system) => Err(Halted { system, cpu }),
+            Err(system) => Err(Halted { told, system, cpu }),
         }
+    }
+
+    /// Tells the ranges of the roots, if they aren't told.
+    fn tell<R: Wait>(&mut self, rt: &R) -> Result<(), AllocError>
+        ensures rest { IsRestOf self.old self.new }
+        ensures told { OnOk result (IsSome self.new.told) }
+        ensures segment { self.new.segment ≡ self.old.segment }
+    {
+        if self.told.is_some() {
+            return Ok(());
+        }
+        let told = gather(rt, &mut self.system)?;
+        self.told = Some(told);
+        Ok(())
     }
 
     /// Places all that lies in it, and closes its roots.
     fn empty<R: Wait>(&mut self, rt: &R) -> bool
-        ensures rest { IsLeftOf self.old.system self.new }
+        ensures arenas { self.new.system.arenas ≡ self.old.system.arenas }
+        ensures told { self.new.told ≡ self.old.told }
         ensures empty { result ≡ true → (self.new.system.roots ≡ []) × (self.new.segment ≡ None) }
     {
         self.system.empty_parts(rt, &mut self.cpu)
@@ -98,15 +137,20 @@ impl<N: Name> Halted<N> {
 
 impl<N: Name> System<N> {
     /// Ends all leases, empties depots and slabs, hands imported spans back, and closes each root
-    /// and the root of the book's mark: gives the range of each root of an arena, each once, in
-    /// order of setup. All CPUs are to be retired before; what one of them still has is missing,
-    /// and the rest of the system comes back. It takes no memory.
+    /// and the root of the book's mark: gives the range of each root of an arena, each once, by
+    /// arena in order of setup and then in order of adding, whether the setup or `grow` added it.
+    /// All CPUs are to be retired before; what one of them still has is missing, and the rest of
+    /// the system comes back. It takes no memory.
     pub fn shut<R: Wait>(self, rt: &R) -> Result<Vec<Range>, Halted<N>>
-        ensures ranges { IfOk result (λ ranges. ranges.items ≡ root_ranges self) }
-        ensures rest { IfErr result (IsLeftOf self) }
+        ensures ranges { IfOk result (λ ranges. AreRangesOf self ranges.items) }
+        ensures rest { IfErr result (IsRestOf (begun self)) }
     {
         let cpu = Cpu::bare(self.parts.alloc());
-        let halted = Halted { system: self, cpu };
+        let halted = Halted {
+            told: None,
+            system: self,
+            cpu,
+        };
         halted.again(rt)
     }
 }

@@ -1,13 +1,21 @@
-//! The sums of an arena of a running system, for those who watch it.
-ghost use Rattle.std.specs.Prelude.{◌≤◌, ◌↔◌, length, IsNone};
+//! What those who watch a running system are told of it.
+ghost use Rattle.std.specs.Prelude.{◌≡◌, ◌+◌, ◌≤◌, ◌↔◌, ◌++◌, length, IsNone, IfSome};
+ghost use Rattle.std.specs.Prelude.{slice_get, sum_by, vec_len, vec_capacity};
+ghost use Rattle.std.specs.Option.{option_map};
+ghost use Rattle.lease_book.specs.BookState.{leased_segments, units_of_arena};
+ghost use Rattle.lease_book.specs.Reports.{lease_reports, report_of};
+ghost use Rattle.lease_book.specs.declared.books.TheConstants.{MOST_LEASES};
+ghost use Rattle.lease_terms.specs.declared.values.TheConstants.{LAST_CLIENT};
+ghost use Rattle.lease_threads.specs.Sums.{AreBookSums, AreSumsOf, LookTells, OfSomeBook};
 
 use crate::systems::System;
 use deed_table::Name;
+use lease_book::{ClientReport, LeaseReport};
 use std::sync::Wait;
 
 /// The units of an arena, by where they were found. Each part is looked at under its own lock, one
-/// after another, so that these are sums of different moments: a segment that moves meanwhile may be
-/// told twice or not at all.
+/// after another, so that these are sums of different moments: a segment that moves meanwhile may
+/// be told twice or not at all.
 #[derive(Clone, Copy, PartialEq, Eq, Debug)]
 pub struct SystemSums {
     /// Those that a carve may still take.
@@ -17,25 +25,102 @@ pub struct SystemSums {
     pub allocated: u128,
     /// In slabs: idle chunks, colour gaps and tails.
     pub slab: u128,
-    /// In magazines of depots, or 2^128 - 1 where they are more. A CPU tells its own (`Cpu::units`).
+    /// In magazines of depots, or 2^128 - 1 where they are more. A CPU tells its own
+    /// (`Cpu::units`).
     pub magazine: u128,
     /// Leased.
     pub leased: u128,
 }
 
+/// What a book has, as looks under its lock found it.
+#[derive(Clone, Copy, PartialEq, Eq, Debug)]
+pub struct BookSums {
+    /// Clients that ever said hello.
+    pub clients: usize,
+    /// Leases.
+    pub leases: usize,
+}
+
+/// How many clients' leases are counted under one look.
+const CLIENTS_A_LOOK: usize = 256;
+
 impl<N: Name> System<N> {
+    /// How many clients and leases there are. The book's lock is taken once for each 256 clients,
+    /// and let go between, so that no request waits for more; a lease of a client that was counted
+    /// before isn't told any more.
+    pub fn book_sums<R: Wait>(&self, rt: &R) -> BookSums
+        ensures { AreBookSums result }
+    {
+        let clients = self.clients(rt);
+        let mut leases: usize = 0;
+        for look in 0..(clients + (CLIENTS_A_LOOK - 1)) / CLIENTS_A_LOOK {
+            let some = self.leases(rt, look);
+            leases = leases.saturating_add(some);
+        }
+        BookSums { clients, leases }
+    }
+
+    /// How many clients ever said hello.
+    fn clients<R: Wait>(&self, rt: &R) -> usize
+        ensures count { OfSomeBook (λ b. result ≡ length b.accounts) }
+        ensures few { result ≤ LAST_CLIENT }
+    {
+        let book = self.book.lock(rt);
+        book.check();
+        book.clients()
+    }
+
+    /// How many leases the clients of the look with this number have.
+    fn leases<R: Wait>(&self, rt: &R, look: usize) -> usize
+        requires { look ≤ LAST_CLIENT }
+        ensures { LookTells look result }
+    {
+        let book = self.book.lock(rt);
+        book.check();
+        book.leases(look * CLIENTS_A_LOOK, CLIENTS_A_LOOK)
+    }
+
+    /// The client that stands at an index in order of first hello, if there is one: as it is under
+    /// one look at the book, in constant time.
+    pub fn client_at<R: Wait>(&self, rt: &R, index: usize) -> Option<ClientReport>
+        ensures { OfSomeBook (λ b. result ≡ option_map report_of (slice_get b.accounts index)) }
+    {
+        let book = self.book.lock(rt);
+        book.check();
+        book.client_at(index)
+    }
+
+    /// The same, and each of its leases behind others, in order of grant: all as they are under one
+    /// look at the book, which takes no memory and is over after 1,024 leases at most.
+    pub fn leases_at<R: Wait>(
+        &self,
+        rt: &R,
+        index: usize,
+        out: &mut Vec<LeaseReport>,
+    ) -> Option<ClientReport>
+        requires { vec_len out.old + MOST_LEASES ≤ vec_capacity out.old }
+        ensures told { OfSomeBook (λ b. (result ≡ option_map report_of (slice_get b.accounts index))
+            × (out.new.items ≡ out.old.items ++ lease_reports (slice_get b.accounts index))) }
+        ensures capacity { vec_capacity out.new ≡ vec_capacity out.old }
+    {
+        let book = self.book.lock(rt);
+        book.check();
+        book.leases_at(index, out)
+    }
+
     /// The sums of the arena with this number, if there is one. The arena's lock is taken first,
     /// then that of the slabs of each of its caches, one after another, and of each depot, and the
-    /// book's. Each takes constant time, and nothing stops for it. What a part was lies behind its
-    /// lock, so no clause says it here: each part's own call does.
+    /// book's. Each takes constant time, and nothing stops for it. Each part tells what it has
+    /// while its own lock is held, so that the sums are of different moments.
     pub fn sums<R: Wait>(&self, rt: &R, arena: u32) -> Option<SystemSums>
         ensures exactly { IsNone result ↔ (length self.now.arenas ≤ arena) }
+        ensures told { IfSome result (AreSumsOf self.now.arenas arena) }
     {
         if arena as usize >= self.tree().len() {
             return None;
         }
         let parts = self.parts.sums(rt, arena);
-        let leased = self.book.lock(rt).units(arena);
+        let leased = self.leased(rt, arena);
         Some(SystemSums {
             free: parts.free,
             allocated: parts.allocated,
@@ -43,5 +128,13 @@ impl<N: Name> System<N> {
             magazine: parts.magazine,
             leased,
         })
+    }
+    /// The units of the arena that are leased.
+    fn leased<R: Wait>(&self, rt: &R, arena: u32) -> u128
+        ensures { OfSomeBook (λ b. result ≡ sum_by (units_of_arena arena) (leased_segments b)) }
+    {
+        let book = self.book.lock(rt);
+        book.check();
+        book.units(arena)
     }
 }

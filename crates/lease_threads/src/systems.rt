@@ -3,9 +3,9 @@ ghost use Rattle.std.specs.Prelude.{◌≡◌};
 ghost use Rattle.arena_tree.specs.declared.limits.TheConstants.{MOST_SPANS};
 ghost use Rattle.lease_threads.specs.Ends as ends;
 
+use crate::end_rooms::EndRoom;
 use crate::marked_books::MarkedBook;
 use arena_tree::{MOST_SPANS, Tree};
-use deed_core::Range;
 use deed_table::{Name, Root};
 use locked_parts::LockedParts;
 use std::marker::Model;
@@ -21,26 +21,22 @@ pub(crate) fn owner_of<N: Name>(root: &Root<N>) -> u32
 
 /// Arenas with their quantum caches, and the book of their leases, each part under a lock of its
 /// own. Workers share it. A contract sees what stands beside the locks: the arenas as they were set
-/// up, the roots that they own, and the ranges of those that are closed. Room for these is made with
-/// the system, so that its end takes no memory. It is never dropped: `shut` ends it.
+/// up, and the roots of the spans that they were set up with. Those that `grow` opens stand under
+/// the locks; room for all is kept for the end, under a lock that no request takes. A system is
+/// never dropped: `shut` ends it.
 pub struct System<N: Name> {
     pub(crate) parts: LockedParts<N>,
     pub(crate) roots: Vec<Root<N>>,
-    pub(crate) closed: Vec<Range>,
+    pub(crate) room: Mutex<EndRoom<N>>,
     pub(crate) book: Mutex<MarkedBook<N>>,
 }
 
 impl<N: Name> Model for System<N> {
-    ghost use Rattle.std.specs.Prelude.{◌+◌, ◌≤◌, vec_len, vec_capacity};
     ghost use Rattle.lease_threads.specs.Systems.{SystemState};
 
     ghost Value = { SystemState };
 
-    ghost view = { λ s.
-        record { arenas = s.parts.arenas; roots = s.roots.items; closed = s.closed.items } };
-
-    // There is room for the ranges that are still to be told.
-    ghost invariant = { λ s. vec_len s.closed + vec_len s.roots ≤ vec_capacity s.closed };
+    ghost view = { λ s. record { arenas = s.parts.arenas; roots = s.roots.items } };
 }
 
 impl<N: Name> System<N> {

@@ -1,11 +1,14 @@
-//! What keeps a system in shape while it runs: intervals, sizes of magazines, reaping.
+//! What keeps a system in shape while it runs: intervals, sizes of magazines, growing, reaping.
 ghost use Rattle.std.specs.Prelude.{◌≡◌, ◌⊎◌, ◌<◌, ◌≤◌, None, true, length};
 ghost use Rattle.magazine_layer.specs.Magazines.{IsSize};
+ghost use Rattle.locked_parts.specs.Growing.{AnswersGrow};
 ghost use Rattle.locked_parts.specs.Kinds.{AreForSame, count_of_caches};
 ghost use Rattle.lease_threads.specs.Reaping.{ReapsSoundly, KeepsHand, unbegun};
 
 use crate::cpus::Cpu;
 use crate::systems::System;
+use arena_tree::GrowFault;
+use deed_core::Range;
 use deed_table::Name;
 use locked_parts::{OpenGate, Running};
 use quantum_cache::{EmptyingFault, ReapFault, Reaping, reap_arena};
@@ -29,6 +32,25 @@ impl<N: Name> System<N> {
             return false;
         }
         self.parts.resize(rt, arena, size)
+    }
+
+    /// Opens a further root of this range for an arena without a source, and adds it as an owned
+    /// span, in one event under the arena's lock. The first fault that stands is told; of those
+    /// that lie under the lock the part's own call says exactly when. Room for the root in the
+    /// lists of the end is made before, and given back where no root is opened.
+    pub fn grow<R: Wait>(&self, rt: &R, arena: u32, range: Range) -> Result<(), GrowFault>
+        ensures { AnswersGrow self.now.arenas arena result }
+    {
+        let room = self.room.lock(rt).add(1);
+        if room.is_err() {
+            self.parts.judge_growth(rt, arena, &range)?;
+            return Err(GrowFault::NoMemory);
+        }
+        let grown = self.parts.grow(rt, arena, range);
+        if grown.is_err() {
+            self.room.lock(rt).remove_one();
+        }
+        grown
     }
 
     /// Moves rounds that the depots of the arena may let go to their slabs, and slabs of which no

@@ -1,15 +1,12 @@
 use Rattle.std.proofs.Common.{◌∙◌, List, subst, sym}
 use Rattle.arena_tree.specs.declared.trees.TreeArena.{TreeArena}
 use Rattle.locked_parts.specs.News.{AreMadeAsSet}
-use Rattle.lease_threads.specs.Openings.{OneSpanEach}
 use Rattle.lease_threads.proofs.systems.System.new.Goals as goal
 
 pub returns-in-Ok-open_all-clause-made : goal.returns-in-Ok-open_all-clause-made
 returns-in-Ok-open_all-clause-made g c = record {
-  one = subst OneSpanEach c.spans.ensures.value (c.are_one_each.ensures.0 c.if-not-are_one_each.false);
   arenas = c.fill.ensures.arenas ∙ c.into_tree.ensures;
   roots = c.fill.ensures.roots ∙ c.in-Ok-open_all.ensures.roots;
-  closed = c.fill.ensures.closed;
 }
 
 pub fill-requires-clause-set_up : goal.fill-requires-clause-set_up
