@@ -1,0 +1,11 @@
+pub mod Words
+pub mod Families
+pub mod Units
+pub mod Samples
+pub mod Metrics
+pub mod Markup
+pub mod Pages
+pub mod Queries
+pub mod Requests
+pub mod Rows
+pub mod Looks

@@ -1,0 +1,193 @@
+//! The samples of a server.
+ghost use Rattle.std.specs.Prelude.{◌≡◌, ◌++◌, codes, OnOk, IfOk};
+ghost use Rattle.std.specs.List.{flat_map};
+ghost use Rattle.lease_watch.specs.Metrics as spec;
+ghost use Rattle.lease_watch.specs.Samples.{label};
+
+use crate::families::{Family, Home, homes};
+use crate::samples::{
+    push_closing, push_head, push_home, push_label, push_number, push_number_label, push_opening,
+    push_plain, push_word,
+};
+use crate::seen::{ArenaSeen, ConnectionCounts, Seen, Version};
+use crate::words::{Word, WordCounts, count_of};
+use lease_terms::ArenaName;
+use std::alloc::{AllocError, Global};
+
+/// All samples of a server, in the text format of Prometheus.
+pub fn metrics_text(alloc: Global, seen: &Seen) -> Result<Vec<u8>, AllocError>
+    ensures { IfOk result (λ text. text.items ≡ spec.metrics_text seen.now) }
+{
+    let mut out = Vec::new(alloc);
+    push_state(&mut out, seen)?;
+    push_work(&mut out, seen)?;
+    push_arenas(&mut out, seen.arenas.as_slice())?;
+    Ok(out)
+}
+
+/// What the server is and has.
+#[tactic(auto, unfolding(crate::specs::Metrics::state_text))]
+fn push_state(out: &mut Vec<u8>, seen: &Seen) -> Result<(), AllocError>
+    ensures { OnOk result (out.new.items ≡ out.old.items ++ spec.state_text seen.now) }
+{
+    push_build(out, &seen.version)?;
+    push_plain(out, Family::Uptime, seen.uptime)?;
+    push_plain(out, Family::Clients, seen.clients)?;
+    push_plain(out, Family::Leases, seen.leases)
+}
+
+#[tactic(auto, unfolding(crate::specs::Metrics::build_text))]
+fn push_build(out: &mut Vec<u8>, version: &Version) -> Result<(), AllocError>
+    ensures { OnOk result (out.new.items ≡ out.old.items ++ spec.build_text version.now) }
+{
+    push_head(out, Family::Build)?;
+    push_opening(out, Family::Build)?;
+    push_version_label(out, version)?;
+    push_closing(out, 1)
+}
+
+#[tactic(auto, unfolding(crate::specs::Samples::label))]
+fn push_version_label(out: &mut Vec<u8>, version: &Version) -> Result<(), AllocError>
+    ensures { OnOk result (out.new.items
+        ≡ out.old.items ++ label (codes "version") (spec.version_text version.now)) }
+{
+    out.extend_from_slice(b"version=\"")?;
+    push_version(out, version)?;
+    out.extend_from_slice(b"\"")
+}
+
+/// As 1.2.3.
+pub(crate) fn push_version(out: &mut Vec<u8>, version: &Version) -> Result<(), AllocError>
+    ensures { OnOk result (out.new.items ≡ out.old.items ++ spec.version_text version.now) }
+{
+    push_number(out, u128::from(version.major))?;
+    out.extend_from_slice(b".")?;
+    push_number(out, u128::from(version.minor))?;
+    out.extend_from_slice(b".")?;
+    push_number(out, u128::from(version.patch))
+}
+
+/// What the server did.
+#[tactic(auto, unfolding(crate::specs::Metrics::work_text))]
+fn push_work(out: &mut Vec<u8>, seen: &Seen) -> Result<(), AllocError>
+    ensures { OnOk result (out.new.items ≡ out.old.items ++ spec.work_text seen.now) }
+{
+    push_connections(out, &seen.connections)?;
+    push_plain(out, Family::CpuWaits, seen.cpu_waits)?;
+    push_words(out, Family::Lines, &seen.counts)?;
+    push_words(out, Family::Replies, &seen.counts)?;
+    push_words(out, Family::Refusals, &seen.counts)
+}
+
+#[tactic(auto, unfolding(crate::specs::Metrics::connections_text))]
+fn push_connections(out: &mut Vec<u8>, counts: &ConnectionCounts) -> Result<(), AllocError>
+    ensures { OnOk result (out.new.items ≡ out.old.items ++ spec.connections_text counts.now) }
+{
+    push_plain(out, Family::Connections, counts.served)?;
+    push_plain(out, Family::ConnectionsTotal, counts.total)?;
+    push_plain(out, Family::ConnectionsRefused, counts.refused)
+}
+
+/// The samples of a family whose samples have a word each.
+#[tactic(auto, unfolding(crate::specs::Metrics::words_text))]
+fn push_words(out: &mut Vec<u8>, family: Family, counts: &WordCounts) -> Result<(), AllocError>
+    ensures { OnOk result (out.new.items ≡ out.old.items ++ spec.words_text family counts.now) }
+{
+    push_head(out, family)?;
+    push_each_word(out, family, family.words(), counts)
+}
+
+fn push_each_word(
+    out: &mut Vec<u8>,
+    family: Family,
+    words: &[Word],
+    counts: &WordCounts,
+) -> Result<(), AllocError>
+    ensures { OnOk result (out.new.items
+        ≡ out.old.items ++ flat_map (spec.counted_sample family counts.now) words.now) }
+{
+    for word in words {
+        push_word(out, family, *word, count_of(counts, *word))?;
+    }
+    Ok(())
+}
+
+#[tactic(auto, unfolding(crate::specs::Metrics::arenas_text))]
+fn push_arenas(out: &mut Vec<u8>, arenas: &[ArenaSeen]) -> Result<(), AllocError>
+    ensures { OnOk result (out.new.items ≡ out.old.items ++ spec.arenas_text arenas.now) }
+{
+    push_head(out, Family::Setups)?;
+    push_setups(out, arenas)?;
+    push_head(out, Family::Units)?;
+    push_units(out, arenas)
+}
+
+fn push_setups(out: &mut Vec<u8>, arenas: &[ArenaSeen]) -> Result<(), AllocError>
+    ensures { OnOk result (out.new.items ≡ out.old.items ++ flat_map spec.setup_text arenas.now) }
+{
+    for arena in arenas {
+        push_setup(out, arena)?;
+    }
+    Ok(())
+}
+
+/// How an arena was set up.
+#[tactic(auto, unfolding(crate::specs::Metrics::setup_text))]
+fn push_setup(out: &mut Vec<u8>, arena: &ArenaSeen) -> Result<(), AllocError>
+    ensures { OnOk result (out.new.items ≡ out.old.items ++ spec.setup_text arena.now) }
+{
+    push_opening(out, Family::Setups)?;
+    push_names(out, arena)?;
+    out.extend_from_slice(b",")?;
+    push_limits(out, arena)?;
+    push_closing(out, 1)
+}
+
+#[tactic(auto, unfolding(crate::specs::Metrics::names_text))]
+fn push_names(out: &mut Vec<u8>, arena: &ArenaSeen) -> Result<(), AllocError>
+    ensures { OnOk result (out.new.items ≡ out.old.items ++ spec.names_text arena.now) }
+{
+    push_label(out, b"arena", arena.name.as_slice())?;
+    out.extend_from_slice(b",")?;
+    push_source(out, &arena.source)
+}
+
+#[tactic(auto, unfolding(crate::specs::Metrics::limits_text))]
+fn push_limits(out: &mut Vec<u8>, arena: &ArenaSeen) -> Result<(), AllocError>
+    ensures { OnOk result (out.new.items ≡ out.old.items ++ spec.limits_text arena.now) }
+{
+    push_number_label(out, b"quantum", arena.quantum)?;
+    out.extend_from_slice(b",")?;
+    push_number_label(out, b"qmax", arena.qmax)
+}
+
+/// The name of its source, or no text for a root.
+fn push_source(out: &mut Vec<u8>, source: &Option<ArenaName>) -> Result<(), AllocError>
+    ensures { OnOk result
+        (out.new.items ≡ out.old.items ++ label (codes "source") (spec.source_text source.now)) }
+{
+    match source {
+        Some(name) => push_label(out, b"source", name.as_slice()),
+        None => push_label(out, b"source", b""),
+    }
+}
+
+fn push_units(out: &mut Vec<u8>, arenas: &[ArenaSeen]) -> Result<(), AllocError>
+    ensures { OnOk result (out.new.items ≡ out.old.items ++ flat_map spec.units_text arenas.now) }
+{
+    for arena in arenas {
+        push_homes(out, arena, homes())?;
+    }
+    Ok(())
+}
+
+/// The units of an arena that have these homes.
+fn push_homes(out: &mut Vec<u8>, arena: &ArenaSeen, homes: &[Home]) -> Result<(), AllocError>
+    ensures { OnOk result
+        (out.new.items ≡ out.old.items ++ flat_map (spec.units_sample arena.now) homes.now) }
+{
+    for home in homes {
+        push_home(out, &arena.name, *home, arena.units.at(*home))?;
+    }
+    Ok(())
+}
