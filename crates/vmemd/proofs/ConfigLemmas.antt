@@ -1,24 +1,13 @@
 -- Lemmas on the lines of CONFIG, which are all taken or one is refused.
 use Rattle.std.proofs.Common.{◌≡◌, ℕ, ◌+◌, Bool, Option, Some, None, Err, Ok, Result, OnOk, IfErr, List, [], ◌∷◌, ◌++◌, length, take, refl, sym, ◌∙◌, ap, subst, arith, IfSome}
-use Rattle.std.proofs.Common.{OnErr, ◌≤◌, ◌⊎◌, inl, inr, All, slice_index_or}
-use Rattle.std.proofs.Math.Nat.{eq-or-lt_of_le}
-use Rattle.std.proofs.lemmas.List.{append-nil, length-take, length_push, get_or_append_left, get_or_push}
-use Rattle.std.proofs.lemmas.Option.{slice_get_within}
+use Rattle.std.proofs.lemmas.List.{append-nil, length-take}
 use Rattle.std.specs.Io.KnownBytes.{Consumes, IsAtEnd}
 use Rattle.std.proofs.KnownBytes.{Consumes-kept}
 use Rattle.lease_proto.specs.declared.limits.TheConstants.{LINE_ROOM}
 use Rattle.lease_proto.specs.declared.faults.LineFault.{LineFault}
 use Rattle.lease_proto.specs.Frames.{frames_of_rest, with_line_feed, IsOneLine}
-use Rattle.lease_proto.specs.declared.setup_lines.ChildLine.{ChildLine}
-use Rattle.lease_proto.specs.declared.setup_lines.RootLine.{RootLine}
 use Rattle.lease_proto.specs.declared.setup_lines.SetupLine.{SetupLine}
-use Rattle.lease_proto.specs.declared.setup_lines.SetupLine.TheVariants.{Root, Child}
 use Rattle.lease_proto.specs.SetupLines.{setup_of}
-use Rattle.arena_tree.specs.Settings.{SetupState, IsSetup, IsOwned}
-use Rattle.arena_tree.specs.Setups.{root_range}
-use Rattle.arena_tree.specs.declared.trees.TreeArena.{TreeArena}
-use Rattle.arena_tree.specs.declared.setups.OwnedSpan.{OwnedSpan}
-use Rattle.lease_threads.specs.Openings.{OneSpanEach}
 use Rattle.lease_server.specs.Intakes.{IntakeState, StopsReading}
 use Rattle.lease_server.specs.declared.faults.ServeFault.{ServeFault}
 use Rattle.lease_server.specs.declared.faults.ServeFault.TheVariants as serving
@@ -26,8 +15,6 @@ use Rattle.vmemd.specs.declared.faults.ConfigFault.{ConfigFault}
 use Rattle.vmemd.specs.declared.faults.ConfigFault.TheVariants as config
 use Rattle.vmemd.specs.declared.faults.ScriptFault.{ScriptFault}
 use Rattle.vmemd.specs.declared.faults.ScriptFault.TheVariants.{Setup, Read, Write, Memory}
-use Rattle.vmemd.specs.declared.faults.SettingFault.{SettingFault}
-use Rattle.vmemd.specs.Settings.{TakesSetupLine, root_asked}
 use Rattle.vmemd.specs.Scripts.{SetsUp, RefusesFirst, CanGoOn, serving_fault}
 use Rattle.vmemd.specs.Setups.{LineFails}
 use Rattle.vmemd.specs.Configs.{LineRefused, ConfigFails}
@@ -106,31 +93,3 @@ module _ {S : Type 0} (takes : S → SetupLine → S → Type 0) (refuses : S �
       (front, (input, Consumes-kept unread mid left input read stops.0, setup), one)
   reading_stops first made unread mid left input front setup old before after serving.Write read one stops = absurd stops
   reading_stops first made unread mid left input front setup old before after serving.Memory read one stops = absurd stops
-
--- the span of a new arena stands behind those of the arenas before it
-pub one_more : (arenas : List TreeArena) (spans : List OwnedSpan) (o : OwnedSpan) → All (IsOwned arenas) spans → OneSpanEach spans
-    → o.arena ≡ length arenas → OneSpanEach (spans ++ o ∷ [])
-one_more arenas spans o owned one at i j d less within =
-    let upto : j ≤ length spans = omega (arith, within, length_push spans o) in
-    let first = get_or_append_left spans (o ∷ []) d i (omega (arith, less, upto)) in
-    elim (eq-or-lt_of_le upto) [
-      | inl same ↦
-          (let (x, root, whole) = owned i d (omega (arith, less, same)) in
-          let below = slice_get_within arenas (slice_index_or spans i d).arena x root.here in
-          let last = get_or_push spans o d j (sym same) in
-          rw (first, last, at) below)
-      | inr inside ↦
-          (let second = get_or_append_left spans (o ∷ []) d j inside in
-          rw (first, second) (one i j d less inside))
-    ]
-
--- a root that is taken comes with one span, a child with none, and else all is as it was
-pub line_kept : (r : Result (Unit {0}) SettingFault) (old new : SetupState) (line : SetupLine) → (((root : RootLine) × (line ≡ Root root)) ⊎ ((child : ChildLine) × (line ≡ Child child))) → IsSetup old
-    → OneSpanEach old.spans → OnOk r (TakesSetupLine old line new) → OnErr r (new ≡ old) → OneSpanEach new.spans
-line_kept (Ok u) old new line (inl (root, is)) setup one taken same =
-    let (adds, spans) : TakesSetupLine old (Root root) new = subst (λ l. TakesSetupLine old l new) is taken in
-    subst OneSpanEach (sym spans) (one_more old.arenas old.spans (record { arena = length old.arenas; range = root_range (root_asked root) }) setup.owned one refl)
-line_kept (Ok u) old new line (inr (child, is)) setup one taken same =
-    let (adds, spans) : TakesSetupLine old (Child child) new = subst (λ l. TakesSetupLine old l new) is taken in
-    subst OneSpanEach (sym spans) one
-line_kept (Err fault) old new line is setup one taken same = subst (λ (s : SetupState). OneSpanEach s.spans) (sym same) one

@@ -1,18 +1,24 @@
 -- What holds over a whole script, from the laws of the lease machine.
 use Rattle.std.proofs.Common.{◌≡◌, refl, sym, ◌∙◌, ap, subst, List, [], ◌∷◌, ◌++◌, ℕ, All, Ok, Err, append_assoc}
+use Rattle.std.specs.List.{AllByRecursion}
+use Rattle.std.specs.Prelude.{slice_get}
+use Rattle.deed_core.specs.Holding.{Holding}
 use Rattle.arena_tree.specs.declared.trees.TreeArena.{TreeArena}
+use Rattle.arena_tree.specs.Trees.{index_in}
 use Rattle.lease_proto.specs.Frames.{Frame}
 use Rattle.lease_proto.specs.Faults.{error_line}
-use Rattle.lease_machine.specs.Picture.{Picture, IsPicture, SameSetup}
-use Rattle.lease_machine.specs.Laws.{Runs}
-use Rattle.lease_machine.proofs.LawProofs.{pictures_stay, setup_stays, units_have_one_home, leases_are_apart, audit_is_told, audit_tells_leases, audit_is_whole}
-use Rattle.lease_machine.proofs.LawProofs.{lines_repeat, answers_agree, grants_fit, repeats_fit, first_lease_is_served, freed_is_whole, tick_and_reap_empty}
+use Rattle.lease_book.specs.BookState.{BookState}
+use Rattle.lease_call.specs.Growing.{range_asked}
+use Rattle.lease_machine.specs.Picture.{Picture, IsPicture}
+use Rattle.lease_machine.specs.Laws.{Runs, GrowsAlone}
+use Rattle.lease_machine.specs.RoomLaws.{NothingIsKept}
+use Rattle.lease_machine.proofs.LawProofs.{pictures_stay, grows_then, units_have_one_home, leases_are_apart, audit_is_told, audit_tells_leases, audit_is_whole}
+use Rattle.lease_machine.proofs.LawProofs.{lines_repeat, answers_agree, grants_fit, repeats_fit, first_lease_is_served, freed_is_whole, tick_and_reap_empty, grown_is_served, grows_keep_nothing}
 use Rattle.stock_desk.proofs.LawProofs.{opened_unused}
-use Rattle.vmemd.specs.Desks.{IsDeskOf}
-use Rattle.vmemd.proofs.SpanLemmas.{span_there}
+use Rattle.vmemd.proofs.SpanLemmas.{given_owned, owns_on, range_serves, range_there, script_tree, span_there}
 use Rattle.vmemd.proofs.UncachedLemmas.{nothing_kept}
 use Rattle.vmemd.specs.Laws.{Script, ScriptsSplit, ScriptLeasesStayApart, ScriptUnitsHaveOneHome, ScriptAuditIsTold, ScriptAuditIsWhole}
-use Rattle.vmemd.specs.Laws.{ScriptLinesRepeat, ScriptAnswersAgree, ScriptGrantsFit, ScriptRepeatsFit, ScriptFirstLeaseIsServed, ScriptFreedIsWhole, ScriptReturnedIsWhole, ScriptEmptiedIsWhole}
+use Rattle.vmemd.specs.Laws.{ScriptLinesRepeat, ScriptAnswersAgree, ScriptGrantsFit, ScriptRepeatsFit, ScriptFirstLeaseIsServed, ScriptGrownIsServed, ScriptFreedIsWhole, ScriptReturnedIsWhole, ScriptEmptiedIsWhole}
 
 -- what a script leaves is a picture
 script_picture : (last : Picture) → Script last → IsPicture last
@@ -66,34 +72,48 @@ script_repeats_fit id l first second frames a fresh =
     repeats_fit a.old a.mid a.late a.new id l a.again a.line first a.between a.repeat second frames (script_picture a.old a.answers.script)
     a.asks fresh a.answers.step a.goes_on a.asks_again a.answers_again
 
+-- grows alone leave nothing kept
+only_grows : (frames : List Frame) (old new : Picture) (text : List ℕ) → Runs old frames text new → AllByRecursion GrowsAlone frames → NothingIsKept old → NothingIsKept new × (new.book ≡ old.book)
+only_grows [] old new text run alone kept = (subst NothingIsKept (sym run.1) kept, ap (λ (d : Picture). d.book) run.1)
+only_grows (Ok line ∷ frames) old new text (reply, others, mid, step, same, run) alone kept =
+    let first = grows_keep_nothing old mid alone.0.0 line reply kept alone.0.1 step in
+    let rest = only_grows frames mid new others run alone.1 first.0 in
+    (rest.0, rest.1 ∙ first.1)
+only_grows (Err fault ∷ frames) old new text (others, same, run) alone kept = only_grows frames old new others run alone.1 kept
+
 pub script_first_lease : ScriptFirstLeaseIsServed
-script_first_lease start mid new s hello greeting lease text h id l none is_hello greets asks answers fits =
-    let begun : start ≡ s.desk = (subst (λ (frames : List Frame). Runs s.desk frames s.text start) none s.serves).1 in
-    let opened : IsDeskOf s.made start = subst (λ (d : Picture). IsDeskOf s.made d) (sym begun) s.opened in
-    let there = span_there s.made s.desk start l s.opened (setup_stays s.desk start s.frames s.text s.serves) fits in
-    first_lease_is_served start mid new hello greeting lease text h id l fits.arena there.space opened.picture (opened_unused s.made start opened.opened) opened.opened.book.accounts
-    there.names is_hello greets asks answers there.span fits.base there.owns there.serves
+script_first_lease start mid new s hello greeting lease text h id l alone is_hello greets asks answers fits =
+    let begun = only_grows s.frames s.desk start s.text s.serves alone (opened_unused s.made s.desk s.opened.opened) in
+    let there = span_there start s l fits in
+    first_lease_is_served start mid new hello greeting lease text h id l fits.3.arena there.space (script_picture start s) begun.0 (ap (λ (b : BookState). b.accounts) begun.1 ∙ s.opened.opened.book.accounts)
+    there.names is_hello greets asks answers there.span fits.3.base there.owns there.serves
+
+pub script_grown_served : ScriptGrownIsServed
+script_grown_served old mid new g id l grow line text index a read asks fresh answers named fits said =
+    let tree : mid.tree ≡ a.script.made.arenas = a.step.setup.tree ∙ script_tree old a.script in
+    let span : Holding = record { root = 0; range = range_asked g } in
+    grown_is_served old mid new g id l index fits.arena span fits.base (script_picture old a.script) (record { line = grow; read = read; step = a.step })
+    (ap (index_in g.arena) tree ∙ named)
+    (record { first = ap (index_in l.arena) tree ∙ fits.named; here = ap (λ (t : List TreeArena). slice_get t index) tree ∙ fits.here })
+    refl (range_serves a.script.made.arenas index (range_asked g) l fits span refl)
+    (record { line = line; text = text; read = asks; fresh = fresh; step = answers; said = said })
 
 pub script_freed_whole : ScriptFreedIsWhole
 script_freed_whole old new id l line text a none asks fresh fits said =
-    let s = a.script in
-    let there = span_there s.made s.desk old l s.opened (setup_stays s.desk old s.frames s.text s.serves) fits in
-    freed_is_whole old new id l fits.arena there.space (script_picture old s) none there.names there.span fits.base there.owns there.serves
+    let there = span_there old a.script l fits in
+    freed_is_whole old new id l fits.3.arena there.space (script_picture old a.script) none there.names there.span fits.3.base there.owns there.serves
     (record { line = line; text = text; read = asks; fresh = fresh; step = a.step; said = said })
 
 pub script_returned_whole : ScriptReturnedIsWhole
 script_returned_whole old new id l line text a uncached none asks fresh fits =
-    let s = a.script in
-    let tree : old.tree ≡ s.made.arenas = (setup_stays s.desk old s.frames s.text s.serves).tree ∙ s.opened.opened.tree in
-    let bare = subst (λ (t : List TreeArena). All (λ x. x.qcache_max ≡ 0) t) (sym tree) uncached in
-    script_freed_whole old new id l line text a (nothing_kept old (script_picture old s) bare none) asks fresh fits
+    let bare = subst (λ (t : List TreeArena). All (λ x. x.qcache_max ≡ 0) t) (sym (script_tree old a.script)) uncached in
+    script_freed_whole old new id l line text a (nothing_kept old (script_picture old a.script) bare none) asks fresh fits
 
 pub script_emptied_whole : ScriptEmptiedIsWhole
 script_emptied_whole old mid late new id l told reaped line text a free none second asks fresh answers fits said =
     let s = a.script in
-    let before = setup_stays s.desk old s.frames s.text s.serves in
-    let first = a.step.setup in
-    let after : SameSetup s.desk late = record { tree = second.setup.tree ∙ (first.tree ∙ before.tree); owned = second.setup.owned ∙ (first.owned ∙ before.owned) } in
-    let there = span_there s.made s.desk late l s.opened after fits in
-    freed_is_whole late new id l fits.arena there.space second.picture (tick_and_reap_empty old mid late told reaped free none a.step second) there.names there.span fits.base there.owns there.serves
+    let on = grows_then old mid late a.step.setup second.setup in
+    let owns = owns_on old late fits.0 fits.1 on (given_owned old s fits.0 fits.1 fits.3.arena fits.3.here fits.2) in
+    let there = range_there late s.made.arenas fits.0 fits.1 l (on.tree ∙ script_tree old s) owns fits.3 in
+    freed_is_whole late new id l fits.3.arena there.space second.picture (tick_and_reap_empty old mid late told reaped free none a.step second) there.names there.span fits.3.base there.owns there.serves
     (record { line = line; text = text; read = asks; fresh = fresh; step = answers; said = said })

@@ -9,3 +9,4 @@ mod CommandLemmas
 mod ConfigLemmas
 mod SettingLemmas
 mod RunningLemmas
+mod WatchLemmas

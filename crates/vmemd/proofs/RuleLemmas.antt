@@ -16,7 +16,7 @@ use Rattle.lease_machine.specs.Picture.{Picture}
 use Rattle.lease_machine.specs.AnswerLaws.{AreNamed}
 use Rattle.lease_machine.specs.GrantLaws.{GrantsApart}
 use Rattle.lease_machine.specs.Laws.{Runs}
-use Rattle.lease_machine.proofs.LawProofs.{runs_keep_rules, grants_stay_apart, clients_get_replies, pictures_stay, setup_stays}
+use Rattle.lease_machine.proofs.LawProofs.{runs_keep_rules, grants_stay_apart, clients_get_replies, pictures_stay, setup_only_grows}
 use Rattle.vmemd.specs.declared.faults.ScriptFault.TheVariants.{Setup, Read, Write, Memory}
 use Rattle.vmemd.specs.Scripts.{Makes, OpensDesk}
 use Rattle.vmemd.specs.Settings.{TakesSetupLine}
@@ -120,7 +120,7 @@ pub script_clients_replies : ScriptClientsGetReplies
 script_clients_replies old new l line text a read =
     let s = a.script in
     let is = pictures_stay s.desk old s.frames s.text s.opened.picture s.serves in
-    let tree = (setup_stays s.desk old s.frames s.text s.serves).tree in
+    let tree = (setup_only_grows s.desk old s.frames s.text s.serves).tree in
     clients_get_replies old new l line text is (subst AreNamed (sym tree) (desk_named old s)) read a.step
 
 pub script_grants_apart : ScriptGrantsStayApart

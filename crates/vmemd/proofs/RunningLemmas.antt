@@ -1,45 +1,178 @@
 -- From what was told and read to how a server ran.
-use Rattle.std.proofs.Common.{◌≡◌, ◌∙◌, List, [], ◌∷◌, ◌++◌, Result, Ok, Err, refl, sym, ap, append_assoc, map}
-use Rattle.std.proofs.KnownBytes.{Appends-trans}
-use Rattle.arena_tree.specs.declared.setups.OwnedSpan.{OwnedSpan}
+use Rattle.std.proofs.Common.{◌≡◌, ◌∙◌, ◌++◌, ◌-◌, ◌<◌, ℕ, All, length, Option, Some, None, List, [], ◌∷◌, Result, Ok, Err, Bool, true, false, refl, sym, ap, subst, inl, inr, append_assoc, arith}
+use Rattle.std.proofs.lemmas.List.{append-nil}
+use Rattle.std.proofs.lemmas.List.Elements.{All-append}
+use Rattle.std.proofs.lemmas.List.Sorted.{IsPermutation-append, IsPermutation-refl, IsPermutation-trans}
+use Rattle.std.specs.List.Sorted.{IsPermutation}
+use Rattle.std.specs.Io.KnownBytes.{Appends, Consumes}
+use Rattle.std.proofs.KnownBytes.{Appends-trans, Consumes-nil}
+use Rattle.deed_core.specs.Extent.{Extent}
+use Rattle.deed_core.specs.Holding.{Holding}
+use Rattle.arena_tree.specs.declared.trees.TreeArena.{TreeArena}
+use Rattle.lease_proto.specs.Frames.{Frame, frames_in, frames_of}
+use Rattle.lease_proto.specs.Serving.{ServesLines}
+use Rattle.lease_server.specs.Intakes.{IntakeState, frames_on, frames_to_end, hand_in}
+use Rattle.lease_server.specs.Serving as serving
+use Rattle.lease_server.specs.Serving.{TellFails, WritesFront}
 use Rattle.lease_server.specs.Watching.{Streams}
-use Rattle.lease_threads.specs.Openings.{root_of}
+use Rattle.lease_server.specs.declared.faults.ServeFault.TheVariants as serve
+use Rattle.lease_server.specs.declared.intakes.TheConstants.{MOST_READS}
+use Rattle.lease_server.proofs.LawProofs.{hand_tells}
+use Rattle.lease_threads.specs.Ends.{HaltedState, AreTold, AreRangesLeft, IsRestOf, KeepsRoots, owner_of}
+use Rattle.lease_threads.specs.Systems.{SystemState}
+use Rattle.vmemd.specs.Operators.{may_tell, Tells}
 use Rattle.vmemd.specs.declared.running.RunFault.{RunFault}
 use Rattle.vmemd.specs.declared.running.RunFault.TheVariants.{Read, Write, Listen, Memory, Shut}
-use Rattle.vmemd.specs.Running.{Attends, Closes, ServesToItsEnd, ReaderWorks, listening_line, closed_line}
+use Rattle.vmemd.specs.Running.{AnswersBehind, Attends, BothWork, Closes, ServesToItsEnd, TellsSome, TellsToEnd, closed_line, listening_line, run_text}
 
--- a fault before the end is the run's
-pub run_fails : (old new : Streams) (fault : RunFault) → Attends old new (Err fault) → ServesToItsEnd old new (Err fault)
-run_fails old new Read p = p
-run_fails old new Write (address, (written, unwritten, split, appends), failed, works) =
-    (address, (written, unwritten ++ closed_line, ap (λ l. l ++ closed_line) split ∙ append_assoc written unwritten closed_line, appends), failed, works)
-run_fails old new Listen p = absurd p
-run_fails old new Memory p = p
-run_fails old new Shut p = absurd p
+-- before anything is read
+abbrev pub unread_intake : IntakeState
+unread_intake = record { hand = hand_in [] []; reads = 0; ended = false }
 
--- at the end of the input, the run is as telling that it closed
-pub run_closes : (old mid new : Streams) (u : Unit {0}) (r : Result (Unit {0}) RunFault) → Attends old mid (Ok u) → new.unread ≡ mid.unread → ReaderWorks mid new
-    → Closes mid.written new.written mid.writer_failed new.writer_failed r → ServesToItsEnd old new r
-run_closes old mid new u (Ok x) (address, told, end, reader, writer) same works (p, wrote) =
-    (address, Appends-trans old.written mid.written new.written (listening_line address) closed_line told p, rw same end, works ∙ reader, wrote ∙ writer)
-run_closes old mid new u (Err Shut) (address, told, end, reader, writer) same works (p, wrote) =
-    (address, Appends-trans old.written mid.written new.written (listening_line address) closed_line told p, rw same end, works ∙ reader, wrote ∙ writer)
-run_closes old mid new u (Err Write) (address, told, end, reader, writer) same works ((written, unwritten, split, appends), failed) = (
-  address,
+module _ (arenas last : List TreeArena) (old new : Streams) where
+  -- all lines were told
+  pub told_all : serving.TellsAll may_tell (hand_in [] []) old new arenas last → AnswersBehind arenas [] old new (Ok tt)
+  told_all (input, consumed, end, (text, serves, appends), reads, writes) =
+      let frames = (hand_tells [] input).1 in
+      (text, (input, consumed, end, (last, subst (λ f. ServesLines may_tell arenas f text last) frames serves)), appends, (reads, writes))
+
+  -- a fault of reading
+  pub told_so_far : TellFails may_tell unread_intake old new arenas last serve.Read → AnswersBehind arenas [] old new (Err Read)
+  told_so_far (input, (going, consumed, (text, serves, appends)), failed, works) =
+      let frames = (hand_tells [] input).0 in
+      (text, (input, consumed, (last, subst (λ f. ServesLines may_tell arenas f text last) frames serves), inl failed), appends, works)
+
+  -- as often as it may be read
+  pub told_in_turns : TellFails may_tell unread_intake old new arenas last serve.Turns → AnswersBehind arenas [] old new (Err Read)
+  told_in_turns (input, (going, consumed, (text, serves, appends)), reads, works, many, counted) =
+      let frames = (hand_tells [] input).0 in
+      (text, (input, consumed, (last, subst (λ f. ServesLines may_tell arenas f text last) frames serves), inr counted), appends, works)
+
+-- a fault of writing, after which the reader may be read on
+pub told_some : (arenas last : List TreeArena) (old mid new : Streams) → TellFails may_tell unread_intake old mid arenas last serve.Write
+    → new.written ≡ mid.written → new.writer_failed ≡ mid.writer_failed → AnswersBehind arenas [] old new (Err Write)
+told_some arenas last old mid new (input, consumed, (served, later, split, (then, written, unwritten, serves, appends)), reads, failed) same stays =
+    let frames = (hand_tells [] input).1 in (
+      written ++ unwritten,
+      (input, mid.unread, consumed, (served, later, sym frames ∙ split, (then, serves))),
+      (written, unwritten, refl, subst (λ w. Appends old.written w written) (sym same) appends),
+      stays ∙ failed,
+    )
+
+-- behind what was written before
+pub behind : (arenas : List TreeArena) (first : List ℕ) (old mid new : Streams) (r : Result (Unit {0}) RunFault) → Appends old.written mid.written first
+    → mid.unread ≡ old.unread → mid.reads ≡ old.reads → AnswersBehind arenas [] mid new r → AnswersBehind arenas first old new r
+behind arenas first old mid new (Ok u) wrote unread reads (text, (input, consumed, end, tells), appends, works) =
+    (text, (input, subst (λ o. Consumes o new.unread input) unread consumed, end, tells), Appends-trans old.written mid.written new.written first text wrote appends, works)
+behind arenas first old mid new (Err Read) wrote unread reads (text, (input, consumed, tells, spent), appends, works) =
+    (text, (input, subst (λ o. Consumes o new.unread input) unread consumed, tells, rw (sym reads) spent), Appends-trans old.written mid.written new.written first text wrote appends, works)
+behind arenas first old mid new (Err Write) wrote unread reads (text, (input, left, consumed, tells), (written, unwritten, split, appends), failed) = (
+  text,
+  (input, left, subst (λ o. Consumes o left input) unread consumed, tells),
   (
-    listening_line address ++ written,
+    first ++ written,
     unwritten,
-    ap (λ l. listening_line address ++ l) split ∙ sym (append_assoc (listening_line address) written unwritten),
-    Appends-trans old.written mid.written new.written (listening_line address) written told appends,
+    ap (λ l. first ++ l) split ∙ sym (append_assoc first written unwritten),
+    Appends-trans old.written mid.written new.written first written wrote appends,
   ),
   failed,
-  works ∙ reader,
 )
-run_closes old mid new u (Err Read) a same works p = absurd p
-run_closes old mid new u (Err Listen) a same works p = absurd p
-run_closes old mid new u (Err Memory) a same works p = absurd p
+behind arenas first old mid new (Err Memory) wrote unread reads a = absurd a
+behind arenas first old mid new (Err Listen) wrote unread reads a = absurd a
+behind arenas first old mid new (Err Shut) wrote unread reads a = absurd a
 
--- the roots of a system have the ranges of the spans
-pub ranges_of_roots : (spans : List OwnedSpan) → map (λ r. r.range) (map root_of spans) ≡ map (λ o. o.range) spans
-ranges_of_roots [] = refl
-ranges_of_roots (o ∷ os) = ap (λ l. o.range ∷ l) (ranges_of_roots os)
+-- with an address before it
+pub addressed : (arenas : List TreeArena) (address : List ℕ) (old new : Streams) (r : Result (Unit {0}) RunFault)
+    → AnswersBehind arenas (listening_line address) old new r → Attends arenas old new r
+addressed arenas address old new (Ok u) a = (address, a)
+addressed arenas address old new (Err Read) a = (address, a)
+addressed arenas address old new (Err Write) a = (address, a)
+addressed arenas address old new (Err Memory) a = absurd a
+addressed arenas address old new (Err Listen) a = absurd a
+addressed arenas address old new (Err Shut) a = absurd a
+
+-- where the address itself can't be written
+pub untold : (arenas : List TreeArena) (address : List ℕ) (old new : Streams) → WritesFront (listening_line address) old.written new.written
+    → new.writer_failed ≡ true → Attends arenas old new (Err Write)
+untold arenas address old new (written, unwritten, split, appends) failed = (
+  address,
+  (
+    [],
+    ([], old.unread, Consumes-nil old.unread, ([], frames_of [], refl, (arenas, (refl, refl)))),
+    (written, unwritten, append-nil (listening_line address) ∙ split, appends),
+    failed,
+  ),
+)
+
+-- a fault before the end is the run's
+pub run_fails : (arenas : List TreeArena) (old new : Streams) (fault : RunFault) → Attends arenas old new (Err fault) → ServesToItsEnd arenas old new (Err fault)
+run_fails arenas old new Read p = p
+run_fails arenas old new Write (address, (text, tells, (written, unwritten, split, appends), failed)) = (
+  address,
+  text,
+  tells,
+  (written, unwritten ++ closed_line, ap (λ l. l ++ closed_line) split ∙ append_assoc written unwritten closed_line, appends),
+  failed,
+)
+run_fails arenas old new Listen p = absurd p
+run_fails arenas old new Memory p = p
+run_fails arenas old new Shut p = absurd p
+
+-- at the end of the input, the run is as telling that it closed
+pub run_closes : (arenas : List TreeArena) (old mid new : Streams) (u : Unit {0}) (r : Result (Unit {0}) RunFault) → Attends arenas old mid (Ok u) → new.unread ≡ mid.unread
+    → new.reader_failed ≡ mid.reader_failed → Closes mid.written new.written mid.writer_failed new.writer_failed r → ServesToItsEnd arenas old new r
+run_closes arenas old mid new u (Ok x) (address, (text, tells, told, (reader, writer))) same works (p, wrote) = (
+  address,
+  text,
+  rw same tells,
+  Appends-trans old.written mid.written new.written (listening_line address ++ text) closed_line told p,
+  (works ∙ reader, wrote ∙ writer),
+)
+run_closes arenas old mid new u (Err Shut) (address, (text, tells, told, (reader, writer))) same works (p, wrote) = (
+  address,
+  text,
+  rw same tells,
+  Appends-trans old.written mid.written new.written (listening_line address ++ text) closed_line told p,
+  (works ∙ reader, wrote ∙ writer),
+)
+run_closes arenas old mid new u (Err Write) (address, (text, (input, consumed, end, tells), told, (reader, writer))) same works ((written, unwritten, split, appends), failed) = (
+  address,
+  text,
+  (input, mid.unread, consumed, (frames_of input, [], sym (append-nil (frames_of input)), tells)),
+  (
+    (listening_line address ++ text) ++ written,
+    unwritten,
+    ap (λ l. (listening_line address ++ text) ++ l) split ∙ sym (append_assoc (listening_line address ++ text) written unwritten),
+    Appends-trans old.written mid.written new.written (listening_line address ++ text) written told appends,
+  ),
+  failed,
+)
+run_closes arenas old mid new u (Err Read) a same works p = absurd p
+run_closes arenas old mid new u (Err Listen) a same works p = absurd p
+run_closes arenas old mid new u (Err Memory) a same works p = absurd p
+
+-- the ranges that are left to tell are those that were left before
+left_before : (old : HaltedState) (told : Option (List Extent)) (system : SystemState) (ranges : List Extent) → KeepsRoots old told system.roots
+    → system.arenas ≡ old.system.arenas → AreTold told system ranges → AreRangesLeft old ranges
+left_before old (Some told) system ranges keeps arenas is = subst (λ (r : List Extent). AreRangesLeft old r) (sym is) keeps
+left_before old None system ranges (none, roots) arenas is =
+    let more = is.each.further in
+    let of : All (λ (r : Holding). owner_of r < length old.system.arenas) more =
+    subst (λ (a : List TreeArena). All (λ (r : Holding). owner_of r < length a) more) arenas is.each.of_arenas in
+    let both = IsPermutation-append (old.system.roots ++ roots.further) system.roots more more roots.each (IsPermutation-refl more) in
+    let each : IsPermutation (old.system.roots ++ (roots.further ++ more)) is.all =
+    subst (λ (l : List Holding). IsPermutation l is.all) (append_assoc old.system.roots roots.further more)
+    (IsPermutation-trans ((old.system.roots ++ roots.further) ++ more) (system.roots ++ more) is.all both is.each.each) in
+    subst (λ (t : Option (List Extent)). AreTold t old.system ranges) (sym none) (record {
+      all = is.all;
+      each = record {
+        further = roots.further ++ more;
+        of_arenas = All-append (λ (r : Holding). owner_of r < length old.system.arenas) roots.further more roots.of_arenas of;
+        each = each;
+      };
+      in_order = is.in_order;
+      told = is.told;
+    })
+
+pub rest_left : (old new : HaltedState) (ranges : List Extent) → IsRestOf old new → AreRangesLeft new ranges → AreRangesLeft old ranges
+rest_left old new ranges rest left = left_before old new.told new.system ranges rest.roots rest.arenas left

@@ -1,6 +1,6 @@
 -- The words of the command line, and how a program ends that they are for no part of.
 use Rattle.std.specs.Prelude.{◌≡◌, ◌≢◌, ◌⊎◌, ℕ, Bool, List, ◌∷◌, [], Option, Some, true, false}
-use Rattle.std.specs.Prelude.{None, IfSome, codes, pos, unwrap_or, ◌≤◌}
+use Rattle.std.specs.Prelude.{None, IfSome, codes, pos, option_copied, unwrap_or, ◌≤◌}
 use Rattle.std.specs.Fmt.{decimal}
 use Rattle.std.specs.Io.KnownBytes.{Appends, Keeps}
 use Rattle.clap.specs.Words.{App, Kinds, IsAmong, Rule, new_app, new_rule, with_rule}
@@ -60,6 +60,14 @@ connections_word = record (new_rule (codes "connections")) {
   parser = Some (Signed (pos 1) (pos MOST_CONNECTIONS));
 }
 
+-- the option of where the server is watched
+abbrev pub metrics_word : Rule
+metrics_word = record (new_rule (codes "metrics")) {
+  long = Some (codes "metrics");
+  value_names = 1;
+  action = Some Set;
+}
+
 -- the words of `serve ADDRESS CONFIG WORKERS`
 abbrev pub bare_serve : App
 bare_serve = with_rule (with_rule (with_rule (new_app (codes "serve"))
@@ -68,8 +76,9 @@ bare_serve = with_rule (with_rule (with_rule (new_app (codes "serve"))
 -- the subcommand `serve`, with its options
 abbrev pub serve_command : App
 serve_command =
-    with_rule (with_rule (with_rule (with_rule bare_serve (seconds_word (codes "line-limit")))
-    (seconds_word (codes "idle-limit"))) (seconds_word (codes "grace"))) connections_word
+    with_rule (with_rule (with_rule (with_rule (with_rule bare_serve
+    (seconds_word (codes "line-limit"))) (seconds_word (codes "idle-limit")))
+    (seconds_word (codes "grace"))) connections_word) metrics_word
 
 -- the program's command, which has to have one of the subcommands `script` and `serve`
 abbrev pub program : App
@@ -102,6 +111,7 @@ AsksToServe rows asked = (asked.address.now ≡ unwrap_or (first_of (codes "ADDR
     × GivesNumber rows (codes "idle-limit") MOST_SECONDS IDLE_LIMIT asked.idle_limit
     × GivesOption rows (codes "grace") MOST_SECONDS asked.grace
     × GivesOption rows (codes "connections") MOST_CONNECTIONS asked.connections
+    × (option_copied asked.metrics ≡ first_of (codes "metrics") rows)
 
 -- what is given, by the name of the command that clap finds and the values of its words: all but
 -- `serve` is a script

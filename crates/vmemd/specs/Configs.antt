@@ -1,7 +1,6 @@
 -- What a CONFIG file sets up.
 use Rattle.std.specs.Prelude.{◌≡◌, ◌+◌, ℕ, List, [], length, Option, IfSome}
 use Rattle.lease_proto.specs.declared.setup_lines.SetupLine.{SetupLine}
-use Rattle.lease_proto.specs.declared.setup_lines.SetupLine.TheVariants.{Root, Child, Span}
 use Rattle.lease_proto.specs.Frames.{IsOneLine}
 use Rattle.arena_tree.specs.Settings.{SetupState}
 use Rattle.vmemd.specs.Scripts.{SetsUp, RefusesFirst, CanGoOn}
@@ -9,26 +8,8 @@ use Rattle.vmemd.specs.Setups.{ReadsSetup}
 use Rattle.vmemd.specs.Settings.{TakesSetupLine, RefusesSetupLine, CanTakeSetupLine}
 use Rattle.vmemd.specs.Desks.{no_arenas}
 use Rattle.vmemd.specs.declared.faults.ConfigFault.{ConfigFault}
-use Rattle.vmemd.specs.declared.faults.ConfigFault.TheVariants.{SpanInServe}
 use Rattle.vmemd.specs.declared.faults.ScriptFault.{ScriptFault}
 use Rattle.vmemd.specs.declared.faults.ScriptFault.TheVariants.{Setup, Read, Write, Memory}
-
--- a server's setup takes what a setup takes, but no further span
-abbrev pub TakesConfigLine : SetupState → SetupLine → SetupState → Type 0
-TakesConfigLine old (Root r) new = TakesSetupLine old (Root r) new
-TakesConfigLine old (Child c) new = TakesSetupLine old (Child c) new
-TakesConfigLine old (Span s) new = ⊥
-
-abbrev pub CanTakeConfigLine : SetupState → SetupLine → Type 0
-CanTakeConfigLine s (Root r) = CanTakeSetupLine s (Root r)
-CanTakeConfigLine s (Child c) = CanTakeSetupLine s (Child c)
-CanTakeConfigLine s (Span n) = ⊥
-
--- it refuses each further span for that, and else what a setup refuses
-abbrev pub RefusesConfigLine : SetupState → SetupLine → ConfigFault → Type 0
-RefusesConfigLine s (Root r) word = RefusesSetupLine s (Root r) word
-RefusesConfigLine s (Child c) word = RefusesSetupLine s (Child c) word
-RefusesConfigLine s (Span n) word = word ≡ SpanInServe
 
 module _ {S : Type 0} (takes : S → SetupLine → S → Type 0) where
   -- an input is setup lines that are all taken
@@ -58,10 +39,10 @@ module _ {S : Type 0} (takes : S → SetupLine → S → Type 0)
 
 -- CONFIG's lines make this setup
 abbrev pub ConfigMakes : Option (List ℕ) → SetupState → Type 0
-ConfigMakes unread made = MakesAll TakesConfigLine no_arenas unread made
+ConfigMakes unread made = MakesAll TakesSetupLine no_arenas unread made
 
 -- CONFIG isn't read or taken, and why
 abbrev pub ConfigRefuses : Option (List ℕ) → Option (List ℕ) → ScriptFault → Type 0
 ConfigRefuses unread left fault = (made : SetupState)
-    × ConfigFails TakesConfigLine RefusesConfigLine CanTakeConfigLine no_arenas unread left made
+    × ConfigFails TakesSetupLine RefusesSetupLine CanTakeSetupLine no_arenas unread left made
     fault

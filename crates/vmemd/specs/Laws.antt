@@ -1,8 +1,9 @@
 -- What holds over a whole script.
 use Rattle.std.specs.Prelude.{◌≡◌, ◌≢◌, ◌⊎◌, ◌≤◌, ◌+◌, ℕ, List, [], ◌++◌, All, AllPairs, Contains}
-use Rattle.std.specs.Prelude.{codes, sum_by, slice_get, Some, Ok}
+use Rattle.std.specs.Prelude.{◌∷◌, codes, sum_by, slice_get, Some, Ok}
+use Rattle.std.specs.List.{AllByRecursion}
 use Rattle.deed_core.specs.Covering.{units_held}
-use Rattle.deed_core.specs.Extent.{end_of}
+use Rattle.deed_core.specs.Extent.{Extent, end_of}
 use Rattle.deed_core.specs.Request.{Fits}
 use Rattle.tag_arena.specs.ArenaState.{spans_of}
 use Rattle.arena_tree.specs.declared.trees.TreeArena.{TreeArena}
@@ -22,19 +23,24 @@ use Rattle.lease_proto.specs.declared.lines.LeaseLine.{LeaseLine}
 use Rattle.lease_proto.specs.declared.lines.Line.TheVariants as lines
 use Rattle.lease_proto.specs.declared.lines.Op.{Op}
 use Rattle.lease_proto.specs.declared.lines.Op.TheVariants as ops
+use Rattle.lease_proto.specs.declared.operators.GrowLine.{GrowLine}
+use Rattle.lease_proto.specs.declared.operators.OperatorLine.TheVariants as operator
 use Rattle.lease_proto.specs.declared.operators.ServedLine.TheVariants as served
 use Rattle.lease_proto.specs.declared.replies.Reply.{Reply}
 use Rattle.lease_proto.specs.Faults.{error_text}
 use Rattle.lease_proto.specs.Frames.{Frame}
 use Rattle.lease_proto.specs.Operators.{served_of}
+use Rattle.lease_proto.specs.Reports.{ok_text}
 use Rattle.lease_proto.specs.Requests.{demand_of}
+use Rattle.lease_call.specs.Growing.{range_asked}
 use Rattle.lease_machine.specs.Picture.{Picture}
 use Rattle.lease_machine.specs.Operators.{sums_in, audit_texts_of}
 use Rattle.lease_machine.specs.Machine.{LeaseStep}
-use Rattle.lease_machine.specs.Laws.{Runs, UnitsAtHome}
+use Rattle.lease_machine.specs.Laws.{Runs, UnitsAtHome, GrowsAlone}
 use Rattle.lease_machine.specs.AnswerLaws.{reply_bytes, IsUnkept, IsRequestLine, AreOfOthers}
 use Rattle.lease_machine.specs.AnswerLaws.{NamesRequest, FitsLine}
 use Rattle.lease_machine.specs.RoomLaws.{NothingIsKept, refusal_to}
+use Rattle.lease_machine.specs.GrowLaws.{Grew}
 use Rattle.lease_machine.specs.EmptyingLaws.{CpuHasNoRound}
 use Rattle.vmemd.specs.Scripts.{Makes}
 use Rattle.vmemd.specs.Settings.{TakesSetupLine}
@@ -136,27 +142,63 @@ ScriptRepeatsFit = (id : RequestId) (l : LeaseLine) (first second : List ℕ) (f
     → ((r : Reply) × (second ≡ reply_bytes r) × NamesRequest id r × FitsLine a.old l r)
     ⊎ (IsUnkept first ⊎ IsUnkept second)
 
--- the lease fits in a span that the setup gives the arena that it names
-pub record FitsInSpan (made : SetupState) (l : LeaseLine) : Type 0 where
+-- one of a script's lines is this grow, and was answered `ok`
+pub record HasGrown (last : Picture) (s : Script last) (g : GrowLine) : Type 0 where
+  pub front : List Frame
+  pub told : List ℕ
+  pub old : Picture
+  pub before : Runs s.desk front told old
+  pub mid : Picture
+  pub grew : Grew g old mid
+  pub rest : List Frame
+  pub later : List ℕ
+  pub after : Runs mid rest later last
+  pub frames : s.frames ≡ front ++ Ok grew.line ∷ rest
+  pub text : s.text ≡ told ++ (ok_text ++ later)
+
+-- the setup gives the arena at the index these units as a span, or a grow of the script did
+abbrev pub IsGiven : (last : Picture) → Script last → ℕ → Extent → Type 0
+IsGiven last s index range =
+    ((span : OwnedSpan) × Contains s.made.spans span × (span.arena ≡ index) × (span.range ≡ range))
+    ⊎ ((g : GrowLine) × HasGrown last s g × (index_in g.arena s.made.arenas ≡ Some index)
+    × (range_asked g ≡ range))
+
+-- the lease names the arena at the index, and fits in these units
+pub record FitsInRange (arenas : List TreeArena) (index : ℕ) (range : Extent) (l : LeaseLine)
+    : Type 0 where
   pub arena : TreeArena
-  pub span : OwnedSpan
   pub base : ℕ
   pub len : ℕ
-  pub named : index_in l.arena made.arenas ≡ Some span.arena
-  pub here : slice_get made.arenas span.arena ≡ Some arena
-  pub owned : Contains made.spans span
+  pub named : index_in l.arena arenas ≡ Some index
+  pub here : slice_get arenas index ≡ Some arena
   pub fits : Fits arena.quantum (demand_of l) base len
-  pub from : span.range.base ≤ base
-  pub to : base + len ≤ end_of span.range
+  pub from : range.base ≤ base
+  pub to : base + len ≤ end_of range
 
--- The first line is a hello, and the second a lease that fits in a span, whoever asks and by
--- whatever number: it isn't answered `nofit`.
+-- it fits in a span that its arena was given
+abbrev pub FitsInSpan : (last : Picture) → Script last → LeaseLine → Type 0
+FitsInSpan last s l = (index : ℕ) × (range : Extent) × IsGiven last s index range
+    × FitsInRange s.made.arenas index range l
+
+-- Of the first lines each is a grow, if there are any; then comes a hello, and then a lease that
+-- fits in a span, whoever asks and by whatever number: it isn't answered `nofit`.
 abbrev pub ScriptFirstLeaseIsServed : Type 0
 ScriptFirstLeaseIsServed = (start mid new : Picture) (s : Script start)
     (hello greeting lease text : List ℕ) (h : HelloLine) (id : RequestId) (l : LeaseLine)
-    → s.frames ≡ [] → served_of hello ≡ Ok (served.Client (lines.Hello h))
+    → AllByRecursion GrowsAlone s.frames → served_of hello ≡ Ok (served.Client (lines.Hello h))
     → LeaseStep start hello greeting mid → IsRequestLine lease id (ops.Lease l)
-    → LeaseStep mid lease text new → FitsInSpan s.made l
+    → LeaseStep mid lease text new → FitsInSpan start s l
+    → text ≢ reply_bytes (refusal_to id NoFit)
+
+-- right after a grow that is answered `ok` nor is a lease of a new number that fits in its range,
+-- however all was used before
+abbrev pub ScriptGrownIsServed : Type 0
+ScriptGrownIsServed = (old mid new : Picture) (g : GrowLine) (id : RequestId) (l : LeaseLine)
+    (grow line text : List ℕ) (index : ℕ) → (a : AnswersNext old grow ok_text mid)
+    → served_of grow ≡ Ok (served.Operator (operator.Grow g))
+    → IsRequestLine line id (ops.Lease l) → IsNew (account_in id.client mid.book) id
+    → LeaseStep mid line text new → index_in g.arena a.script.made.arenas ≡ Some index
+    → FitsInRange a.script.made.arenas index (range_asked g) l
     → text ≢ reply_bytes (refusal_to id NoFit)
 
 -- once nothing is leased or kept, a lease of a new number that fits in a span isn't answered so,
@@ -165,14 +207,14 @@ abbrev pub ScriptFreedIsWhole : Type 0
 ScriptFreedIsWhole = (old new : Picture) (id : RequestId) (l : LeaseLine) (line text : List ℕ)
     → (a : AnswersNext old line text new) → NothingIsKept old
     → IsRequestLine line id (ops.Lease l) → IsNew (account_in id.client old.book) id
-    → FitsInSpan a.script.made l → text ≢ reply_bytes (refusal_to id NoFit)
+    → FitsInSpan old a.script l → text ≢ reply_bytes (refusal_to id NoFit)
 
 -- and where no arena of the setup has caches, nor is it once nothing is leased
 abbrev pub ScriptReturnedIsWhole : Type 0
 ScriptReturnedIsWhole = (old new : Picture) (id : RequestId) (l : LeaseLine) (line text : List ℕ)
     → (a : AnswersNext old line text new) → All (λ x. x.qcache_max ≡ 0) a.script.made.arenas
     → leased_segments old.book ≡ [] → IsRequestLine line id (ops.Lease l)
-    → IsNew (account_in id.client old.book) id → FitsInSpan a.script.made l
+    → IsNew (account_in id.client old.book) id → FitsInSpan old a.script l
     → text ≢ reply_bytes (refusal_to id NoFit)
 
 -- and where CPUs have no round, `tick` and `reap` are enough for that
@@ -182,5 +224,5 @@ ScriptEmptiedIsWhole = (old mid late new : Picture) (id : RequestId) (l : LeaseL
     → leased_segments old.book ≡ [] → All CpuHasNoRound old.cpus
     → LeaseStep mid (codes "reap") reaped late
     → IsRequestLine line id (ops.Lease l) → IsNew (account_in id.client late.book) id
-    → LeaseStep late line text new → FitsInSpan a.script.made l
+    → LeaseStep late line text new → FitsInSpan old a.script l
     → text ≢ reply_bytes (refusal_to id NoFit)

@@ -7,4 +7,6 @@ pub mod Laws
 pub mod RuleLaws
 pub mod Configs
 pub mod Inputs
+pub mod Operators
 pub mod Running
+pub mod Watching

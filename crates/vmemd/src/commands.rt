@@ -5,7 +5,7 @@ ghost use Rattle.clap.specs.Words.{app_of, fault_of, found_of, kind_of, rows_of,
 ghost use Rattle.clap.specs.Words.{subcommand_of, subcommand_rows_of};
 ghost use Rattle.vmemd.specs.Commands.{program, script_words, FailsWords, IsGivenBy, ShowsError};
 ghost use Rattle.vmemd.specs.Commands.{required_word, seconds_word, workers_word, serve_command};
-ghost use Rattle.vmemd.specs.Commands.{connections_word};
+ghost use Rattle.vmemd.specs.Commands.{connections_word, metrics_word};
 ghost use Rattle.vmemd.specs.Commands.{AsksToServe, GivesNumber, GivesOption};
 ghost use Rattle.vmemd.specs.declared.commands.TheConstants.{MOST_WORKERS};
 ghost use Rattle.lease_proto.specs.declared.limits.TheConstants.{MOST_CPUS};
@@ -57,6 +57,8 @@ pub struct ServeWords<'a> {
     pub grace: Option<u32>,
     /// 1 to `MOST_CONNECTIONS`.
     pub connections: Option<u32>,
+    /// Where it is watched.
+    pub metrics: Option<&'a str>,
 }
 
 /// Why the words are for no part of the program.
@@ -205,6 +207,11 @@ Lines of operators, which are answered by error memory when out of memory:
   resize NAME M   the magazines of arena NAME take M chunks from now on: 3, 7, 15 or 31; at first
                   they take 3. Answer: ok, error noarena, or error size where they take as many or
                   more already or there is no cache
+  grow NAME BASE LEN
+                  root NAME gets a further span, the LEN units from BASE on, in whole quanta.
+                  Answer: ok, or the first of these: error noarena where no root has the name; error
+                  range where LEN is 0, or the span ends above 2^62, overlaps another of its arena
+                  or isn't of whole quanta; error many where it would be the 65537th
   reap            depots give what they didn't need back to the slabs, and slabs that are whole
                   again go back to their arenas. Answer: reaped U, the units of those slabs
   audit           for each arena: arena NAME free F slab S magazine M exported E leased L hand H, in
@@ -252,11 +259,11 @@ const SERVE_HELP: &str = "\
 Answers clients over TCP, until standard input ends.
 
 ADDRESS is an address and a port, as 127.0.0.1:7070; with port 0 the system chooses one. CONFIG is a
-file of setup lines, root and child alone, as vmemd script --help tells them. WORKERS, 1 to 64, is
-how many connections are served at a time: a client that stays connected holds a worker, and more
-connections than workers wait until one ends. With --connections up to N are served at a time, 1 to
-4096, each by a thread of its own: their lines go by WORKERS CPUs, the first that is free, and one
-connection more is answered error busy and ended.
+file of setup lines, as vmemd script --help tells them. WORKERS, 1 to 64, is how many connections
+are served at a time: a client that stays connected holds a worker, and more connections than
+workers wait until one ends. With --connections up to N are served at a time, 1 to 4096, each by a
+thread of its own: their lines go by WORKERS CPUs, the first that is free, and one connection more
+is answered error busy and ended.
 
 Once it listens it prints listening ADDRESS, with the real port. The lines of clients and their
 answers are those of a script; lines of operators are answered by error word. A connection that
@@ -265,17 +272,21 @@ once it is served, or the rest of a line that was begun, or where what is answer
 taken in time (--line-limit); and where no other line is begun in time (--idle-limit). SECONDS are 1
 to 86400.
 
-What comes on standard input is ignored. When it ends, no further connection is served, those being
-served end when their clients end them, all leases end, and it prints closed. With --grace it ends
-them itself: what was sent by then is answered, and those that haven't ended in time are cut off. So
-keep standard input open as long as the server is to run. Where a number can't be put back at once
-then, it says vmemd: shut, tries until it can, and ends with status 1.";
+Standard input is its operator's. A line grow NAME BASE LEN there gives a root a further span while
+clients are served, and is answered on standard output as in a script; any other line there is
+answered by its error. When standard input ends, no further connection is served, those being served
+end when their clients end them, all leases end, and it prints closed. With --grace it ends them
+itself: what was sent by then is answered, and those that haven't ended in time are cut off. So keep
+standard input open as long as the server is to run. Where a number can't be put back at once then,
+it says vmemd: shut, tries until it can, and ends with status 1.";
 
 const LINE_LIMIT_HELP: &str = "How long a line and taking an answer may take (10 without it)";
 
 const IDLE_LIMIT_HELP: &str = "How long a client may be silent between lines (600 without it)";
 
 const GRACE_HELP: &str = "Ends connections at the end of the input, the last after so long";
+
+const METRICS_HELP: &str = "Shows the server and its leases to all who ask here, over HTTP";
 
 const CONNECTIONS_HELP: &str = "Serves so many connections at a time, with a thread each";
 
@@ -322,7 +333,8 @@ fn serve<'a>(alloc: Global) -> Result<Command<'a>, AllocError>
         .arg(line)?
         .arg(idle)?
         .arg(grace)?
-        .arg(connections(alloc))
+        .arg(connections(alloc))?
+        .arg(metrics(alloc))
 }
 
 /// How many workers serve.
@@ -375,6 +387,18 @@ fn connections<'a>(alloc: Global) -> Arg<'a>
         .value_parser(clap::value_parser!(u32).range(1..=i64::from(MOST_CONNECTIONS)))
 }
 
+/// The option of where the server is watched.
+fn metrics<'a>(alloc: Global) -> Arg<'a>
+    ensures rule { rule_of result ≡ metrics_word }
+    ensures local { result.global ≡ false }
+{
+    Arg::new(alloc, "metrics")
+        .long("metrics")
+        .value_name("ADDRESS")
+        .action(ArgAction::Set)
+        .help(METRICS_HELP)
+}
+
 /// Reads the words, of which the first is the program's name.
 pub fn read_words<'a>(alloc: Global, words: &'a [&'a str]) -> Result<GivenWords<'a>, WordsFault>
     // `vmemd script` is refused only when out of memory.
@@ -416,6 +440,7 @@ fn serve_given<'a>(of: &ArgMatches<'a>) -> ServeWords<'a>
         idle_limit: number_given(of, "idle-limit", MOST_SECONDS, IDLE_LIMIT),
         grace: option_given(of, "grace", MOST_SECONDS),
         connections: option_given(of, "connections", MOST_CONNECTIONS),
+        metrics: of.get_str("metrics"),
     }
 }
 

@@ -5,58 +5,19 @@ ghost use Rattle.lease_server.specs.Watching.{inner_of, has_failed, reads_of};
 ghost use Rattle.lease_server.specs.declared.intakes.TheConstants.{MOST_READS};
 ghost use Rattle.vmemd.specs.Scripts.{IsSpent};
 ghost use Rattle.vmemd.specs.Configs.{MakesAll, ConfigFails, ConfigMakes, ConfigRefuses};
-ghost use Rattle.lease_threads.specs.Openings.{OneSpanEach};
 
-use crate::faults::{ConfigFault, ScriptFault, SettingFault};
+use crate::faults::{ConfigFault, ScriptFault};
 use crate::setting_up::{SetupBuilder, refusal, take_line};
 use arena_tree::Setup;
-use lease_proto::{LineFault, SetupLine, fault_at_end};
+use lease_proto::{LineFault, fault_at_end};
 use lease_server::{Intake, Watched};
 use std::alloc::Global;
 use std::io::Read;
-use std::marker::Model;
-
-/// A setup for a server, whose roots have one span each.
-#[derive(Drop)]
-struct Config {
-    setup: Setup,
-}
-
-impl Model for Config {
-    ghost use Rattle.arena_tree.specs.Settings.{SetupState};
-    ghost use Rattle.lease_threads.specs.Openings.{OneSpanEach};
-
-    ghost Value = { SetupState };
-
-    ghost view = { λ c. c.setup };
-
-    ghost invariant = { λ c. OneSpanEach c.setup.spans };
-}
-
-impl SetupBuilder for Config {
-    ghost use Rattle.vmemd.specs.Configs.{TakesConfigLine, RefusesConfigLine, CanTakeConfigLine};
-
-    ghost takes = { TakesConfigLine };
-
-    ghost refuses = { RefusesConfigLine };
-
-    ghost can = { CanTakeConfigLine };
-
-    fn set_up(&mut self, line: &SetupLine) -> Result<(), SettingFault> {
-        // For its clause: the spans are of arenas that are there.
-        let _ = self.setup.spans();
-        match line {
-            SetupLine::Span(_) => Err(SettingFault::Refused(ConfigFault::SpanInServe)),
-            SetupLine::Root(_) | SetupLine::Child(_) => self.setup.set_up(line),
-        }
-    }
-}
 
 /// The setup that the lines of CONFIG make. Each of them is a setup line, ended by a line feed; no
 /// line at all is a setup of no arena.
 pub fn read_config<R: Read>(alloc: Global, reader: &mut Watched<R>) -> Result<Setup, ScriptFault>
     ensures ok { IfOk result (ConfigMakes (R.remaining (inner_of reader.old))) }
-    ensures one { IfOk result (λ setup. OneSpanEach setup.spans) }
     ensures err { IfErr result (ConfigRefuses (R.remaining (inner_of reader.old))
         (R.remaining (inner_of reader.new))) }
     ensures failed { IsErrOf result ScriptFault.Read
@@ -66,11 +27,9 @@ pub fn read_config<R: Read>(alloc: Global, reader: &mut Watched<R>) -> Result<Se
     ensures works { OnOk result (has_failed reader.new ≡ has_failed reader.old) }
     ensures bound { reads_of reader.new ≤ reads_of reader.old + MOST_READS }
 {
-    let mut config = Config {
-        setup: Setup::new(alloc),
-    };
-    take_all(reader, &mut config)?;
-    Ok(config.setup)
+    let mut setup = Setup::new(alloc);
+    take_all(reader, &mut setup)?;
+    Ok(setup)
 }
 
 /// Takes all lines of an input. At a refused line the setup is what the lines before it made.

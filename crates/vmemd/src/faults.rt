@@ -11,9 +11,6 @@ pub enum ConfigFault {
     /// The bytes are no setup line.
     #[error("{0}")]
     Line(LineFault),
-    /// A `span` line in CONFIG: the roots of a server don't grow.
-    #[error("span")]
-    SpanInServe,
     /// An arena has this name already.
     #[error("name")]
     NameTaken,

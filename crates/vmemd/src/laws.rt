@@ -3,7 +3,8 @@ ghost use Rattle.vmemd.specs.Laws.{ScriptsSplit, ScriptLeasesStayApart, ScriptUn
 ghost use Rattle.vmemd.specs.Laws.{ScriptAuditIsTold, ScriptAuditIsWhole};
 ghost use Rattle.vmemd.specs.Laws.{ScriptLinesRepeat, ScriptAnswersAgree, ScriptGrantsFit};
 ghost use Rattle.vmemd.specs.Laws.{ScriptRepeatsFit, ScriptFirstLeaseIsServed, ScriptFreedIsWhole};
-ghost use Rattle.vmemd.specs.Laws.{ScriptReturnedIsWhole, ScriptEmptiedIsWhole};
+ghost use Rattle.vmemd.specs.Laws.{ScriptGrownIsServed, ScriptReturnedIsWhole};
+ghost use Rattle.vmemd.specs.Laws.{ScriptEmptiedIsWhole};
 ghost use Rattle.vmemd.specs.RuleLaws.{EndsAreScripts, FailsAreScripts, ScriptKeepsRules};
 ghost use Rattle.vmemd.specs.RuleLaws.{ScriptGrantsStayApart, ScriptClientsGetReplies};
 
@@ -37,6 +38,7 @@ pub fn answer_laws()
     ensures fit { ScriptGrantsFit }
     ensures repeats_fit { ScriptRepeatsFit }
     ensures first { ScriptFirstLeaseIsServed }
+    ensures grown { ScriptGrownIsServed }
     ensures freed { ScriptFreedIsWhole }
     ensures returned { ScriptReturnedIsWhole }
 {}

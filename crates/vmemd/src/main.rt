@@ -6,9 +6,11 @@
 //!
 //! `vmemd serve` answers clients over TCP (running): the setup comes from a file (configs), a
 //! running system is made of it, and each worker serves one connection after another over a CPU of
-//! its own, until standard input ends and the system is shut (listeners has its socket, signals
-//! tell the workers, inputs waits for an input that doesn't block). With `--connections` each
-//! connection has a thread, and they share the CPUs (sharing).
+//! its own (workers). With `--connections` each connection has a thread, and they share the CPUs
+//! (sharing); with `--metrics` it is watched over HTTP (watching). Meanwhile the lines of standard
+//! input are answered (attending), those of an operator that grow roots (operators), until it ends
+//! and the system is shut (stopping). listeners has its socket, signals tell the workers, inputs
+//! waits for an input that doesn't block, hosts names what a server runs by.
 //!
 //! The words of the command line and the help are in commands, why a run ends early in faults, the
 //! exit statuses in endings.
@@ -17,50 +19,61 @@
 //! specs/Desks.antt for these two; which setup line is refused with which word, in
 //! specs/Settings.antt; what holds after each script, in specs/Laws.antt; the rules of leases over
 //! a script, in specs/RuleLaws.antt; which bytes are a setup line, in the crate `lease_proto`. What
-//! CONFIG makes is stated in specs/Configs.antt, and what a server writes and how it ends in
-//! specs/Running.antt; what it answers, in `lease_tcp`.
+//! CONFIG makes is stated in specs/Configs.antt, what a server tells its operator in
+//! specs/Operators.antt, and what it writes and how it ends in specs/Running.antt; what it answers,
+//! in `lease_tcp`.
 //!
 //! A script costs what its setup and its desk do for each line, and a read for each 16,384 bytes or
 //! less. A server has a thread for each worker, at most `MOST_WORKERS`, or for each connection, at
 //! most `MOST_CONNECTIONS`, and costs what its system does for each line.
 #![tactic(auto)]
 
-ghost use Rattle.std.specs.Prelude.{◌≤◌, ◌≢◌, Some, IfOk};
-ghost use Rattle.lease_threads.specs.Openings.{OneSpanEach};
+ghost use Rattle.std.specs.Prelude.{◌≤◌, ◌≢◌, Some};
 ghost use Rattle.vmemd.specs.declared.commands.TheConstants.{MOST_WORKERS};
 
+mod attending;
 pub mod commands;
 pub mod configs;
 pub mod endings;
 pub mod faults;
+pub mod hosts;
 pub mod inputs;
 pub mod laws;
 pub mod listeners;
+pub mod looking;
+pub mod operators;
 pub mod running;
 pub mod scripts;
 pub mod setting_up;
 pub mod settings;
 pub mod sharing;
 pub mod signals;
+mod stopping;
 #[cfg(test)]
 mod tests;
+pub mod watching;
+mod workers;
 
 use crate::commands::{GivenWords, ServeWords, WordsFault, read_words};
 use crate::configs::read_config;
 use crate::endings::{end_run, end_script, end_words};
 use crate::faults::ScriptFault;
 use crate::inputs::PatientReader;
+use crate::listeners::Listener;
 use crate::running::{Console, Plan, RunFault, run_serve};
 use crate::scripts::run_script;
+use crate::watching::Watching;
 use arena_tree::Setup;
 use lease_server::Watched;
 use lease_tcp::Pace;
 use log::{Log, info};
 use std::fs::File;
+use std::hash::RandomState;
 use std::io;
 use std::io::ErrorKind;
 use std::net::{Net, TcpListener, TcpStream};
 use std::process::ExitCode;
+use std::random::RandomSource;
 use std::rt::Files;
 use std::sync::Wait;
 use std::thread::Threads;
@@ -94,6 +107,7 @@ fn answer_words<
         + Eprint
         + Log
         + Files
+        + RandomSource
         + Net<Listener = TcpListener, Stream = TcpStream>
         + Threads
         + Wait
@@ -135,6 +149,7 @@ fn serve<
         + Eprint
         + Log
         + Files
+        + RandomSource
         + Net<Listener = TcpListener, Stream = TcpStream>
         + Threads
         + Wait
@@ -162,16 +177,33 @@ fn serve<
         },
         grace: asked.grace,
     };
-    let ended = run_serve(rt, asked.address, setup, plan, console).ended;
+    let watching = match watching_at(rt, asked.metrics) {
+        Ok(watching) => watching,
+        Err(fault) => return end_run(rt, Err(fault)),
+    };
+    let ended = run_serve(rt, asked.address, setup, plan, watching, console).ended;
     if matches!(ended, Ok(()) | Err(RunFault::Shut)) {
         info!(rt; "vmemd closed");
     }
     end_run(rt, ended)
 }
 
-fn setup_of<R: Files + AllocGlobal>(rt: &R, config: &str) -> Result<Setup, ScriptFault>
-    ensures { IfOk result (λ setup. OneSpanEach setup.spans) }
-{
+/// Listens for those who watch, where they may.
+fn watching_at<R: Net<Listener = TcpListener, Stream = TcpStream> + RandomSource + AllocGlobal>(
+    rt: &R,
+    address: Option<&str>,
+) -> Result<Option<Watching>, RunFault> {
+    let Some(address) = address else {
+        return Ok(None);
+    };
+    let Ok(keys) = RandomState::new(rt) else {
+        return Err(RunFault::Listen);
+    };
+    let listener = Listener::open(rt, address)?;
+    Ok(Some(Watching { listener, keys }))
+}
+
+fn setup_of<R: Files + AllocGlobal>(rt: &R, config: &str) -> Result<Setup, ScriptFault> {
     match File::open(rt, config) {
         Ok(file) => read_config(rt.alloc(), &mut Watched::new(file)),
         Err(_) => Err(ScriptFault::Read),

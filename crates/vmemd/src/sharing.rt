@@ -1,11 +1,13 @@
 //! A server with a thread for each connection, which share its CPUs.
 ghost use Rattle.std.specs.Prelude.{◌≤◌};
-ghost use Rattle.vmemd.specs.Running.{Attends, console_streams};
+ghost use Rattle.vmemd.specs.Running.{Attends, BothWork, console_streams};
 ghost use Rattle.vmemd.specs.declared.commands.TheConstants.{MOST_WORKERS};
 
+use crate::attending::{Attended, attend};
 use crate::endings::tell_fault;
-use crate::running::{Attended, Console, RunFault, Site, attend, retire, stop};
+use crate::running::{Console, Site};
 use crate::signals::Signals;
+use crate::stopping::{retire, stop};
 use deed_table::Name;
 use lease_tcp::{House, Overseer, Seat, Shortage, keep, new_seats, serve_talks};
 use lease_threads::System;
@@ -40,8 +42,9 @@ pub(crate) fn serve_shared<
     I: Read + Drop,
     W: Write + Drop,
 >(rt: &R, site: &Site<'_, N>, console: Console<I, W>) -> Attended<I, W>
-    requires { (1 ≤ site.now.plan.workers) × (site.now.plan.workers ≤ MOST_WORKERS) }
-    ensures { Attends (console_streams I.remaining W.contents console)
+    requires workers { (1 ≤ site.now.plan.workers) × (site.now.plan.workers ≤ MOST_WORKERS) }
+    requires works { BothWork (console_streams I.remaining W.contents console) }
+    ensures { Attends site.now.system.now.arenas (console_streams I.remaining W.contents console)
         (console_streams I.remaining W.contents result.console) result.ended }
 {
     let system: &System<N> = &*site.system;
@@ -51,10 +54,7 @@ pub(crate) fn serve_shared<
             let house = House::new(site.door, system, seats.as_slice());
             serve_house(rt, site, &house, console)
         }
-        Err(_) => Attended {
-            ended: Err(RunFault::Memory),
-            console,
-        },
+        Err(_) => Attended::unserved(console),
     };
     retire_seats(rt, site.system, site.signals, seats);
     ran
@@ -67,7 +67,8 @@ fn serve_house<
     I: Read + Drop,
     W: Write + Drop,
 >(rt: &R, site: &Site<'_, N>, house: &House<'_, N>, console: Console<I, W>) -> Attended<I, W>
-    ensures { Attends (console_streams I.remaining W.contents console)
+    requires works { BothWork (console_streams I.remaining W.contents console) }
+    ensures { Attends site.now.system.now.arenas (console_streams I.remaining W.contents console)
         (console_streams I.remaining W.contents result.console) result.ended }
 {
     let teller = Teller {
@@ -79,7 +80,9 @@ fn serve_house<
         thread::scope_env(),
         rt,
         move |scope| -> Attended<I, W>
-            ensures { Attends (console_streams I.remaining W.contents console)
+            requires works { BothWork (console_streams I.remaining W.contents console) }
+            ensures { Attends site.entry.now.system.now.arenas
+                (console_streams I.remaining W.contents console)
                 (console_streams I.remaining W.contents result.console) result.ended }
         {
             let all = scope
@@ -87,12 +90,9 @@ fn serve_house<
                 .is_ok()
                 && scope.spawn(move || keep(rt, house)).is_ok();
             let ran = if all {
-                attend(rt, site.listener.line(), console)
+                attend(rt, site, console)
             } else {
-                Attended {
-                    ended: Err(RunFault::Memory),
-                    console,
-                }
+                Attended::unserved(console)
             };
             stop(rt, site);
             ran

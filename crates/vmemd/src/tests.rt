@@ -1,6 +1,7 @@
 //! Whole scripts, with what they have to write; scripts that come a byte at a time or are cut
 //! short, and streams that fail.
 
+mod operating;
 mod serving;
 mod tables;
 mod telling;
@@ -415,6 +416,7 @@ fn the_help_tells_the_limits(rt: HostRuntime) -> Result<(), Fail> {
             MOST_ARENAS + 1,
             MOST_SPANS + 1
         )?,
+        format!(in alloc; "where it would be the {}th\n", MOST_SPANS + 1)?,
         format!(in alloc; "be more than {LONGEST_CHAIN} arenas")?,
     ] {
         assert!(rt; help.contains(limit.as_str()), "{limit}");
@@ -429,7 +431,7 @@ fn the_help_of_a_server_tells_its_limits(rt: HostRuntime) -> Result<(), Fail> {
     for limit in [
         format!(in alloc; "WORKERS, 1 to {MOST_WORKERS},")?,
         format!(in alloc; "connections are served at a time, 1 to {MOST_WORKERS}\n")?,
-        format!(in alloc; "at a time, 1 to\n{MOST_CONNECTIONS}, each by a thread")?,
+        format!(in alloc; "at a time, 1 to {MOST_CONNECTIONS}, each by a\nthread")?,
         format!(in alloc; "SECONDS are 1\nto {MOST_SECONDS}.")?,
         format!(in alloc; "taking an answer may take ({LINE_LIMIT} without it)\n")?,
         format!(in alloc; "silent between lines ({IDLE_LIMIT} without it)\n")?,

@@ -18,33 +18,65 @@ use std::{io, thread};
 /// The longest line of a server's console.
 const CONSOLE_LINE: usize = 64;
 
-/// CONFIG, lines of clients, and what they are answered.
+/// CONFIG; lines of its operator, and what is told of them before a client comes; lines of clients,
+/// and what they are answered; and the base and the length of each root that is closed.
 struct Talk {
     config: &'static [u8],
+    asks: &'static [u8],
+    told: &'static [u8],
     lines: &'static [u8],
     replies: &'static [u8],
+    closed: &'static [(u64, u64)],
 }
 
-const TALKS: [Talk; 5] = [
+const TALKS: [Talk; 7] = [
     Talk {
-        config: b"root m 0 64 1 best 0\n",
-        lines: b"hello 1 1\nlease 1 1 1 m 8\nrelease 1 1 2 m 0\n",
-        replies: b"welcome 1 1\ngranted 1 1 1 m 0 8\nreleased 1 1 2\n",
+        config: b"root m 0 8 1 best 0\nspan m 8 8\n",
+        asks: b"",
+        told: b"",
+        lines: b"hello 1 1\nlease 1 1 1 m 8 min 8\nlease 1 1 2 m 9\nspan m 16 8\n",
+        replies: b"welcome 1 1\ngranted 1 1 1 m 8 8\nrefused 1 1 2 nofit\nerror word\n",
+        closed: &[(0, 8), (8, 8)],
+    },
+    Talk {
+        config: b"root m 0 8 1 best 0\nroot a 0 8 1 best 0\n",
+        asks: b"grow m 8 8\ngrow a 16 8\ngrow m 12 8\ngrow z 0 8\nspan m 16 8\n",
+        told: b"ok\nok\nerror range\nerror noarena\nerror word\n",
+        lines: b"hello 1 1\nlease 1 1 1 m 12\nlease 1 1 2 m 8\nlease 1 1 3 m 8\ngrow m 16 8\n",
+        replies: b"welcome 1 1\nrefused 1 1 1 nofit\ngranted 1 1 2 m 0 8\n\
+              granted 1 1 3 m 8 8\nerror word\n",
+        closed: &[(0, 8), (8, 8), (0, 8), (16, 8)],
     },
     Talk {
         config: b"root m 0 64 1 best 0\n",
+        asks: b"",
+        told: b"",
+        lines: b"hello 1 1\nlease 1 1 1 m 8\nrelease 1 1 2 m 0\n",
+        replies: b"welcome 1 1\ngranted 1 1 1 m 0 8\nreleased 1 1 2\n",
+        closed: &[(0, 64)],
+    },
+    Talk {
+        config: b"root m 0 64 1 best 0\n",
+        asks: b"",
+        told: b"",
         lines: b"hello 1 1\n\
               lease 1 1 1 m 5 align 8 phase 3 nocross 8\n\
               lease 1 1 2 m 6 align 8 phase 3 nocross 8\n",
         replies: b"welcome 1 1\ngranted 1 1 1 m 3 5\nrefused 1 1 2 nofit\n",
+        closed: &[(0, 64)],
     },
     Talk {
         config: b"root m 0 64 1 best 0\n",
+        asks: b"",
+        told: b"",
         lines: b"hello 1 1\nlease 1 1 1 m 8\nlease 1 1 1 m 8\n",
         replies: b"welcome 1 1\ngranted 1 1 1 m 0 8\ngranted 1 1 1 m 0 8\n",
+        closed: &[(0, 64)],
     },
     Talk {
         config: b"root p 1 4 1 best 0\n",
+        asks: b"",
+        told: b"",
         lines: b"hello 1 1\n\
               lease 1 1 1 p 4\n\
               hello 1 2\n\
@@ -57,12 +89,16 @@ const TALKS: [Talk; 5] = [
               welcome 2 1\n\
               granted 2 1 1 p 1 4\n\
               old 1 2\n",
+        closed: &[(1, 4)],
     },
     Talk {
         config: b"root m 0 64 1 best 0\n",
+        asks: b"",
+        told: b"",
         lines: b"hello 1 1 2\nhello 2 1 3\nlease 1 1 8 m 4\nlease 1 1 1 m 8\nlease 1 1 8 m 4\n",
         replies: b"welcome 1 1 2\nerror number\ngranted 1 1 8 m 0 4\n\
               granted 1 1 1 m 4 8\ngranted 1 1 8 m 0 4\n",
+        closed: &[(0, 64)],
     },
 ];
 
@@ -94,7 +130,7 @@ fn serve_talk<
     let ends = [&user, &console];
     let (_, ()) = thread::join(
         rt,
-        move || run_server(rt, talk.config, workers, connections, ends[1]),
+        move || run_server(rt, talk, workers, connections, ends[1]),
         move || use_server(rt, talk, ends[0]),
     );
 }
@@ -108,11 +144,11 @@ fn run_server<
         + Abort
         + Sync
         + AllocGlobal,
->(rt: &R, config: &'static [u8], workers: u32, connections: Option<u32>, console: &TcpStream) {
+>(rt: &R, talk: &Talk, workers: u32, connections: Option<u32>, console: &TcpStream) {
     assert!(rt; 1 <= workers && workers <= MOST_WORKERS);
     assert!(rt; connections != Some(0));
     let mut reader = Watched::new(Pieces {
-        rest: config,
+        rest: talk.config,
         size: 4096,
         mishap: Mishap::None,
         reads: 0,
@@ -131,11 +167,15 @@ fn run_server<
         },
         grace: None,
     };
-    let ran = run_serve(rt, "127.0.0.1:0", setup, plan, streams);
+    let ran = run_serve(rt, "127.0.0.1:0", setup, plan, None, streams);
     console.shutdown(Shutdown::Both).expect(rt, "an end");
     assert!(rt; ran.ended.is_ok(), "a fault");
     let closed = ran.closed.expect(rt, "roots");
-    assert!(rt; closed.len() == 1, "not one root");
+    assert_eq!(rt; closed.len(), talk.closed.len());
+    for (range, (base, len)) in closed.iter().zip(talk.closed.iter()) {
+        assert_eq!(rt; range.base(), *base);
+        assert_eq!(rt; range.len(), *len);
+    }
 }
 
 fn use_server<R: Net<Listener = TcpListener, Stream = TcpStream> + Abort + AllocGlobal>(
@@ -148,6 +188,7 @@ fn use_server<R: Net<Listener = TcpListener, Stream = TcpStream> + Abort + Alloc
     let Some(address) = text.strip_prefix("listening ") else {
         panic!(rt; "not listening");
     };
+    ask_operator(rt, talk, console);
     let mut client = TcpStream::connect(rt, address).expect(rt, "a connection");
     client.write_all(talk.lines).expect(rt, "a peer");
     client.shutdown(Shutdown::Write).expect(rt, "an end");
@@ -156,6 +197,22 @@ fn use_server<R: Net<Listener = TcpListener, Stream = TcpStream> + Abort + Alloc
     console.shutdown(Shutdown::Write).expect(rt, "an end");
     let rest = io::read_to_string(rt.alloc(), console).expect(rt, "an end");
     assert!(rt; rest.as_bytes() == b"closed\n".as_slice(), "not closed");
+}
+
+// Asks the lines of the operator, and reads what is told of each.
+fn ask_operator<R: Abort + AllocGlobal>(rt: &R, talk: &Talk, console: &TcpStream) {
+    let mut writer = console;
+    writer.write_all(talk.asks).expect(rt, "a server");
+    let mut told = Vec::new(rt.alloc());
+    for _ in 0..talk.told.len() {
+        if told.len() >= talk.told.len() {
+            break;
+        }
+        let line = read_line(rt, console);
+        told.extend_from_slice(line.as_slice()).expect(rt, "room");
+        told.push(b'\n').expect(rt, "room");
+    }
+    assert_eq!(rt; told.as_slice(), talk.told);
 }
 
 // A line, without its line feed.

@@ -5,8 +5,9 @@ use crate::commands::{GivenWords, ServeWords, WordsFault, read_words};
 use crate::configs::read_config;
 use crate::endings::{end_run, end_script, end_words};
 use crate::faults::ScriptFault;
-use crate::running::{RunFault, tell_stuck};
+use crate::running::RunFault;
 use crate::signals::Signals;
+use crate::stopping::tell_stuck;
 use lease_server::Watched;
 use std::alloc::{AllocGlobal, Global};
 use std::cell::RefCell;
@@ -94,8 +95,8 @@ fn stuck_is_told_once(rt: HostRuntime) {
 /// CONFIGs that are refused, and what is told of them.
 const CONFIGS: [(&[u8], &str); 6] = [
     (
-        b"root m 0 8 1 best 0\nspan m 8 8\n",
-        "vmemd: line 2: span\n",
+        b"root m 0 8 1 best 0\nspan m 4 8\n",
+        "vmemd: line 2: range\n",
     ),
     (b"root m 0 8 1 best 0", "vmemd: line 1: badline\n"),
     (b"root m 0 8 1 best 0\n\n", "vmemd: line 2: badline\n"),
@@ -163,15 +164,16 @@ fn words_that_could_not_be_read(rt: HostRuntime) {
 }
 
 /// Words after `serve x y 64`, and what they ask for: the limits of a line and of silence, the
-/// grace, and the connections.
-const OPTIONS: [(&[&str], u32, u32, Option<u32>, Option<u32>); 5] = [
-    (&[], 10, 600, None, None),
-    (&["--line-limit", "1"], 1, 600, None, None),
+/// grace, the connections, and where the server is watched.
+const OPTIONS: [(&[&str], u32, u32, Option<u32>, Option<u32>, Option<&str>); 6] = [
+    (&[], 10, 600, None, None, None),
+    (&["--line-limit", "1"], 1, 600, None, None, None),
     (
         &["--idle-limit=86400", "--grace", "86400"],
         10,
         86_400,
         Some(86_400),
+        None,
         None,
     ),
     (
@@ -180,6 +182,7 @@ const OPTIONS: [(&[&str], u32, u32, Option<u32>, Option<u32>); 5] = [
         5,
         Some(1),
         None,
+        None,
     ),
     (
         &["--connections", "4096", "--grace=2"],
@@ -187,13 +190,15 @@ const OPTIONS: [(&[&str], u32, u32, Option<u32>, Option<u32>); 5] = [
         600,
         Some(2),
         Some(4096),
+        None,
     ),
+    (&["--metrics", "z:1"], 10, 600, None, None, Some("z:1")),
 ];
 
 #[test]
 fn words_of_a_server(rt: HostRuntime) -> Result<(), Fail> {
     let alloc = rt.alloc();
-    for (options, line_limit, idle_limit, grace, connections) in &OPTIONS {
+    for (options, line_limit, idle_limit, grace, connections, metrics) in &OPTIONS {
         let mut words = Vec::from_slice(alloc, &["vmemd", "serve", "x", "y", "64"])?;
         words.extend_from_slice(options)?;
         let Ok(words) = read_words(alloc, words.as_slice()) else {
@@ -207,6 +212,7 @@ fn words_of_a_server(rt: HostRuntime) -> Result<(), Fail> {
             idle_limit: *idle_limit,
             grace: *grace,
             connections: *connections,
+            metrics: *metrics,
         };
         assert_eq!(rt; words, GivenWords::Serve(wanted));
     }

@@ -13,6 +13,7 @@ returns c =
     c.workers.ensures.rule in
     let paced_is = c.in_ok-arg-5.ensures.shape c.seconds-idle.ensures.local
     ∙ ap₂ with_rule (c.in_ok-arg-4.ensures.shape c.seconds-line.ensures.local ∙ ap₂ with_rule bare_is c.seconds-line.ensures.rule) c.seconds-idle.ensures.rule in
-    IfOk-weaker c.arg-7.result _ _ (λ r h. h.shape c.connections.ensures.local
+    let shared_is = c.in_ok-arg-7.ensures.shape c.connections.ensures.local
     ∙ ap₂ with_rule (c.in_ok-arg-6.ensures.shape c.seconds-grace.ensures.local ∙ ap₂ with_rule paced_is c.seconds-grace.ensures.rule)
-    c.connections.ensures.rule) c.arg-7.ensures
+    c.connections.ensures.rule in
+    IfOk-weaker c.arg-8.result _ _ (λ r h. h.shape c.metrics.ensures.local ∙ ap₂ with_rule shared_is c.metrics.ensures.rule) c.arg-8.ensures

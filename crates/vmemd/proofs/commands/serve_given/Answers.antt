@@ -15,4 +15,5 @@ returns c =
       c.number_given-3.ensures,
       c.option_given.ensures,
       c.option_given-2.ensures,
+      c.get_str-3.ensures ∙ first_value-rows found (codes "metrics"),
     )

@@ -1,0 +1,106 @@
+//! Standard input of a running server: the lines of its operator, which grow its roots.
+ghost use Rattle.std.specs.Prelude.{◌≡◌};
+ghost use Rattle.lease_call.specs.Growing.{TellsGrowth};
+ghost use Rattle.vmemd.specs.Operators.{TellsLine};
+
+use arena_tree::{GrowFault, Tree};
+use deed_core::Range;
+use deed_table::Name;
+use lease_call::{grow_outcome, growth_asked};
+use lease_proto::{ErrorWord, GrowLine, outcome_line};
+use lease_server::Teller;
+use lease_threads::System;
+use std::marker::Model;
+use std::sync::Wait;
+
+/// Whose roots can grow while they are used.
+pub trait Grower {
+    ghost use Rattle.std.specs.Prelude.{◌≡◌, ℕ, List, Result};
+    ghost use Rattle.deed_core.specs.Extent.{Extent};
+    ghost use Rattle.arena_tree.specs.declared.trees.TreeArena.{TreeArena};
+    ghost use Rattle.arena_tree.specs.declared.part_faults.GrowFault.{GrowFault};
+
+    // its arenas
+    ghost arenas: { Self → List TreeArena };
+
+    // what may come of an arena that is to grow by a range, by its number
+    ghost grows: { Self → ℕ → Extent → Result (Unit {0}) GrowFault → Self → Type 0 };
+
+    /// The arenas, as they were set up.
+    fn tree(&self) -> &Tree
+        ensures { result.now ≡ arenas self.now };
+
+    /// Gives the root of this number a further span of this range.
+    fn grow(&mut self, arena: u32, range: Range) -> Result<(), GrowFault>
+        ensures { grows self.old arena range result self.new };
+}
+
+/// The answer to a line of an operator, given without its line feed. `grow` is the one that is
+/// taken: it is done before it is answered.
+pub fn answer_operator<G: Grower>(line: &[u8], grower: &mut G) -> &'static [u8]
+    ensures { TellsLine G.arenas G.grows grower.old line.now result.now grower.new }
+{
+    match GrowLine::read(line) {
+        Ok(line) => outcome_line(grow(&line, grower)),
+        Err(fault) => fault.line(),
+    }
+}
+
+/// Does what a line asks for, and gives what is told of it.
+fn grow<G: Grower>(line: &GrowLine, grower: &mut G) -> Result<(), ErrorWord>
+    ensures { TellsGrowth G.grows (G.arenas grower.old) line.now grower.old result grower.new }
+{
+    let growth = growth_asked(grower.tree(), line)?;
+    grow_outcome(grower.grow(growth.arena, growth.range))
+}
+
+/// The roots of a running system. A contract sees its arenas.
+#[derive(Drop)]
+pub struct RunningRoots<'a, N: Name, R> {
+    rt: &'a R,
+    system: &'a System<N>,
+}
+
+impl<'a, N: Name, R> Model for RunningRoots<'a, N, R> {
+    ghost use Rattle.std.specs.Prelude.{List};
+    ghost use Rattle.arena_tree.specs.declared.trees.TreeArena.{TreeArena};
+
+    ghost Value = { List TreeArena };
+
+    ghost view = { λ r. r.system.now.arenas };
+}
+
+impl<'a, N: Name, R> RunningRoots<'a, N, R> {
+    /// Those of this system.
+    pub fn new(rt: &'a R, system: &'a System<N>) -> RunningRoots<'a, N, R>
+        ensures { result ≡ system.entry.now.arenas }
+    {
+        RunningRoots { rt, system }
+    }
+}
+
+impl<N: Name, R: Wait> Grower for RunningRoots<'_, N, R> {
+    ghost use Rattle.vmemd.specs.Operators.{all_arenas, MayGrow};
+
+    ghost arenas = { all_arenas };
+
+    ghost grows = { MayGrow };
+
+    fn tree(&self) -> &Tree {
+        self.system.tree()
+    }
+
+    fn grow(&mut self, arena: u32, range: Range) -> Result<(), GrowFault> {
+        self.system.grow(self.rt, arena, range)
+    }
+}
+
+impl<N: Name, R: Wait> Teller for RunningRoots<'_, N, R> {
+    ghost use Rattle.vmemd.specs.Operators.{may_tell};
+
+    ghost may_answer = { may_tell };
+
+    fn tell(&mut self, line: &[u8]) -> &'static [u8] {
+        answer_operator(line, self)
+    }
+}

@@ -1,0 +1,93 @@
+//! A server by workers, each of which serves one connection after another over a CPU of its own.
+ghost use Rattle.std.specs.Prelude.{◌<◌, ◌≤◌};
+ghost use Rattle.lease_proto.specs.declared.limits.TheConstants.{MOST_CPUS};
+ghost use Rattle.vmemd.specs.Running.{Attends, BothWork, console_streams};
+ghost use Rattle.vmemd.specs.declared.commands.TheConstants.{MOST_WORKERS};
+
+use crate::attending::{Attended, attend};
+use crate::hosts::Host;
+use crate::running::{Console, Site};
+use crate::signals::Signals;
+use crate::stopping::{retire, stop};
+use deed_table::Name;
+use lease_tcp::accept_loop;
+use lease_threads::Cpu;
+use std::io::{Read, Write};
+use std::net::{Net, TcpListener, TcpStream};
+use std::sync::Wait;
+use std::thread;
+use std::time::{Clock, Duration};
+
+/// Starts the workers, waits for the end of the input, and stops them.
+pub(crate) fn serve_all<N: Name + Send + Sync, R: Host, I: Read + Drop, W: Write + Drop>(
+    rt: &R,
+    site: &Site<'_, N>,
+    console: Console<I, W>,
+) -> Attended<I, W>
+    requires workers { site.now.plan.workers ≤ MOST_WORKERS }
+    requires works { BothWork (console_streams I.remaining W.contents console) }
+    ensures { Attends site.now.system.now.arenas (console_streams I.remaining W.contents console)
+        (console_streams I.remaining W.contents result.console) result.ended }
+{
+    let workers = site.plan.workers;
+    thread::scope(
+        thread::scope_env(),
+        rt,
+        move |scope| -> Attended<I, W>
+            requires workers { workers ≤ MOST_WORKERS }
+            requires works { BothWork (console_streams I.remaining W.contents console) }
+            ensures { Attends site.entry.now.system.now.arenas
+                (console_streams I.remaining W.contents console)
+                (console_streams I.remaining W.contents result.console) result.ended }
+        {
+            let mut all = true;
+            for number in 0..workers {
+                if scope.spawn(move || work(rt, site, number)).is_err() {
+                    all = false;
+                    break;
+                }
+            }
+            let ran = if all && are_ready(rt, site.signals, workers) {
+                attend(rt, site, console)
+            } else {
+                Attended::unserved(console)
+            };
+            stop(rt, site);
+            ran
+        },
+    )
+}
+
+/// Waits until each worker has its CPU, and says whether they have.
+fn are_ready<R: Wait + Clock>(rt: &R, signals: &Signals, workers: u32) -> bool {
+    for _ in rt.forever() {
+        if signals.is_starved() {
+            return false;
+        }
+        if signals.ready() >= u64::from(workers) {
+            return true;
+        }
+        thread::sleep(rt, Duration::from_millis(1));
+    }
+    unreachable!()
+}
+
+/// What one worker does.
+fn work<
+    N: Name,
+    R: Net<Listener = TcpListener, Stream = TcpStream> + Wait + Clock + Eprint + AllocGlobal,
+>(rt: &R, site: &Site<'_, N>, number: u32)
+    requires { number < MOST_CPUS }
+{
+    let cpu = match Cpu::new(rt.alloc(), site.system, number) {
+        Ok(Some(cpu)) => cpu,
+        Ok(None) => unreachable!(),
+        Err(_) => {
+            site.signals.starve();
+            return;
+        }
+    };
+    site.signals.add_ready();
+    let cpu = accept_loop(rt, rt.alloc(), site.door, site.system, cpu);
+    retire(rt, site.system, site.signals, cpu);
+}
