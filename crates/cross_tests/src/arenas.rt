@@ -2,6 +2,7 @@
 ghost use Rattle.std.specs.Prelude.{◌<◌};
 ghost use Rattle.tag_arena.specs.Outcomes.{IsImportFor};
 
+mod growing;
 mod growth;
 mod imports;
 mod policies;

@@ -3,6 +3,7 @@ ghost use Rattle.std.specs.Prelude.{◌≡◌};
 ghost use Rattle.deed_core.specs.Extent.{IsRange};
 
 mod borders;
+mod openers;
 mod ranges;
 mod requests;
 mod segments;

@@ -2,6 +2,8 @@
 ghost use Rattle.std.specs.Prelude.{◌≡◌, ◌<◌};
 ghost use Rattle.deed_core.specs.Holding.{GoesOn};
 
+mod roots;
+
 use crate::base::border_moved;
 use deed_core::{Deed, Range, Refused};
 use deed_table::{Ground, Name, Opener, Pair, Root, SeatDeed, apart, close};

@@ -18,6 +18,42 @@ fn leases_and_releases(rt: HostRuntime) {
     desk.close();
 }
 
+/// A root gets further ranges, which lie beside the others and don't merge with them. Each refusal in
+/// its order changes nothing.
+#[test]
+fn grows(rt: HostRuntime) {
+    let mut desk = desk_of(&rt, "m", 0, 8, 4, Policy::Best);
+    ask(
+        &rt,
+        &mut desk,
+        &[
+            ("hello 1 1", "welcome 1 1\n"),
+            ("lease 1 1 1 m 12", "refused 1 1 1 nofit\n"),
+            ("grow z 0 0", "error noarena\n"),
+            ("grow m 0 0", "error range\n"),
+            ("grow m 4611686018427387904 4", "error range\n"),
+            ("grow m 4 8", "error range\n"),
+            ("grow m 8 6", "error range\n"),
+            ("grow m 10 8", "error range\n"),
+            (
+                "audit",
+                "arena m free 8 slab 0 magazine 0 exported 0 leased 0 hand 0\n",
+            ),
+            ("grow m 8 8", "ok\n"),
+            ("lease 1 1 2 m 12", "refused 1 1 2 nofit\n"),
+            ("lease 1 1 3 m 8", "granted 1 1 3 m 0 8\n"),
+            ("lease 1 1 4 m 8", "granted 1 1 4 m 8 8\n"),
+            ("grow m 4611686018427387900 4", "ok\n"),
+            ("lease 1 1 5 m 1", "granted 1 1 5 m 4611686018427387900 4\n"),
+            (
+                "audit",
+                "arena m free 0 slab 0 magazine 0 exported 0 leased 20 hand 0\n",
+            ),
+        ],
+    );
+    desk.close();
+}
+
 #[test]
 fn cycles_before_reuse(rt: HostRuntime) {
     let mut desk = desk_of(&rt, "pid", 1, 8, 1, Policy::Next);

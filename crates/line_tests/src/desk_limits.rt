@@ -107,6 +107,8 @@ fn operators_lines(rt: HostRuntime) {
             ("offline 7", "ok\n"),
             ("resize d 7", "error noarena\n"),
             ("resize d 8", "error number\n"),
+            ("grow d 0 8", "error noarena\n"),
+            ("grow d 0 0", "error noarena\n"),
             ("audit ", "error badline\n"),
         ],
     );
@@ -176,10 +178,14 @@ fn a_refused_growth_is_made_up_for(rt: HostRuntime) {
         ("cpu 9", "ok\n"),
         ("offline 9", "ok\n"),
         ("reap", "reaped 0\n"),
-        ("clients", "client 1 1 4 1\nclient 2 9 8 1\n"),
+        ("grow a 64 64", "ok\n"),
+        ("lease 1 1 5 a 64", "granted 1 1 5 a 64 64\n"),
+        ("grow a 256 8", "ok\n"),
+        ("grow a 60 8", "error range\n"),
+        ("clients", "client 1 1 5 2\nclient 2 9 8 1\n"),
         (
             "audit",
-            "arena a free 56 slab 0 magazine 0 exported 0 leased 72 hand 0\n",
+            "arena a free 64 slab 0 magazine 0 exported 0 leased 136 hand 0\n",
         ),
     ];
     for (line, reply) in &lines {

@@ -1,7 +1,8 @@
 //! Tests of lines and what answers them, by public calls. It has no code of its own, and stands
 //! apart from `cross_tests` so that neither waits for the other's crates.
 //!
-//! `lines` has lines, replies and streams of the protocol, `desk` what a desk answers over roots,
+//! `lines` has lines, replies and streams of the protocol, `operator_lines` those of an operator,
+//! `desk` what a desk answers over roots,
 //! `desk_caches` over imports and caches, `desk_limits` at its limits and out of memory, by
 //! `asking`; `serving` has streams of lines, failing ones too, and `connections` those of a worker,
 //! one after another; `pacing` has slow peers, and `rounds` what becomes of CPUs at rest.
@@ -19,6 +20,8 @@ mod desk_caches;
 mod desk_limits;
 #[cfg(test)]
 mod lines;
+#[cfg(test)]
+mod operator_lines;
 #[cfg(test)]
 mod pacing;
 #[cfg(test)]

@@ -3,8 +3,7 @@ ghost use Rattle.std.specs.Prelude.{◌≡◌, ◌++◌, false};
 
 use lease_proto::{
     ErrorWord, Granted, HelloLine, LeaseLine, LeaseOptions, Line, LineFault, LineReader, Op,
-    OperatorLine, PolicyWord, RefusedRequest, ReleaseLine, Reply, RootLine, ServedLine, SetupLine,
-    Welcome,
+    PolicyWord, RefusedRequest, ReleaseLine, Reply, RootLine, ServedLine, SetupLine, Welcome,
 };
 use lease_terms::{ArenaName, ClientId, Ordinal, Protocol, Quantity, Refusal, RequestId};
 use std::alloc::{AllocError, Global};
@@ -51,7 +50,10 @@ const REPLIES: &str = "welcome 65536 1\n\
     error number\n\
     error memory\n\
     error noarena\n\
-    error size";
+    error size\n\
+    error range\n\
+    error many\n\
+    error busy";
 
 /// What isn't a line of a client, and of an operator neither, by its words or their count.
 const BAD_LINES: &str = "\n\
@@ -115,7 +117,7 @@ const BAD_REPLIES: &str = "welcome 1\n\
     welcome 1 1 2 2\n\
     refused 1 2 3 word\n\
     refused 1 0 3 none\n\
-    error range\n\
+    error ranges\n\
     error word word\n\
     granted 1 2 m 3 0 8";
 
@@ -357,23 +359,6 @@ fn each_fault_of_a_setup_line_is_named(rt: HostRuntime) {
     refuse_setup_lines(&rt, "hello 1 1", LineFault::Word);
     refuse_setup_lines(&rt, BAD_SETUP_LINES, LineFault::BadLine);
     refuse_setup_lines(&rt, BAD_SETUP_NUMBERS, LineFault::Number);
-}
-
-fn serves(rt: &impl Abort, text: &[u8], line: Result<ServedLine, LineFault>) {
-    assert_eq!(rt; ServedLine::read(text), line);
-}
-
-#[test]
-fn the_lines_of_an_operator_are_one_word(rt: HostRuntime) {
-    serves(&rt, b"audit", Ok(ServedLine::Operator(OperatorLine::Audit)));
-    serves(
-        &rt,
-        b"clients",
-        Ok(ServedLine::Operator(OperatorLine::Clients)),
-    );
-    serves(&rt, b"audit m", Err(LineFault::BadLine));
-    serves(&rt, b"Audit", Err(LineFault::BadLine));
-    serves(&rt, b"audits", Err(LineFault::Word));
 }
 
 /// Takes a piece, and writes of each frame that ends in it the line that is read, or the error

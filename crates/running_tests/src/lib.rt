@@ -3,14 +3,15 @@
 //!
 //! `systems::conversations` has setups with lines and what they are answered, the same as of a
 //! script (`running_rows`); `rows` has lines and their answers, asked of two CPUs in turn, and how
-//! a system ends; `gates` has requests that a gate holds or stops, in two threads; `orders` the
-//! steps of requests, imports, exchanges and changes of magazines among them; `between` what is
-//! free between steps, and how many there are; `repeats` which lines are settled and which come
-//! again; `pipeline` a client that has eight requests under way; `settles` a lease or a hello that
-//! another CPU's lines come before, of which each may be one that comes twice at once; `draining` a
-//! CPU that fails in a line and is drained beside a worker; `starved_threads` calls that are refused
-//! memory and made again; `soak` has four workers for ten seconds, after which no two leases overlap
-//! and each root comes back whole.
+//! a system ends; `growing` arenas that get further spans, and those that have several from the
+//! setup on; `watching` what is told of a running system; `gates` has requests that a gate holds or
+//! stops, in two threads; `orders` the steps of requests, imports, exchanges and changes of
+//! magazines among them; `between` what is free between steps, and how many there are; `repeats`
+//! which lines are settled and which come again; `pipeline` a client that has eight requests under
+//! way; `settles` a lease or a hello that another CPU's lines come before, of which each may be one
+//! that comes twice at once; `draining` a CPU that fails in a line and is drained beside a worker;
+//! `starved_threads` calls that are refused memory and made again; `soak` has four workers for ten
+//! seconds, after which no two leases overlap and each root comes back whole.
 #![tactic(auto)]
 
 #[cfg(test)]

@@ -5,6 +5,7 @@ mod between;
 mod conversations;
 mod draining;
 mod gates;
+mod growing;
 mod orders;
 mod pipeline;
 mod repeats;
@@ -12,8 +13,9 @@ mod rows;
 mod settles;
 mod soak;
 mod starved_threads;
+mod watching;
 
-use arena_tree::{NewChild, NewRoot, Setting, Setup};
+use arena_tree::{NewChild, NewRoot, NewSpan, Setting, Setup};
 use deed_core::Range;
 use deed_table::{Ground, Name};
 use lease_proto::{Line, Reply};
@@ -56,6 +58,16 @@ fn child(rt: &impl Abort, setup: &mut Setup, name: &str, source: &str) {
         import_min: 16,
     };
     setup.add(&Setting::Child(child)).expect(rt, "a child");
+}
+
+// A further span of a root.
+fn span(rt: &impl Abort, setup: &mut Setup, name: &str, base: u64, len: u64) {
+    let span = NewSpan {
+        name: ArenaName::new(name.as_bytes()).expect(rt, "a name"),
+        base,
+        len,
+    };
+    setup.add(&Setting::Span(span)).expect(rt, "a span");
 }
 
 fn line(rt: &impl Abort, text: &str) -> Line {
@@ -101,6 +113,15 @@ fn made<N: Name, R: Abort + AllocGlobal>(rt: &R, ground: Ground, setup: Setup) -
     match System::new(rt.alloc(), ground, setup) {
         Ok(system) => system,
         Err(_) => panic!(rt; "memory"),
+    }
+}
+
+// Adds a range to an arena.
+fn grow<N: Name, R: Abort + Wait>(rt: &R, system: &System<N>, arena: u32, base: u64, len: u64) {
+    let range = Range::new(base, len).expect(rt, "a range");
+    match system.grow(rt, arena, range) {
+        Ok(()) => {}
+        Err(_) => panic!(rt; "no growth"),
     }
 }
 

@@ -4,12 +4,14 @@
 //! `tree` has setups of arenas, what is refused of them, and the chains that they make; `stocks`
 //! has a script of events on a stock (`stock_events`) and audits after each, beside the stock's own
 //! sums (`same_sums`), `stock_sums` the audits of two arenas in a chain, `several_spans` a stock of
-//! two roots that own three spans, `climbs` calls of one CPU over one thread's parts, with the
-//! locked steps of each.
+//! two roots that own three spans, `growing` what refuses a further span, `climbs` calls of one CPU
+//! over one thread's parts, with the locked steps of each, and with the sums after it.
 #![tactic(auto)]
 
 #[cfg(test)]
 mod climbs;
+#[cfg(test)]
+mod growing;
 #[cfg(test)]
 mod same_sums;
 #[cfg(test)]

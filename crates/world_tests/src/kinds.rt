@@ -4,11 +4,11 @@ ghost use Rattle.std.specs.Prelude.{◌<◌};
 use world_core::WorldEvent;
 
 /// How many there are.
-pub(crate) const KINDS: usize = 27;
+pub(crate) const KINDS: usize = 28;
 
 /// The number of the event's kind.
 pub(crate) fn kind_of(event: &WorldEvent) -> usize
-    ensures below { result < 27 }
+    ensures below { result < 28 }
 {
     match event {
         WorldEvent::Restarts { .. } => 0,
@@ -38,5 +38,6 @@ pub(crate) fn kind_of(event: &WorldEvent) -> usize
         WorldEvent::Ticks { .. } => 24,
         WorldEvent::Resizes { .. } => 25,
         WorldEvent::Adopts { .. } => 26,
+        WorldEvent::Grows { .. } => 27,
     }
 }

@@ -2,7 +2,7 @@
 ghost use Rattle.std.specs.Prelude.{◌<◌};
 
 use crate::chances::Chances;
-use crate::worlds::{client, name, units};
+use crate::worlds::{client, grows, name, units};
 use deed_core::{PlainDeed, Request};
 use lease_proto::{LeaseLine, LeaseOptions, Line, Op, ReleaseLine};
 use lease_terms::{Protocol, Refusal};
@@ -54,6 +54,7 @@ impl Picks {
             WorldEvent::Hears { .. } | WorldEvent::Says { .. } => {}
             WorldEvent::Restarts { .. } | WorldEvent::Repeats { .. } => {}
             WorldEvent::Ticks { .. } | WorldEvent::Resizes { .. } => {}
+            WorldEvent::Grows { .. } => {}
             _ => self.last[cpu] = *event,
         }
     }
@@ -88,7 +89,7 @@ pub(crate) fn picked(
         10..=11 => of_hand(picks, cpu, arena, cache),
         12..=15 => filled(picks, cpu, arena, cache, filling),
         16..=17 => swapped(picks, cpu, arena, cache, filling),
-        18 => rare(picks, cpu, arena, cache, turn),
+        18 => rare(rt, picks, cpu, (arena, cache), turn),
         _ => follows(rt, picks, world, cpu, (arena, cache)),
     };
     (cpu, event)
@@ -329,8 +330,14 @@ fn swapped(picks: &mut Picks, cpu: usize, arena: usize, cache: usize, filling: b
     }
 }
 
-/// A CPU fails, or magazines grow, which both can't happen often.
-fn rare(picks: &mut Picks, cpu: usize, arena: usize, cache: usize, turn: usize) -> WorldEvent {
+/// A CPU fails, or magazines or an arena grow, which all can't happen often.
+fn rare(
+    rt: &impl Abort,
+    picks: &mut Picks,
+    cpu: usize,
+    (arena, cache): (usize, usize),
+    turn: usize,
+) -> WorldEvent {
     let failing = turn / 40_000;
     if failing > 0 && picks.chances.once_in(2) {
         return WorldEvent::Adopts {
@@ -353,5 +360,16 @@ fn rare(picks: &mut Picks, cpu: usize, arena: usize, cache: usize, turn: usize) 
             size: 7,
         };
     }
+    if picks.chances.once_in(16) {
+        return grown(rt, picks);
+    }
     WorldEvent::Ticks { arena, cache }
+}
+
+/// One of the four arenas, or a fifth, gets up to eight units more.
+fn grown(rt: &impl Abort, picks: &mut Picks) -> WorldEvent {
+    let arena = picks.chances.below(5);
+    let base = picks.chances.below(1_024) as u64;
+    let len = picks.chances.below(8) as u64 + 1;
+    grows(rt, arena, base, len)
 }

@@ -1,6 +1,7 @@
 //! Events that their parts refuse, and events that can't be tried. Nothing moves at them.
 use crate::worlds::{
-    all_done, carves, client, ends, hears, lease, release, repeats, restarts, root, sums, world_of,
+    all_done, carves, child, client, ends, grows, hears, lease, plain_root, release, repeats,
+    restarts, root, sums, world_of,
 };
 use arena_tree::Setup;
 use deed_core::{PlainDeed, Request};
@@ -185,6 +186,41 @@ fn depots_refuse<R: Abort + AllocGlobal>(rt: &R, world: &mut World<PlainDeed>) {
     not_enabled(rt, world, &[changes(1, 15)]);
     all_done(rt, world, &[changes(1, 7)]);
     not_enabled(rt, world, &[changes(1, 7)]);
+}
+
+/// An arena in quanta of four gets no span that overlaps one of its own, aligned or not, and none
+/// that isn't aligned. One that imports, or isn't there, gets none.
+#[test]
+fn grows_by_none_of_these(rt: HostRuntime) {
+    let mut setup = Setup::new(rt.alloc());
+    plain_root(&rt, &mut setup, "q", 8, 16, 4);
+    child(&rt, &mut setup, "i", "q", Policy::Best, 0, 0);
+    let mut world = world_of(&rt, rt.alloc(), &setup, 1, 1);
+    let overlaps = EventFault::Overlaps;
+    let not_aligned = EventFault::NotAligned;
+    let rows = [
+        (grows(&rt, 0, 8, 16), overlaps),
+        (grows(&rt, 0, 4, 8), overlaps),
+        (grows(&rt, 0, 12, 4), overlaps),
+        (grows(&rt, 0, 23, 3), overlaps),
+        (grows(&rt, 0, 26, 4), not_aligned),
+        (grows(&rt, 0, 24, 6), not_aligned),
+    ];
+    refused(&rt, &mut world, &rows);
+    let nowhere = [
+        grows(&rt, 1, 24, 4),
+        grows(&rt, 1, 8, 16),
+        grows(&rt, 2, 24, 4),
+    ];
+    not_enabled(&rt, &mut world, &nowhere);
+    let grown = [grows(&rt, 0, 24, 4), grows(&rt, 0, 4, 4)];
+    all_done(&rt, &mut world, &grown);
+    let again = [
+        (grows(&rt, 0, 24, 4), overlaps),
+        (grows(&rt, 0, 7, 2), overlaps),
+    ];
+    refused(&rt, &mut world, &again);
+    world.end();
 }
 
 /// A client, a CPU, its hand, its request or a message isn't as the event asks.

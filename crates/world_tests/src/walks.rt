@@ -1,6 +1,6 @@
 //! A hundred thousand events at random: five CPUs, two of which fail, four clients that restart by
 //! one protocol or the other, three arenas in a chain, two of them with caches, and an arena apart
-//! from these.
+//! from these. Both that have spans of their own get further ones.
 use crate::kinds::{KINDS, kind_of};
 use crate::picks::{CLIENTS, CPUS, Picks, picked};
 use crate::worlds::{child, name, root, same_sums, sums, world_of};
@@ -41,17 +41,19 @@ fn hundred_thousand_events(rt: HostRuntime) {
     let mut picks = Picks::new();
     let mut done: [usize; KINDS] = [0; KINDS];
     let mut most_held: usize = 0;
+    let mut owned: [u128; 5] = [256, 0, 0, 96, 0];
     for turn in 0..EVENTS {
         let (cpu, event) = picked(&rt, &mut picks, &world, turn);
         if happens(&rt, &mut world, &event) {
             done[kind_of(&event)] = done[kind_of(&event)].saturating_add(1);
             picks.notes(cpu, &event);
+            owns(&mut owned, &event);
         }
         if turn % 100 == 99 {
             same_sums(&rt, &world);
         }
         if turn % STRETCH == STRETCH - 1 {
-            let held = looked_at(&rt, &world);
+            let held = looked_at(&rt, &world, &owned);
             most_held = most_held.max(held);
         }
     }
@@ -61,6 +63,16 @@ fn hundred_thousand_events(rt: HostRuntime) {
         "{most_held}, {done:?}"
     );
     world.end();
+}
+
+/// An arena owns what it grows by.
+fn owns(owned: &mut [u128; 5], event: &WorldEvent) {
+    match event {
+        WorldEvent::Grows { arena, range } if *arena < 5 => {
+            owned[*arena] = owned[*arena].saturating_add(u128::from(range.len()));
+        }
+        _ => {}
+    }
 }
 
 fn all_of(counts: &[usize]) -> usize {
@@ -78,13 +90,18 @@ fn happens(rt: &impl Abort, world: &mut World<PlainDeed>, event: &WorldEvent) ->
     outcome == Outcome::Done
 }
 
-/// The sums add up, and no two segments that clients hold overlap. How many they hold.
-fn looked_at(rt: &impl Abort, world: &World<PlainDeed>) -> usize {
+/// The sums add up to what the arenas own, and no two segments that clients hold overlap. How many
+/// they hold.
+fn looked_at(rt: &impl Abort, world: &World<PlainDeed>, owned: &[u128; 5]) -> usize {
     let (of_r, exported_r) = all(rt, world, 0);
     let (of_c, exported_c) = all(rt, world, 1);
     let (of_e, exported_e) = all(rt, world, 2);
     let (of_s, exported_s) = all(rt, world, 3);
-    assert!(rt; of_r == 256 && of_s == 96, "{of_r}, {of_s}");
+    assert!(rt; of_r == owned[0] && of_s == owned[3], "{of_r}, {of_s}");
+    assert!(rt;
+        owned[1] == 0 && owned[2] == 0 && owned[4] == 0,
+        "{owned:?}"
+    );
     assert!(rt; of_c == exported_r && of_e == exported_c, "{of_c}, {of_e}");
     assert!(rt; exported_e == 0 && exported_s == 0);
     let mut count: usize = 0;

@@ -3,7 +3,7 @@ ghost use Rattle.std.specs.Prelude.{◌≡◌, ◌<◌, ◌≤◌};
 ghost use Rattle.lease_proto.specs.declared.limits.TheConstants.{MOST_CPUS};
 
 use arena_tree::{NewChild, NewRoot, Setting, Setup};
-use deed_core::{PlainDeed, Request};
+use deed_core::{PlainDeed, Range, Request};
 use lease_proto::{LeaseLine, LeaseOptions, Op, ReleaseLine, Reply};
 use lease_terms::{ArenaName, ClientId, Protocol, Quantity};
 use std::alloc::{AllocGlobal, Global};
@@ -47,6 +47,26 @@ pub(crate) fn root(
         quantum: 1,
         policy,
         qcache_max,
+    };
+    setup.add(&Setting::Root(root)).expect(rt, "a root");
+}
+
+/// A root of so many units from `base` on, in quanta of `quantum` units, which has no caches.
+pub(crate) fn plain_root(
+    rt: &impl Abort,
+    setup: &mut Setup,
+    text: &str,
+    base: u64,
+    len: u64,
+    quantum: u64,
+) {
+    let root = NewRoot {
+        name: name(rt, text),
+        base,
+        len,
+        quantum,
+        policy: Policy::Best,
+        qcache_max: 0,
     };
     setup.add(&Setting::Root(root)).expect(rt, "a root");
 }
@@ -139,6 +159,14 @@ pub(crate) fn carves(cpu: usize, arena: usize, size: u64) -> WorldEvent {
         cpu,
         arena,
         request: Request::plain(size),
+    }
+}
+
+/// The arena gets a further span of so many units from `base` on.
+pub(crate) fn grows(rt: &impl Abort, arena: usize, base: u64, len: u64) -> WorldEvent {
+    WorldEvent::Grows {
+        arena,
+        range: Range::new(base, len).expect(rt, "a range"),
     }
 }
 

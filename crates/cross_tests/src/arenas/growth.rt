@@ -5,8 +5,8 @@ use super::{
     SpanWhy, add, close, end_span, give_all, give_back, grant, import, span_back, stands,
     take_back, try_import,
 };
-use deed_core::{Deed, PlainDeed, Range, Request, Segment};
-use std::alloc::AllocGlobal;
+use deed_core::{Deed, PlainDeed, PlainOpener, Range, Request, Segment};
+use std::alloc::{AllocError, AllocGlobal};
 use std::process::Abort;
 use tag_arena::{Arena, ArenaFault, Policy};
 
@@ -23,6 +23,21 @@ fn add_again(rt: &impl Abort, arena: &mut Arena<PlainDeed>, range: Range) {
     };
     assert_eq!(rt; (deed.range(), arena.report()), (range, before));
     add(rt, arena, deed);
+}
+
+/// Opens the range as a root in the arena, again where it was out of memory: then none was opened.
+fn grow_again(rt: &impl Abort, arena: &mut Arena<PlainDeed>, range: Range) {
+    match arena.admits(&range) {
+        Ok(()) => {}
+        Err(fault) => panic!(rt; "{fault}"),
+    }
+    let before = (arena.report(), arena.owned_count());
+    let mut opener = PlainOpener::new(1, 1);
+    match arena.grow(range, &mut opener) {
+        Ok(()) => return,
+        Err(AllocError) => assert_eq!(rt; (arena.report(), arena.owned_count()), before),
+    }
+    arena.grow(range, &mut opener).expect(rt, "refused twice");
 }
 
 /// Carves `len` units at `base`, again where it was out of memory.
@@ -107,6 +122,26 @@ fn make_calls(rt: &(impl Abort + AllocGlobal), policy: Policy) {
 fn calls_can_be_made_again(rt: HostRuntime) {
     for policy in [Policy::Best, Policy::Next, Policy::Instant] {
         make_calls(&rt, policy);
+    }
+}
+
+/// Two spans that are opened in the arena.
+fn make_growths(rt: &(impl Abort + AllocGlobal), policy: Policy) {
+    let mut arena = Arena::new(rt.alloc(), 1, 1, policy);
+    for base in [0, 64] {
+        let range = Range::new(base, 64).expect(rt, "a range");
+        grow_again(rt, &mut arena, range);
+    }
+    assert_eq!(rt; arena.owned_count(), 2);
+    end_span(rt, &mut arena, 0, 64);
+    end_span(rt, &mut arena, 64, 64);
+    close(rt, arena);
+}
+
+#[test]
+fn growths_can_be_made_again(rt: HostRuntime) {
+    for policy in [Policy::Best, Policy::Next, Policy::Instant] {
+        make_growths(&rt, policy);
     }
 }
 

@@ -1,6 +1,6 @@
 //! An arena.
 ghost use Rattle.std.specs.Prelude.{◌≡◌, ◌+◌, ◌≤◌, ℕ, [], IsOk, IfOk, IfErr, IfSome, OnOk, sum_by};
-ghost use Rattle.std.specs.Prelude.{option_to_list};
+ghost use Rattle.std.specs.Prelude.{OnErr, option_to_list};
 ghost use Rattle.std.specs.Option.{option_map};
 ghost use Rattle.deed_core.specs.Covering.{covering_held, covers_tag};
 ghost use Rattle.deed_core.specs.Extent.{IsRange};
@@ -8,14 +8,18 @@ ghost use Rattle.deed_core.specs.Tag.{Tag};
 ghost use Rattle.deed_core.specs.Weights.{Gains, Loses, one_at};
 ghost use Rattle.tag_arena.specs.ArenaState.{IsSoundArena, layout_of, spans_of, tags_of};
 ghost use Rattle.tag_arena.specs.Layout.{FreeIsLongestRuns};
+ghost use Rattle.tag_arena.specs.Calls.{AdmitsRange, RefusesRange, IsServedByList};
 ghost use Rattle.tag_arena.specs.Laws.{IsAnsweredExactly};
 ghost use Rattle.tag_arena.specs.Outcomes.{KeepsSetup, AddSpanOf, CarveOf, IsImportFor, ImportOf};
-ghost use Rattle.tag_arena.specs.Outcomes.{ImportCovers, FreeOf, RemoveOf};
+ghost use Rattle.tag_arena.specs.Outcomes.{ImportCovers, FreeOf, RemoveOf, WasGrown};
 
 use crate::arenas::check_import;
-use deed_core::{Deed, PlainDeed, Range, Request, Segment};
+use deed_core::{Deed, Opens, PlainDeed, PlainOpener, Range, Request, Segment};
+use std::alloc::AllocError;
 use std::process::Abort;
-use tag_arena::{Arena, ArenaFault, Policy, SpanFault, allocated_laws, arena_laws, serving_laws};
+use tag_arena::{
+    Arena, ArenaFault, Policy, RangeFault, SpanFault, allocated_laws, arena_laws, serving_laws,
+};
 
 /// What is known of any arena, as one taken from behind a lock.
 fn known<D: Deed>(arena: &Arena<D>)
@@ -35,6 +39,39 @@ fn add<D: Deed>(arena: &mut Arena<D>, deed: D) -> Result<(), SpanFault<D>>
     ensures imported { arena.new.imported ≡ arena.old.imported }
 {
     arena.add_span(deed)
+}
+
+/// A range may become a span, or why it may not.
+fn admit<D: Deed>(arena: &Arena<D>, range: &Range) -> Result<(), RangeFault>
+    ensures admitted { OnOk result (AdmitsRange arena.now range.now) }
+    ensures refused { IfErr result (RefusesRange arena.now range.now) }
+{
+    arena.admits(range)
+}
+
+/// A range is opened as a root and added as a span, or neither.
+fn grow<D: Deed, O: Opens<D>>(
+    arena: &mut Arena<D>,
+    range: Range,
+    opener: &mut O,
+) -> Result<(), AllocError>
+    requires admitted { AdmitsRange arena.old range }
+    requires left { O.can_open opener.old }
+    ensures grown { OnOk result
+        (WasGrown O.opens arena.old opener.old range arena.new opener.new) }
+    ensures unchanged { OnErr result ((arena.new ≡ arena.old) × (opener.new ≡ opener.old)) }
+    ensures sound { IsSoundArena arena.new × KeepsSetup arena.old arena.new }
+    ensures imported { arena.new.imported ≡ arena.old.imported }
+{
+    arena.grow(range, opener)
+}
+
+/// A request that a list serves is served at one look.
+fn carve_listed<D: Deed>(arena: &mut Arena<D>, request: &Request) -> Result<Segment<D>, ArenaFault>
+    requires { IsServedByList arena.old request.now }
+    ensures { OnOk result (arena.new.looks ≡ 1) }
+{
+    arena.xalloc(request)
 }
 
 /// A segment is carved, or none: which of the two, and why, is told by the free ranges alone.
@@ -165,6 +202,27 @@ fn ended(rt: &impl Abort, arena: Arena<PlainDeed>) {
         Ok(()) => {}
         Err(_) => panic!(rt; "a deed is left"),
     }
+}
+
+#[test]
+fn a_span_is_opened(rt: HostRuntime) {
+    let mut arena: Arena<PlainDeed> = Arena::new(rt.alloc(), 1, 1, Policy::Best);
+    let range = Range::new(0, 16).expect(&rt, "a range");
+    let mut opener = PlainOpener::new(3, 1);
+    assert_eq!(rt; admit(&arena, &range), Ok(()));
+    match grow(&mut arena, range, &mut opener) {
+        Ok(()) => {}
+        Err(AllocError) => panic!(rt; "memory"),
+    }
+    assert_eq!(rt; admit(&arena, &range), Err(RangeFault::Overlaps));
+    match remove(&mut arena) {
+        Some(deed) => {
+            assert_eq!(rt; deed.root(), 3);
+            deed.close();
+        }
+        None => panic!(rt; "the span is whole"),
+    }
+    ended(&rt, arena);
 }
 
 #[test]

@@ -1,7 +1,7 @@
 //! Lines and their answers, the lines asked of two CPUs in turn.
 ghost use Rattle.std.specs.Prelude.{◌≡◌};
 
-use super::{ask, ask_all, child, cpu, have, made, retire, root, shut, stuck};
+use super::{ask, ask_all, child, cpu, grow, have, made, retire, root, shut, span, stuck};
 use arena_tree::Setup;
 use deed_table::{Ground, Name};
 use lease_threads::{Halted, StoppedAt, System};
@@ -176,12 +176,17 @@ fn second_reaped<N: Name, R: Abort + Wait + AllocGlobal>(rt: &R, ground: Ground,
     shut(rt, system, &[(0, 64), (64, 64)]);
 }
 
+/// All units come back, those of arenas that import and of slabs too: each range of a root once, by
+/// arena and then in order of adding, whether the setup added it or a grow.
 #[test]
 fn shut_whole(rt: HostRuntime) -> Result<(), Fail> {
     let mut setup = Setup::new(rt.alloc());
     root(&rt, &mut setup, "a", 0, 64, Policy::Best, 0);
     child(&rt, &mut setup, "b", "a");
     root(&rt, &mut setup, "d", 64, 64, Policy::Best, 5);
+    span(&rt, &mut setup, "d", 512, 64);
+    span(&rt, &mut setup, "a", 256, 64);
+    span(&rt, &mut setup, "d", 448, 64);
     whole::<Brand, _>(&rt, Ground::new(rt.alloc())?, setup);
     Ok(())
 }
@@ -201,11 +206,29 @@ fn whole<N: Name, R: Abort + Wait + AllocGlobal>(rt: &R, ground: Ground, setup: 
         ("lease 1 1 5 d 9 align 16 phase 3", "granted 1 1 5 d 83 9"),
     ];
     ask_all(rt, &system, &mut one, &mut two, &rows);
+    grow(rt, &system, 2, 1024, 96);
+    grow(rt, &system, 0, 128, 96);
+    let rows = [
+        ("lease 1 1 6 a 96", "granted 1 1 6 a 128 96"),
+        ("lease 1 1 7 d 96", "granted 1 1 7 d 1024 96"),
+    ];
+    ask_all(rt, &system, &mut one, &mut two, &rows);
+    grow(rt, &system, 0, 64, 64);
     retire(rt, &system, one);
     retire(rt, &system, two);
-    shut(rt, system, &[(0, 64), (64, 64)]);
+    let of_a = [(0, 64), (256, 64), (128, 96), (64, 64)];
+    let of_d = [(64, 64), (512, 64), (448, 64), (1024, 96)];
+    match system.shut(rt) {
+        Ok(ranges) => {
+            assert!(rt; ranges.len() == 8);
+            have(rt, &ranges[..4], &of_a);
+            have(rt, &ranges[4..], &of_d);
+        }
+        Err(halted) => stuck(rt, halted),
+    }
 }
 
+/// A system in which a unit is out stops at the root of that one, and goes on when it is back.
 #[test]
 fn shut_goes_on(rt: HostRuntime) -> Result<(), Fail> {
     let mut setup = Setup::new(rt.alloc());
@@ -215,7 +238,8 @@ fn shut_goes_on(rt: HostRuntime) -> Result<(), Fail> {
     Ok(())
 }
 
-// A CPU still has a round of the second arena when the system is shut, and is retired then.
+// A CPU still has a round of the second arena's first span when the system is shut, and is retired
+// then.
 fn goes_on<N: Name, R: Abort + Wait + AllocGlobal>(rt: &R, ground: Ground, setup: Setup)
     requires { ground ≡ N.table }
 {
@@ -231,12 +255,17 @@ fn goes_on<N: Name, R: Abort + Wait + AllocGlobal>(rt: &R, ground: Ground, setup
         ask(rt, &system, &mut one, text, wanted);
     }
     assert!(rt; one.units() == 1);
+    grow(rt, &system, 1, 0, 64);
+    grow(rt, &system, 0, 8, 8);
     let halted = halt(rt, system);
     assert!(rt; halted.segment().is_none());
     assert!(rt; halted.stopped_at() == StoppedAt::Root(1), "another place");
-    retire(rt, halted.system(), one);
+    match halted.retire(rt, one) {
+        Ok(()) => {}
+        Err(cpu) => stuck(rt, cpu),
+    }
     match halted.again(rt) {
-        Ok(ranges) => have(rt, &ranges, &[(0, 8), (64, 64)]),
+        Ok(ranges) => have(rt, &ranges, &[(0, 8), (8, 8), (64, 64), (0, 64)]),
         Err(fault) => stuck(rt, fault),
     }
 }

@@ -2,12 +2,13 @@
 //! given is back, what stands is as before, and the same call then succeeds.
 ghost use Rattle.std.specs.Prelude.{◌≡◌};
 
-use super::{line, retire, shut};
-use arena_tree::{NewChild, NewRoot, Setting, Setup, SetupFault};
+use super::{have, line, retire, stuck};
+use arena_tree::{GrowFault, NewChild, NewRoot, NewSpan, Setting, Setup, SetupFault};
+use deed_core::Range;
 use deed_table::{Ground, Name};
 use lease_proto::{Line, Reply};
 use lease_terms::ArenaName;
-use lease_threads::{Cpu, OpenGate, System, SystemFault};
+use lease_threads::{Cpu, OpenGate, System};
 use std::alloc::AllocGlobal;
 use std::marker::Brand;
 use std::process::Abort;
@@ -93,6 +94,12 @@ fn setup(rt: &(impl Abort + AllocGlobal)) -> Setup {
     root(rt, &mut setup, "m", 0, 8, 0);
     root(rt, &mut setup, "d", 8, 64, 5);
     root(rt, &mut setup, "s", 128, 64, 0);
+    let span = NewSpan {
+        name: name(rt, "s"),
+        base: 512,
+        len: 64,
+    };
+    add(rt, &mut setup, &Setting::Span(span));
     let child = NewChild {
         name: name(rt, "c"),
         source: name(rt, "s"),
@@ -175,8 +182,7 @@ fn converse<N: Name, R: Abort + Wait + AllocGlobal>(
 {
     let system: System<N> = match System::new(rt.alloc(), ground, setup) {
         Ok(system) => system,
-        Err(SystemFault::NoMemory(setup)) => return Some(setup),
-        Err(_) => panic!(rt; "one span an arena"),
+        Err(setup) => return Some(setup),
     };
     let mut one = cpu(rt, &system, 0);
     let mut two = cpu(rt, &system, 1);
@@ -188,10 +194,45 @@ fn converse<N: Name, R: Abort + Wait + AllocGlobal>(
         }
     }
     change(rt, &system, &mut one);
+    grow(rt, &system, 2, 192, 64);
+    grow(rt, &system, 0, 192, 64);
+    grow(rt, &system, 2, 0, 64);
     retire(rt, &system, one);
     retire(rt, &system, two);
-    shut(rt, system, &[(0, 8), (8, 64), (128, 64)]);
+    let of_s = [(128, 64), (512, 64), (192, 64), (0, 64)];
+    match system.shut(rt) {
+        Ok(ranges) => {
+            assert!(rt; ranges.len() == 7);
+            have(rt, &ranges[..3], &[(0, 8), (192, 64), (8, 64)]);
+            have(rt, &ranges[3..], &of_s);
+        }
+        Err(halted) => stuck(rt, halted),
+    }
     None
+}
+
+/// Adds a range to the arena. Where memory is refused nothing is added, and what overlaps is
+/// refused for that.
+fn grow<N: Name, R: Abort + Wait>(rt: &R, system: &System<N>, arena: u32, base: u64, len: u64) {
+    let range = Range::new(base, len).expect(rt, "a range");
+    let before = free(rt, system, arena);
+    for _ in 0..2 {
+        match system.grow(rt, arena, range) {
+            Ok(()) => {
+                assert!(rt; free(rt, system, arena) == before.saturating_add(u128::from(len)));
+                assert!(rt; system.grow(rt, arena, range) == Err(GrowFault::Overlaps));
+                return;
+            }
+            Err(fault) => assert!(rt; fault == GrowFault::NoMemory),
+        }
+        assert!(rt; free(rt, system, arena) == before);
+    }
+    panic!(rt; "refused twice")
+}
+
+/// The units that a carve may still take.
+fn free<N: Name, R: Abort + Wait>(rt: &R, system: &System<N>, arena: u32) -> u128 {
+    system.sums(rt, arena).expect(rt, "an arena").free
 }
 
 fn begun<R: Abort + Wait + AllocGlobal>(rt: &R, setup: Setup) -> Option<Setup> {
@@ -207,5 +248,50 @@ fn starved_threads(rt: HostRuntime) {
     if let Some(setup) = begun(&rt, setup(&rt)) {
         let refused = begun(&rt, setup);
         assert!(rt; refused.is_none(), "refused twice");
+    }
+}
+
+/// The end takes no memory: a system that grew is shut with memory refused from any growth on, and
+/// comes back whole. How often it grew is known by what was refused.
+#[test]
+fn ends_without_memory(rt: HostRuntime) {
+    let mut setup = Setup::new(rt.alloc());
+    let whole = NewRoot {
+        name: name(&rt, "m"),
+        base: 0,
+        len: 8,
+        quantum: 1,
+        policy: Policy::Instant,
+        qcache_max: 0,
+    };
+    if setup.add(&Setting::Root(whole)).is_err() {
+        return;
+    }
+    if let Ok(ground) = Ground::new(rt.alloc()) {
+        grown_and_ended::<Brand, _>(&rt, ground, setup);
+    }
+}
+
+/// How often the arena grows.
+const GROWS: u64 = 40;
+
+fn grown_and_ended<N: Name, R: Abort + Wait + AllocGlobal>(rt: &R, ground: Ground, setup: Setup)
+    requires { ground ≡ N.table }
+{
+    let system: System<N> = match System::new(rt.alloc(), ground, setup) {
+        Ok(system) => system,
+        Err(_) => return,
+    };
+    let mut grown: u64 = 0;
+    for turn in 0..GROWS {
+        let range = Range::new(turn * 8 + 8, 8).expect(rt, "a range");
+        match system.grow(rt, 0, range) {
+            Ok(()) => grown = grown.saturating_add(1),
+            Err(fault) => assert!(rt; fault == GrowFault::NoMemory),
+        }
+    }
+    match system.shut(rt) {
+        Ok(ranges) => assert!(rt; ranges.len() as u64 == grown.saturating_add(1)),
+        Err(halted) => stuck(rt, halted),
     }
 }

@@ -192,12 +192,12 @@ fn close<D: Deed>(rt: &impl Abort, cpu: CpuCaches<D>) {
     }
 }
 
-/// Ends what is left: the first arena's deed, and nothing else.
-pub(super) fn end<D: Deed>(rt: &impl Abort, walk: Walk<D>) -> D {
+/// Ends all but the stock; nothing is held.
+fn end_cpus<D: Deed>(rt: &impl Abort, walk: Walk<D>) -> Stock<D> {
     let Walk {
         alloc: _,
         tree: _,
-        mut stock,
+        stock,
         cpu,
         other,
         held,
@@ -207,11 +207,36 @@ pub(super) fn end<D: Deed>(rt: &impl Abort, walk: Walk<D>) -> D {
     held.destroy_empty();
     close(rt, cpu);
     close(rt, other);
-    assert!(rt; stock.count() > 0);
-    let root = stock.remove_owned(0).expect(rt, "a root");
+    stock
+}
+
+/// Ends a stock that has no deed.
+fn close_stock<D: Deed>(rt: &impl Abort, stock: Stock<D>) {
     match stock.close() {
         Ok(()) => {}
         Err(_) => panic!(rt; "a deed is left"),
     }
+}
+
+/// Ends what is left: the first arena's deed, and nothing else.
+pub(super) fn end<D: Deed>(rt: &impl Abort, walk: Walk<D>) -> D {
+    let mut stock = end_cpus(rt, walk);
+    assert!(rt; stock.count() > 0);
+    let root = stock.remove_owned(0).expect(rt, "a root");
+    close_stock(rt, stock);
     root
+}
+
+/// Ends what is left: the first arena's deeds of these roots, each with its base and its length.
+pub(super) fn end_all(rt: &impl Abort, walk: Walk<PlainDeed>, roots: &[(u32, u64, u64)]) {
+    let mut stock = end_cpus(rt, walk);
+    for (root, base, len) in roots {
+        assert!(rt; stock.count() > 0);
+        let deed = stock.remove_owned(0).expect(rt, "a root");
+        assert_eq!(rt; deed.root(), *root);
+        let range = deed.close();
+        assert_eq!(rt; range.base(), *base);
+        assert_eq!(rt; range.len(), *len);
+    }
+    close_stock(rt, stock);
 }

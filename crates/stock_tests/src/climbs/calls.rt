@@ -1,8 +1,8 @@
 //! One function for each call. Each makes sure that the stock has the tree's arenas, and keeps how
 //! many locked steps it took.
 use super::arrangements::{Walk, is_set_up_as};
-use arena_tree::{ClimbFault, PartFault, climb_alloc, climb_free};
-use deed_core::{Deed, Request, Segment};
+use arena_tree::{ClimbFault, GrowFault, MOST_ARENAS, PartFault, climb_alloc, climb_free};
+use deed_core::{Deed, PlainDeed, Range, Request, Segment};
 use local_parts::Local;
 use magazine_layer::is_magazine_size;
 use quantum_cache::{Reaping, alloc, drain, free, reap, reap_arena, xalloc};
@@ -220,6 +220,19 @@ pub(super) fn resize<D: Deed>(rt: &impl Abort, walk: &mut Walk<D>, size: usize) 
             assert!(rt; walk.stock.resize(0, index, size).is_ok());
         }
     }
+}
+
+/// The arena grows by so many units from this base on, by the stock that CPUs' parts lend.
+pub(super) fn grow(
+    rt: &impl Abort,
+    walk: &mut Walk<PlainDeed>,
+    arena: usize,
+    base: u64,
+    len: u64,
+) -> Result<(), GrowFault> {
+    assert!(rt; walk.stock.count() <= MOST_ARENAS);
+    let range = Range::new(base, len).expect(rt, "a range");
+    walk.stock.grow_by(arena, range)
 }
 
 /// The other CPU calls from here on.

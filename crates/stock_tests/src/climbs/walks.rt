@@ -1,10 +1,10 @@
 //! The rows, call by call.
-use super::arrangements::{Walk, begin, child, end, root, set};
+use super::arrangements::{Walk, begin, child, end, end_all, root, set};
 use super::calls::{
-    allocate, change_cpus, climb, empty, hand_back, reap_all, release, resize, tick,
+    allocate, change_cpus, climb, empty, grow, hand_back, reap_all, release, resize, tick,
 };
 use super::sums::{free_units, magazine_units, slab_units};
-use arena_tree::Setup;
+use arena_tree::{GrowFault, Setup};
 use deed_core::{PlainDeed, Segment};
 use std::alloc::Global;
 use std::process::Abort;
@@ -39,6 +39,10 @@ enum Step {
     Resize(usize),
     /// Slabs of so many units are reaped.
     Reap(u128),
+    /// The arena grows by so many units from this base on.
+    Grow(usize, u64, u64),
+    /// It doesn't.
+    NotGrown(usize, u64, u64, GrowFault),
 }
 
 fn keep(
@@ -101,6 +105,12 @@ fn go(rt: &impl Abort, walk: &mut Walk<PlainDeed>, step: Step) {
         Step::Tick => tick(rt, walk),
         Step::Resize(size) => resize(rt, walk, size),
         Step::Reap(units) => assert_eq!(rt; reap_all(rt, walk), units),
+        Step::Grow(arena, base, len) => {
+            assert_eq!(rt; grow(rt, walk, arena, base, len), Ok(()));
+        }
+        Step::NotGrown(arena, base, len, fault) => {
+            assert_eq!(rt; grow(rt, walk, arena, base, len), Err(fault));
+        }
     }
 }
 
@@ -373,4 +383,67 @@ fn four_levels(rt: HostRuntime) {
     let mut walk = begin(&rt, rt.alloc(), setup);
     run(&rt, &mut walk, &FOUR_LEVELS);
     let _root = end(&rt, walk).close();
+}
+
+/// An arena grows by a range beside its own, which doesn't merge with it; then by none that
+/// overlaps it, and no other arena is there.
+const GROWS: [Step; 12] = [
+    Step::NoFit(0, 12),
+    Step::Grow(0, 8, 8),
+    Step::NoFit(0, 12),
+    Step::Units(0, 16),
+    Step::Alloc(0, 8, 0),
+    Step::Alloc(0, 8, 8),
+    Step::NoFit(0, 1),
+    Step::NotGrown(0, 12, 8, GrowFault::Overlaps),
+    Step::NotGrown(1, 0, 8, GrowFault::NoArena),
+    Step::Units(0, 0),
+    Step::Free(0, 0),
+    Step::Free(0, 8),
+];
+
+#[test]
+fn grows(rt: HostRuntime) {
+    let mut setup = Setup::new(rt.alloc());
+    set(&rt, &mut setup, root(&rt, "m", 8, 1, Policy::Best, 0));
+    let mut walk = begin(&rt, rt.alloc(), setup);
+    run(&rt, &mut walk, &GROWS);
+    end_all(&rt, walk, &[(0, 0, 8), (1, 8, 8)]);
+}
+
+/// The root of a chain with caches grows between two imports, while a slab of it and rounds of both
+/// CPUs are out; the child doesn't.
+const GROWS_BETWEEN_IMPORTS: [Step; 22] = [
+    Step::Alloc(0, 1, 0),
+    Step::Free(0, 0),
+    Step::Alloc(1, 4, 16),
+    Step::NoFit(1, 16),
+    Step::NotGrown(1, 64, 16, GrowFault::NotRoot),
+    Step::NotGrown(0, 24, 16, GrowFault::Overlaps),
+    Step::Grow(0, 64, 16),
+    Step::Units(0, 16),
+    Step::Climb(1, 16, 64),
+    Step::Units(0, 0),
+    Step::OtherCpu,
+    Step::Alloc(0, 1, 1),
+    Step::Free(0, 1),
+    Step::Magazines(0, 2),
+    Step::HandBack(1, 16),
+    Step::HandBack(1, 64),
+    Step::Units(0, 32),
+    Step::Drain,
+    Step::OtherCpu,
+    Step::Drain,
+    Step::Reap(16),
+    Step::Units(0, 48),
+];
+
+#[test]
+fn grows_between_imports(rt: HostRuntime) {
+    let mut setup = Setup::new(rt.alloc());
+    set(&rt, &mut setup, root(&rt, "r", 32, 1, Policy::Best, 5));
+    set(&rt, &mut setup, child(&rt, "c", "r", 1, 16));
+    let mut walk = begin(&rt, rt.alloc(), setup);
+    run(&rt, &mut walk, &GROWS_BETWEEN_IMPORTS);
+    end_all(&rt, walk, &[(0, 0, 32), (1, 64, 16)]);
 }
