@@ -11,10 +11,11 @@
 #             connections, in what make test left; make test tries each run's first 40 and every fifth then
 # make bench  measures bin/vmemd beside another server (bench/README.md); BENCH="--most 1000000"
 # make bench-serve  measures its server beside Redis, where that is there, and beside a bound (bench/README.md)
+# make page   takes pictures of the page that shows a server, at two widths: it needs chromium (tools/page)
 # make install PREFIX=/usr/local DESTDIR=  puts bin/vmemd, its pages and a systemd unit in place
 # make clean  removes what was built
 
-.PHONY: all try quick test edits cases starve bench bench-serve install clean
+.PHONY: all try quick test edits cases starve bench bench-serve page install clean
 
 SCRIPT = examples/first.script
 JOBS = 1
@@ -61,6 +62,10 @@ bench-serve:
 	test -x bin/vmemd || $(MAKE) all
 	bench/serve $(BENCH) bin/vmemd
 
+page:
+	test -x bin/vmemd || $(MAKE) all
+	tools/page bin/vmemd bin
+
 # (it installs what make has left as bin/vmemd, so that no proof runs as root)
 install:
 	test -x bin/vmemd || { echo "there is no bin/vmemd: make builds it" >&2; exit 1; }
@@ -72,7 +77,7 @@ install:
 	  install -D -m 644 /dev/null $$page && tools/manpage docs/vmemd.$$n.md > $$page || exit 1; done
 	install -d $(DESTDIR)$(PREFIX)/share/doc/vmemd
 	install -m 644 examples/README.md examples/first.script examples/*.conf clients/python/vmemd.py \
-	  $(DESTDIR)$(PREFIX)/share/doc/vmemd
+	  clients/python/vmemd_top.py $(DESTDIR)$(PREFIX)/share/doc/vmemd
 	unit=$(DESTDIR)$(PREFIX)/lib/systemd/system/vmemd.service; \
 	  install -D -m 644 /dev/null $$unit && \
 	  sed 's,@PREFIX@,$(PREFIX),g' packaging/vmemd.service.in > $$unit

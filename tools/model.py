@@ -19,7 +19,7 @@ POLICIES = ("instant", "best", "next")
 NAME = re.compile(r"[a-z][a-z0-9]{0,15}")
 NUMBER = re.compile(r"0|[1-9][0-9]*")
 SHAPES = {"hello": "ci", "lease": "cinaq", "release": "cinaq", "cpu": "p", "offline": "p",
-          "tick": "", "resize": "am", "reap": "", "audit": "", "clients": "",
+          "tick": "", "resize": "am", "grow": "aqq", "reap": "", "audit": "", "clients": "",
           "root": "aqqqlq", "child": "aaqlqq", "span": "aqq"}
 SETUP = ("root", "child", "span")
 RANGES = {"c": range(1, 65537), "i": range(1, MOST + 1), "n": range(1, MOST + 1),
@@ -324,6 +324,22 @@ class Model:
             return self.only(answers, "error size")
         arena.magazine = size
         return self.only(answers, "ok")
+
+    def on_grow(self, answers, name, base, length):
+        word = self.wrong_grow(name, base, length)
+        if word:
+            return self.only(answers, f"error {word}")
+        self.arenas[name].spans.append((base, base + length))
+        return self.only(answers, "ok")
+
+    def wrong_grow(self, name, base, length):
+        """Returns the word by which a grow is refused where memory is ample, or None."""
+        arena = self.arenas.get(name)
+        if not arena or arena.source:
+            return "noarena"
+        if self.wrong_range(base, length, arena.quantum, arena.spans):
+            return "range"
+        return "many" if len(arena.spans) == 65536 else None
 
     def on_reap(self, answers):
         found = re.fullmatch("reaped ([0-9]+)", "/".join(answers))

@@ -2,9 +2,9 @@
 """The rules as a slow program: what a script is answered, byte by byte.
 
 Arenas keep plain lists of free ranges, caches plain lists of chunks and magazines. It shares with
-tools/model.py how lines are read and which requests fit, and nothing with the program. It takes
-memory to be ample. Where a client has several leases of older incarnations, a hello ends them in
-order of grant: the rules leave this order open.
+tools/model.py how lines are read and which requests and ranges fit, and nothing with the program.
+It takes memory to be ample. Where a client has several leases of older incarnations, a hello ends
+them in order of grant: the rules leave this order open.
 
   tools/rules.py < SCRIPT      writes the answers, or the refusal of a setup line (status 2)
 """
@@ -333,6 +333,15 @@ class Rules:
             return "error size"
         for cache in caches:
             cache.resize(size)
+        return "ok"
+
+    def on_grow(self, name, base, length):
+        word = self.setup.wrong_grow(name, base, length)
+        if word:
+            return f"error {word}"
+        self.setup.arenas[name].spans.append((base, base + length))
+        self.spaces[name].spans.append((base, base + length))
+        self.spaces[name].free.append((base, base + length))
         return "ok"
 
     def on_reap(self):

@@ -71,13 +71,15 @@ def fill(link, seconds=1):
 
 @needs_serve
 class Served(unittest.TestCase):
-    """Each test has a server of its own; at its end it closes with status 0, and has logged just
-    these faults. Without `connections` it serves one for each worker."""
+    """Each test has a server of its own; at its end it tells what the test says, and that it
+    closes, with status 0, and has logged just these faults. Without `connections` it serves one
+    for each worker."""
 
     workers = 4
     connections = None
     options = ()
     faults = ()
+    told_at_end = ""
     config_lines = CONFIG
 
     def setUp(self):
@@ -107,7 +109,7 @@ class Served(unittest.TestCase):
         finally:
             self.server.kill()
             self.folder.cleanup()
-        self.assertEqual((out, self.server.returncode), ("closed\n", 0))
+        self.assertEqual((out, self.server.returncode), (self.told_at_end + "closed\n", 0))
         self.assertEqual(logged(err), [*self.faults, "[INFO  vmemd] vmemd closed"])
 
     def client(self, number, **options):

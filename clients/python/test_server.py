@@ -4,6 +4,9 @@ import signal
 import socket
 import subprocess
 import sys
+import tempfile
+import threading
+import time
 import unittest
 
 import vmemd
@@ -183,6 +186,154 @@ class ManyChunksOfMany(ManyChunks):
     connections = 16
 
 
+class Operated(Served):
+    """Roots that grow by standard input, while clients are served."""
+
+    config_lines = "root m 0 8 1 best 0\nroot p 0 8 8 best 0\nspan p 16 8\nchild c m 1 best 0 0\n"
+
+    def told(self, *lines):
+        """What the operator is told of each of these lines, which come at once."""
+        self.server.stdin.write("".join(f"{it}\n" for it in lines))
+        self.server.stdin.flush()
+        return [self.server.stdout.readline().rstrip("\n") for _ in lines]
+
+    def test_a_root_grows_under_load(self):
+        done = threading.Event()
+
+        def lease(number):
+            with self.client(number) as client:
+                pool = client.pool("m")
+                while not done.is_set():
+                    with pool.lease(1):
+                        pass
+
+        users = [threading.Thread(target=lease, args=(number,)) for number in (1, 2)]
+        with self.client(3) as client:
+            for it in users:
+                it.start()
+            try:
+                with self.assertRaises(vmemd.NoFit):
+                    client.lease("m", 8, min=8)
+                self.assertEqual(self.told("grow m 8 8"), ["ok"])
+                self.assertEqual(client.lease("m", 8, min=8), ("m", 8, 8))
+                many = self.told(*(f"grow m {base} 8" for base in range(16, 8016, 8)))
+                self.assertEqual(many, ["ok"] * 1000)
+            finally:
+                done.set()
+                for it in users:
+                    it.join()
+            leases = client.lease_many("m", [8] * 1001)
+            self.assertEqual(sorted(it.base for it in leases), [0, *range(16, 8016, 8)])
+
+    def test_a_child_imports_what_its_source_grew_by(self):
+        with self.client(1) as client:
+            client.lease("m", 8)
+            with self.assertRaises(vmemd.NoFit):
+                client.lease("c", 8)
+            self.assertEqual(self.told("grow m 100 8"), ["ok"])
+            self.assertEqual(client.lease("c", 8), ("c", 100, 8))
+
+    def test_spans_of_the_setup_and_later_ones(self):
+        self.assertEqual(self.told("grow p 8 8", "grow p 16 8", "grow p 28 8", "grow c 100 8"),
+                         ["ok", "error range", "error range", "error noarena"])
+        with self.client(1) as client:
+            bases = [client.lease("p", 8).base for _ in range(3)]
+            self.assertEqual(bases, [0, 8, 16])
+            with self.assertRaises(vmemd.NoFit):
+                client.lease("p", 16)
+
+    def test_no_lines_of_an_operator(self):
+        lines = ["hello 1 1", "tick", "span m 8 8", "grow m 8", "grow m 8 08", "", "x" * 255,
+                 "x" * 256, "x" * 100000, "grow m 8 8"]
+        words = ["word", "word", "word", "badline", "number", "badline", "word", "toolong",
+                 "toolong"]
+        self.assertEqual(self.told(*lines), [*(f"error {it}" for it in words), "ok"])
+
+    def test_a_line_in_pieces(self):
+        for piece in ("gr", "ow m", " 8 8"):
+            self.server.stdin.write(piece)
+            self.server.stdin.flush()
+            time.sleep(0.05)
+        self.assertEqual(self.told(""), ["ok"])
+
+    def test_over_a_connection_nothing_grows(self):
+        self.assertEqual(self.ask(b"grow m 8 8\nspan m 8 8\n"), b"error word\n" * 2)
+        with self.client(1) as client, self.assertRaises(vmemd.NoFit):
+            client.lease("m", 8, min=8)
+
+    def test_input_that_ends_in_a_line(self):
+        with self.client(1) as client:
+            client.lease("m", 8)
+        self.server.stdin.write("grow m 8 8\n")
+        self.server.stdin.flush()
+        self.assertEqual(self.server.stdout.readline(), "ok\n")
+        self.server.stdin.write("grow m 16 8")
+        self.server.stdin.close()
+        self.told_at_end = "error badline\n"
+
+
+@needs_connections
+class OperatedOfMany(Operated):
+    connections = 16
+
+
+@needs_serve
+class Unheard(unittest.TestCase):
+    """A server whose answers can't be written any more goes on until its input ends."""
+
+    def test_it_serves_on(self):
+        reading, writing = os.pipe()
+        with open(reading, "rb") as given, tempfile.NamedTemporaryFile() as config:
+            config.write(b"root m 0 8 1 best 0\n")
+            config.flush()
+            words = [PROGRAM, "serve", "127.0.0.1:0", config.name, "2"]
+            server = subprocess.Popen(words, stdin=given, stdout=subprocess.PIPE,
+                                      stderr=subprocess.PIPE, text=True)
+            port = int(server.stdout.readline().rpartition(":")[2])
+        with server:
+            server.stdout.close()
+            os.write(writing, b"grow m 8 8\n" * 3)
+            time.sleep(0.3)
+            with vmemd.Client("127.0.0.1", port, 1) as client:
+                self.assertEqual(client.lease("m", 8).base, 0)
+            os.write(writing, b"grow m 100 8\n")
+            with vmemd.Client("127.0.0.1", port, 2) as client, self.assertRaises(vmemd.NoFit):
+                client.lease("m", 8, min=100)
+            self.assertIsNone(server.poll())
+            os.close(writing)
+            self.assertEqual(server.wait(20), 1)
+            self.assertEqual(logged(server.stderr.read()), ["vmemd: write"])
+
+
+@needs_serve
+class Held(unittest.TestCase):
+    """A server as its unit runs it, whose operator writes to a pipe."""
+
+    hold = os.path.abspath(os.path.join(__file__, "../../../packaging/vmemd-hold"))
+
+    def test_its_operator_writes_to_a_pipe(self):
+        with tempfile.TemporaryDirectory() as folder:
+            config, pipe = os.path.join(folder, "config"), os.path.join(folder, "operator")
+            with open(config, "w", encoding="ascii") as opened:
+                opened.write("root m 0 8 1 best 0\n")
+            words = ["sh", self.hold, PROGRAM, "serve", "127.0.0.1:0", config, "1"]
+            server = subprocess.Popen(words, stdout=subprocess.PIPE, stderr=subprocess.PIPE,
+                                      env={**os.environ, "RUNTIME_DIRECTORY": folder}, text=True)
+            with server:
+                self.assertRegex(server.stdout.readline(), "^listening ")
+                for line, told in (("grow m 8 8", "ok"), ("grow m 8 8", "error range"),
+                                   ("audit", "error word"), ("grow m 16 8", "ok")):
+                    with open(pipe, "w", encoding="ascii") as operator:
+                        operator.write(f"{line}\n")
+                    self.assertEqual(server.stdout.readline(), f"{told}\n")
+                # (who has the pipe open keeps no server from its end)
+                with open(pipe, "w", encoding="ascii"):
+                    server.send_signal(signal.SIGTERM)
+                    out, err = server.communicate(timeout=10)
+            self.assertEqual((out, server.returncode), ("closed\n", 0))
+            self.assertEqual(logged(err), ["[INFO  vmemd] vmemd closed"])
+
+
 class Nonblocking(Served):
     """A server whose standard input doesn't let it wait, as one that another program set so."""
 
@@ -192,8 +343,8 @@ class Nonblocking(Served):
         return super().start(words, stdin=self.reading)
 
     def tearDown(self):
-        os.write(self.writing, b"passed over\n")
-        self.assertIsNone(self.server.poll())
+        os.write(self.writing, b"grow m 4096 8\n")
+        self.assertEqual(self.server.stdout.readline(), "ok\n")
         for end in (self.reading, self.writing):
             os.close(end)
         super().tearDown()
@@ -212,7 +363,7 @@ class Unreachable(unittest.TestCase):
     a network of its own, whose loopback interface is down."""
 
     apart = ["unshare", "--map-root-user", "--net"]
-    hold = os.path.abspath(os.path.join(__file__, "../../../packaging/vmemd-hold"))
+    hold = Held.hold
     forms = [("1",), ("4",), ("64",), *[("4", "--connections", "100")] * HAS_CONNECTIONS]
 
     @classmethod
