@@ -75,7 +75,10 @@ fn leases_of_many(rt: HostRuntime) {
     assert_eq!(rt; told.len(), 50);
     for (lease, turn) in told.iter().zip(1..=50u64) {
         let number = turn.saturating_mul(2);
-        assert_eq!(rt; (lease.number.get(), lease.base), (number, number.saturating_mul(8)));
+        assert_eq!(rt;
+            (lease.number.get(), lease.base),
+            (number, number.saturating_mul(8))
+        );
     }
     end(&rt, book);
 }
