@@ -16,8 +16,8 @@ pub record Kept : Type 0 where
 abbrev pub IsEarned : KeptReply → Option Terms → Type 0
 IsEarned (Granted arena base len) (Some t) = Fits t.quantum t.request base len
 IsEarned (Granted arena base len) None = ⊥
-IsEarned Released (Some t) = ⊥
-IsEarned Released None = Unit {0}
+IsEarned (Released arena base) (Some t) = ⊥
+IsEarned (Released arena base) None = Unit {0}
 IsEarned (Refused why) (Some t) = ⊥
 IsEarned (Refused why) None = Unit {0}
 

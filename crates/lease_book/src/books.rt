@@ -252,7 +252,8 @@ impl<D: Deed> Book<D> {
         let Some(held) = self.accounts.take(index, Which::At(id, arena, base)) else {
             return Err(Answer::Refused(self.refuse_at(index, id, Refusal::NotYours)));
         };
-        let kept = self.accounts.keep(index, id, KeptReply::Released, None);
+        let reply = KeptReply::Released { arena, base };
+        let kept = self.accounts.keep(index, id, reply, None);
         Ok((self.receipt(id, kept), held.into_segment()))
     }
 

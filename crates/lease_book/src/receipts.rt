@@ -14,7 +14,11 @@ pub enum KeptReply {
         base: Quantity,
         len: Quantity,
     },
-    Released,
+    /// The lease of the arena with this base was given back.
+    Released {
+        arena: u32,
+        base: Quantity,
+    },
     Refused(Refusal),
 }
 

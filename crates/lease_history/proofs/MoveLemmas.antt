@@ -113,7 +113,7 @@ due_elsewhere names f es arena base (lines.Request id (ops.Lease l)) none = by (
   where
     told : (r : KeptReply) → weight_told names (one_at arena base) r ≡ 0 → weight_told names f r ≤ weight_told names (elsewhere arena base f) r
     told (kept.Granted home at len) none = segment_elsewhere arena base f (record { arena = names home; base = at; len = len }) none
-    told kept.Released none = omega arith
+    told (kept.Released home at) none = omega arith
     told (kept.Refused why) none = omega arith
 
     by : (o : Option Kept) → weight_kept names (one_at arena base) o ≡ 0 → weight_kept names f o ≤ weight_kept names (elsewhere arena base f) o

@@ -129,7 +129,7 @@ told_weight : (names : ℕ → List ℕ) (f : HeldSegment → ℕ) (g : Granted)
 told_weight names f g (kept.Granted arena base len) is =
     let same : g ≡ record { id = g.id; arena = names arena; base = base; len = len } = cc in
     ap (λ (x : Granted). f (segment_of x)) same
-told_weight names f g kept.Released is = absurd cc
+told_weight names f g (kept.Released arena base) is = absurd cc
 told_weight names f g (kept.Refused why) is = absurd cc
 
 -- the outcome that a reply tells is that of the request that it answers

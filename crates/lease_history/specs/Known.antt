@@ -34,7 +34,7 @@ weight_in names i f l = if i == l.incarnation then f (told_segment names l.segme
 abbrev pub weight_told : (ℕ → List ℕ) → (HeldSegment → ℕ) → KeptReply → ℕ
 weight_told names f (kept.Granted arena base len) =
     f (record { arena = names arena; base = base; len = len })
-weight_told names f kept.Released = 0
+weight_told names f (kept.Released arena base) = 0
 weight_told names f (kept.Refused why) = 0
 
 abbrev pub weight_kept : (ℕ → List ℕ) → (HeldSegment → ℕ) → Option Kept → ℕ

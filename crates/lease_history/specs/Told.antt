@@ -21,13 +21,13 @@ use Rattle.lease_book.specs.Entry.{Entry, Settlement, kept_reply_of}
 abbrev pub reply_to : (ℕ → List ℕ) → RequestId → KeptReply → Reply
 reply_to names id (kept.Granted arena base len) =
     replies.Granted (record { id = id; arena = names arena; base = base; len = len })
-reply_to names id kept.Released = replies.Released id
+reply_to names id (kept.Released arena base) = replies.Released id
 reply_to names id (kept.Refused why) = replies.Refused (record { id = id; refusal = why })
 
 -- it names no arena, or one of so many
 abbrev pub IsTellable : ℕ → KeptReply → Type 0
 IsTellable count (kept.Granted arena base len) = arena < count
-IsTellable count kept.Released = Unit {0}
+IsTellable count (kept.Released arena base) = Unit {0}
 IsTellable count (kept.Refused why) = Unit {0}
 
 -- the reply to a request that is settled so
