@@ -17,12 +17,12 @@ use Rattle.lease_machine.specs.Picture.{Picture}
 use Rattle.arena_tree.specs.Trees.{arena_named}
 use Rattle.lease_machine.specs.Machine.{AnswersLine}
 use Rattle.lease_machine.specs.Laws.{Runs}
-use Rattle.lease_machine.specs.AnswerLaws.{reply_bytes, AnswersAgree, RepeatsFit}
+use Rattle.lease_machine.specs.AnswerLaws.{reply_bytes, AnswersAgree, RecentRepeat, RepeatsFit}
 use Rattle.lease_machine.proofs.Homes.{setup_only_grows}
 use Rattle.lease_machine.proofs.Entering.{Comes, still, further, answer_comes}
 use Rattle.lease_machine.proofs.Fitting.{grants_fit}
-use Rattle.lease_machine.proofs.Numbers.{kept_outcome, new_outcome}
-use Rattle.lease_machine.proofs.Repeats.{history_of, known_kept, request_kept, request_answer, kept_or}
+use Rattle.lease_machine.proofs.Numbers.{kept_outcome, new_outcome, recent_outcome}
+use Rattle.lease_machine.proofs.Repeats.{history_of, known_kept, request_again, request_kept, request_answer, kept_or}
 
 -- whatever history gives the old book, that and some entries more give the new one
 abbrev Grows : BookState → BookState → Type 0
@@ -88,6 +88,25 @@ answers_agree old mid late new id op again line text between repeat bytes frames
                   inl (b.1 ∙ ap reply_bytes same ∙ sym a.1)
             ]
       ]
+    ]
+
+pub recent_repeat : RecentRepeat
+recent_repeat old mid late new id op again line text between repeat bytes frames is read first run near read_again second =
+    let a = request_answer old mid id op line text read first in
+    let b = request_answer late new id again repeat bytes read_again second in
+    elim (kept_or a.0) [
+      | inr not ↦ inr (a.0, a.1, not)
+      | inl is_kept ↦
+          let was = request_kept old mid id (history_of old is) op a.0 a.2 is_kept in
+          let es : List Entry = first.picture.book.entries in
+          let outcome : outcome_of id es ≡ Some was.0 = kept_outcome es mid.book id first.picture.book.history was.1.current was.0 was.1.there in
+          let grown = run_grows frames mid late between run es first.picture.book.history in
+          let stays = outcomes_stay.later grown.0 es id was.0 grown.1.orderly outcome in
+          let there = recent_outcome (grown.0 ++ es) late.book id grown.1 near.current near.near ∙ stays in
+          let two = request_again late new (grown.0 ++ es, grown.1) id again was.0 b.0 (record { current = near.current; there = there }) b.2 in
+          let tree : late.tree ≡ old.tree = (setup_only_grows mid late frames between run).tree ∙ first.setup.tree in
+          let same : b.0 ≡ a.0 = two.0 ∙ ap (λ (xs : List TreeArena). reply_to (arena_named xs) id was.0.reply) tree ∙ sym was.2 in
+          inl (b.1 ∙ ap reply_bytes same ∙ sym a.1, two.1)
     ]
 
 pub repeats_fit : RepeatsFit

@@ -120,7 +120,7 @@ settled_fits d n (Grant t terms) k is home earned arena base len granted =
       home.2,
       subst (λ (q : ℕ). Fits q terms.request base len) home.2 fits,
     )
-settled_fits d n (Return a b) k is home earned arena base len granted = absurd (let e : replies.Granted arena base len ≡ replies.Released = sym granted ∙ ap (λ (x : Kept). x.reply) is in cc)
+settled_fits d n (Return a b) k is home earned arena base len granted = absurd (let e : replies.Granted arena base len ≡ replies.Released a b = sym granted ∙ ap (λ (x : Kept). x.reply) is in cc)
 settled_fits d n (Refuse why) k is home earned arena base len granted = absurd (let e : replies.Granted arena base len ≡ replies.Refused why = sym granted ∙ ap (λ (x : Kept). x.reply) is in cc)
 
 pub kept_grants_fit : KeptGrantsFit

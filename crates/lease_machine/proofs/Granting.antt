@@ -4,7 +4,7 @@ use Rattle.std.specs.Prelude.{slice_get}
 use Rattle.std.specs.List.{find}
 use Rattle.std.proofs.lemmas.Bool.{cases_lt, cases_eq, ne_eqb, eqb-true, and_parts}
 use Rattle.std.proofs.lemmas.List.{append_cancel_right}
-use Rattle.std.proofs.lemmas.List.Elements.{Contains-append_left, Contains-push}
+use Rattle.std.proofs.lemmas.List.Elements.{All-contains, Contains-append_left, Contains-push}
 use Rattle.deed_core.specs.Tag.{Tag}
 use Rattle.arena_tree.specs.declared.trees.TreeArena.{TreeArena}
 use Rattle.arena_tree.specs.Trees.{index_in}
@@ -34,10 +34,12 @@ use Rattle.lease_book.specs.Entry.{Entry, Settlement, Settled, Hello, Swept, Gra
 use Rattle.lease_book.specs.Receipts.{Kept}
 use Rattle.lease_book.specs.Replies.{kept_at, recent}
 use Rattle.lease_book.specs.Shelf.{with_leases, with_settled}
-use Rattle.lease_book.specs.Account.{Account, Lease, is_lease, without_first, lease_of, leases_after, window_in}
+use Rattle.lease_book.specs.Account.{Account, Lease, granted_request, is_lease, without_first, lease_of, leases_after, window_in}
 use Rattle.lease_book.specs.Answers.{IsNew}
 use Rattle.lease_book.specs.BookState.{BookState, HasHistory, Enters, account_in, account_or_nobody}
-use Rattle.lease_book.proofs.LawProofs.{entered_changes, found_number}
+use Rattle.lease_book.specs.History.{leases_of, outcome_of}
+use Rattle.lease_book.specs.declared.receipts.Terms.{Terms}
+use Rattle.lease_book.proofs.LawProofs.{account_is, entered_changes, found_number, leases_granted}
 use Rattle.lease_history.specs.Told.{reply_to, IsKnownReply}
 use Rattle.lease_machine.specs.Picture.{Picture, IsPicture}
 use Rattle.arena_tree.specs.Trees.{arena_named, name_or_none}
@@ -45,11 +47,11 @@ use Rattle.lease_machine.specs.Machine.{LeaseStep, NewRequest, RequestStep}
 use Rattle.lease_machine.specs.Laws.{Runs}
 use Rattle.lease_machine.specs.AnswerLaws.{reply_bytes, IsReadAs, AreNamed}
 use Rattle.lease_machine.specs.LeaseLaws.{leases_in, LeasesStay, LeasesBecome, LeaseMoves, ReleaseMoves, HelloMoves, grant_told}
-use Rattle.lease_machine.specs.GrantLaws.{AnswersGranted, EndsLease, RunKeeps}
+use Rattle.lease_machine.specs.GrantLaws.{AnswersGranted, LeaseStands, EndsLease, RunKeeps}
 use Rattle.lease_machine.proofs.Repeats.{history_of, known_kept, request_answer}
 use Rattle.lease_machine.proofs.Fitting.{kept_grants_fit, found_named, not_known}
 use Rattle.lease_machine.proofs.Leases.{leases_move, settled_becomes, stays, stays_at}
-use Rattle.lease_machine.proofs.Numbers.{settled_alone}
+use Rattle.lease_machine.proofs.Numbers.{kept_outcome, settled_alone}
 use Rattle.lease_machine.proofs.Naming.{line_is}
 use Rattle.lease_machine.proofs.Replied.{request_valid}
 use Rattle.lease_machine.proofs.Entering.{Makes, greets, settles, sweeps, Comes, still, further, answer_comes}
@@ -134,7 +136,7 @@ settled_stands id (Grant t terms) a fresh k n arena base len one is granted =
     }
 settled_stands id (Return i b) a fresh k n arena base len one is granted =
     let now : kept_settlement id.number (Return i b) ≡ k = newest id (Return i b) a fresh k n one is in
-    absurd (let e : kept.Released ≡ kept.Granted arena base len = ap (λ (x : Kept). x.reply) now ∙ granted in cc)
+    absurd (let e : kept.Released i b ≡ kept.Granted arena base len = ap (λ (x : Kept). x.reply) now ∙ granted in cc)
 settled_stands id (Refuse why) a fresh k n arena base len one is granted =
     let now : kept_settlement id.number (Refuse why) ≡ k = newest id (Refuse why) a fresh k n one is in
     absurd (let e : kept.Refused why ≡ kept.Granted arena base len = ap (λ (x : Kept). x.reply) now ∙ granted in cc)
@@ -208,7 +210,7 @@ is_grant (reply.Error x) g same = absurd (let e : 101 ≡ 103 = ap (λ xs. get_o
 kept_granted : (names : ℕ → List ℕ) (id : RequestId) (k : KeptReply) (h : Granted) → reply.Granted h ≡ reply_to names id k
     → (arena : ℕ) × (base : ℕ) × (len : ℕ) × (k ≡ kept.Granted arena base len) × (h ≡ record { id = id; arena = names arena; base = base; len = len })
 kept_granted names id (kept.Granted arena base len) h is = (arena, base, len, refl, (let e : reply.Granted h ≡ reply.Granted (record { id = id; arena = names arena; base = base; len = len }) = is in cc))
-kept_granted names id kept.Released h is = absurd (let e : reply.Granted h ≡ reply.Released id = is in cc)
+kept_granted names id (kept.Released arena base) h is = absurd (let e : reply.Granted h ≡ reply.Released id = is in cc)
 kept_granted names id (kept.Refused why) h is = absurd (let e : reply.Granted h ≡ reply.Refused (record { id = id; refusal = why }) = is in cc)
 
 -- its bytes
@@ -293,6 +295,36 @@ known_has d id h is st one known =
       told = told ∙ sym tells;
     }
 
+-- or while the lease that it was granted stands
+stands_has : (d : Picture) (id : RequestId) (h : Granted) → IsPicture d → LeaseStands d id → IsKnownReply (arena_named d.tree) d.book id (reply.Granted h) → HasLease d id h
+stands_has d id h is s known =
+    let was = known_kept d id (reply.Granted h) tt known in
+    let k = was.0 in
+    let l = s.lease in
+    let (arena, base, len, granted, told) = kept_granted (arena_named d.tree) id k.reply h was.2 in
+    let es : List Entry = is.book.entries in
+    let outcome : outcome_of id es ≡ Some k = kept_outcome es d.book id is.book.history was.1.current k was.1.there in
+    let leases : leases_in d id.client ≡ leases_of id.client es = ap (λ (a : Account). a.leases) (account_is es d.book id.client is.book.history) in
+    let held : Contains (leases_of id.client es) l = subst (λ (ls : List Lease). Contains ls l) leases s.held in
+    let by = All-contains (λ (x : Lease). (terms : Terms) × (outcome_of (granted_request id.client x) es ≡ Some (kept_settlement x.number (Grant x.segment terms)))) (leases_of id.client es) l (leases_granted es id.client is.book.history.orderly) held in
+    let first : outcome_of id es ≡ Some (kept_settlement l.number (Grant l.segment by.0)) = subst (λ (i : RequestId). outcome_of i es ≡ Some (kept_settlement l.number (Grant l.segment by.0))) s.own by.1 in
+    let one : k ≡ kept_settlement l.number (Grant l.segment by.0) = (let e : Some k ≡ Some (kept_settlement l.number (Grant l.segment by.0)) = sym outcome ∙ first in cc) in
+    let told_so : kept.Granted arena base len ≡ kept.Granted l.segment.arena l.segment.holding.range.base l.segment.holding.range.len = sym granted ∙ ap (λ (x : Kept). x.reply) one in
+    let of_arena : l.segment.arena ≡ arena = cc in
+    let at_base : l.segment.holding.range.base ≡ base = cc in
+    let as_long : l.segment.holding.range.len ≡ len = cc in
+    let home = kept_grants_fit d id.client id.number k is was.1.there arena base len granted in
+    let own : l ≡ lease_of id l.segment = λ j. record { incarnation = (s.own j).incarnation; number = (s.own j).number; segment = l.segment } in
+    let tells : grant_told d id l.segment ≡ record { id = id; arena = arena_named d.tree arena; base = base; len = len } =
+    λ j. record { id = id; arena = arena_named d.tree (of_arena j); base = at_base j; len = as_long j } in
+    record {
+      segment = l.segment;
+      held = subst (λ (x : Lease). Contains (leases_in d id.client) x) own s.held;
+      arena = home.0;
+      here = ap (slice_get d.tree) of_arena ∙ home.2;
+      told = told ∙ sym tells;
+    }
+
 pub granted_leased : (old new : Picture) (line text : List ℕ) (g : Granted) → IsPicture old → AreNamed old.tree → BookStands old.book → AnswersGranted old line text g new → IsLeased new g
 granted_leased old new line text g is names st a =
     let id = a.id in
@@ -308,7 +340,8 @@ granted_leased old new line text g is names st a =
       | inr does ↦ new_has old new id a.op h (history_of old is) tree does.1
       | inl known ↦ elim a.counts [
         | inl fresh ↦ absurd (not_known old id (reply.Granted h) fresh known.0)
-        | inr one ↦ subst (λ (d : Picture). HasLease d id h) (sym known.1) (known_has old id h is st one known.0)
+        | inr (inl one) ↦ subst (λ (d : Picture). HasLease d id h) (sym known.1) (known_has old id h is st one known.0)
+        | inr (inr stands) ↦ subst (λ (d : Picture). HasLease d id h) (sym known.1) (stands_has old id h is stands known.0)
       ]
     ]) in
     let is_id = (line_is line (lines.Request id a.op) a.read).0 in

@@ -43,7 +43,7 @@ module _ (d : Picture) (id : RequestId) where
       by (kept.Granted arena base len) said =
           let fits = kept_grants_fit d id.client id.number (record { number = id.number; reply = v.reply; terms = v.terms }) is rep.kept arena base len said in
           slice_get_within d.tree arena fits.0 fits.2
-      by kept.Released said = tt
+      by (kept.Released arena base) said = tt
       by (kept.Refused why) said = tt
 
   pub known_named : {D : Type 0} → IsPicture d → (a : Answer D) → IsKnown d.book id a → CanName d.tree a
@@ -59,7 +59,7 @@ module _ (d : Picture) (id : RequestId) where
     where
       by : (k : KeptReply) → v.reply ≡ k → IsKnownReply (arena_named d.tree) d.book id (reply_to (arena_named d.tree) id k)
       by (kept.Granted arena base len) said = (v, rep, ap (reply_to (arena_named d.tree) id) (sym said))
-      by kept.Released said = (v, rep, ap (reply_to (arena_named d.tree) id) (sym said))
+      by (kept.Released arena base) said = (v, rep, ap (reply_to (arena_named d.tree) id) (sym said))
       by (kept.Refused why) said = (v, rep, ap (reply_to (arena_named d.tree) id) (sym said))
 
   pub known_told : {D : Type 0} (a : Answer D) → IsKnown d.book id a → IsKnownReply (arena_named d.tree) d.book id (reply_to_answer (arena_named d.tree) id a)

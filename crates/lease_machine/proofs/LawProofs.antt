@@ -7,8 +7,9 @@ pub use Rattle.lease_machine.proofs.Fitting.{grants_fit, kept_grants_fit}
 pub use Rattle.lease_machine.proofs.NoRoom.{no_fit_means_taken, no_fit_means_taken_up, freed_is_whole, first_lease_is_served, never_both}
 pub use Rattle.lease_machine.proofs.Growing.{grows_add_free, grown_is_served, grown_stays, grows_keep, grows_keep_nothing, grows_are_answered}
 pub use Rattle.lease_machine.proofs.Emptied.{reap_leaves_none, offline_has_no_round, tick_and_reap_empty, again_means_room}
-pub use Rattle.lease_machine.proofs.Agreeing.{answers_agree, repeats_fit}
+pub use Rattle.lease_machine.proofs.Agreeing.{answers_agree, recent_repeat, repeats_fit}
 pub use Rattle.lease_machine.proofs.CachedReach.{grants_were_reachable}
+pub use Rattle.lease_machine.proofs.CouldServe.{what_serves_can}
 pub use Rattle.lease_machine.proofs.FreshCpus.{fresh_is_picture, selected_is_picture, fresh_cpu_fits}
 pub use Rattle.lease_machine.proofs.CachedSizes.{cached_by_number}
 pub use Rattle.lease_machine.proofs.Stepping.{faults_are_answered, known_are_answered, old_hellos_are_answered, audits_are_answered, clients_are_told, cpus_are_selected, resizes_are_answered, releases_are_settled}

@@ -114,7 +114,6 @@ module _ (D : Type 0) (d : Picture) (id : RequestId) (l : LeaseLine) (is : IsPic
             index = index;
             arena = x;
             takes = record { finds = finds; good = served.0 };
-            can = served.1;
             segment = t;
             serves = serves_then d mid b index x (demand_of l) t served.2;
             receipt = r;

@@ -49,6 +49,7 @@ pub mod SlabSteps
 pub mod Reached
 pub mod CachedLaws
 pub mod CachedReach
+pub mod CouldServe
 pub mod BookMoves
 pub mod Rebooking
 pub mod KnownAnswers

@@ -27,7 +27,7 @@ line_is line l read = ((lines_are_texts line l).0 ((clients_are_served line l).0
 
 kept_names : (names : ℕ → List ℕ) (id : RequestId) (k : KeptReply) (r : Reply) → r ≡ reply_to names id k → NamesRequest id r
 kept_names names id (kept.Granted arena base len) r is = subst (NamesRequest id) (sym is) refl
-kept_names names id kept.Released r is = subst (NamesRequest id) (sym is) refl
+kept_names names id (kept.Released arena base) r is = subst (NamesRequest id) (sym is) refl
 kept_names names id (kept.Refused why) r is = subst (NamesRequest id) (sym is) refl
 
 known_names : (d : Picture) (id : RequestId) (r : Reply) → IsKnownReply (arena_named d.tree) d.book id r → NamesRequest id r

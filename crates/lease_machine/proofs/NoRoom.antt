@@ -42,6 +42,7 @@ use Rattle.lease_machine.specs.Machine.{NewLease, RefusesLease, HelloStep, Sweep
 use Rattle.lease_machine.specs.AnswerLaws.{reply_bytes}
 use Rattle.lease_machine.specs.RoomLaws.{NamesArena, NothingIsKept, NoFitMeansTaken, NoFitMeansTakenUp, NeverGrantedAndRefused, HasRunUp, FreedIsWhole, FirstLeaseIsServed, refusal_to}
 use Rattle.lease_machine.proofs.Repeats.{request_answer, history_of}
+use Rattle.lease_machine.proofs.CouldServe.{what_serves_can}
 use Rattle.lease_machine.proofs.Fitting.{not_known}
 use Rattle.lease_machine.proofs.Rooms.{run_serves, base_serves, plan_is}
 use Rattle.lease_machine.proofs.Freed.{span_is_run}
@@ -118,11 +119,12 @@ no_fit_means_taken old new id l x s is named found run base free serves =
     ])
 
 pub never_both : NeverGrantedAndRefused
-never_both old new other id l r g found =
+never_both old new other id l r is g found =
+    let can = what_serves_can old new g.index g.arena (demand_of l) g.segment is g.takes.finds.here g.serves in
     let a = request_answer old other id (ops.Lease l) found.line found.text found.read found.step in
     elim a.2 [
       | inl known ↦ not_known old id a.0 found.fresh known.0
-      | inr does ↦ new_no_fit id old other l a.0 does.1 (sym a.1 ∙ found.said) g.index g.arena g.takes.finds g.can
+      | inr does ↦ new_no_fit id old other l a.0 does.1 (sym a.1 ∙ found.said) g.index g.arena g.takes.finds can
     ]
 
 -- what runs serve, the arenas of the chain do

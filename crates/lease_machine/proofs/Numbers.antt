@@ -77,11 +77,13 @@ module _ (es : List Entry) (book : BookState) (id : RequestId) (h : IsHistory es
   pub kept_outcome : (k : Kept) → kept_at id.number own.kept ≡ Some k → outcome_of id es ≡ Some k
   kept_outcome k found = kept_outcomes.kept es id (window_in own) k (subst (λ (ks : List Kept). kept_at id.number ks ≡ Some k) kept_is found)
 
+  -- and within the window each outcome is kept
+  pub recent_outcome : last_number own < id.number + window_in own → kept_at id.number own.kept ≡ outcome_of id es
+  recent_outcome near = ap (kept_at id.number) kept_is ∙ kept_outcomes.all es id (window_in own) (omega (arith, near, last_is))
+
   -- a number that is new has none
   pub new_outcome : IsNew own id → outcome_of id es ≡ None
-  new_outcome fresh =
-      sym (kept_outcomes.all es id (window_in own) (omega (arith, fresh.above, last_is)))
-      ∙ ap (kept_at id.number) (sym kept_is) ∙ fresh.unsettled
+  new_outcome fresh = sym (recent_outcome fresh.above) ∙ fresh.unsettled
 
   -- and reaches no further than the window
   pub new_within : IsNew own id → id.number ≤ low_in id.client id.incarnation es + reach_in id.client id.incarnation es

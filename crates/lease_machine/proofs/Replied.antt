@@ -62,7 +62,7 @@ kept_valid d is named id is_id k there = by k.reply refl
         let some = in_range.some in
         let below = in_range.below in
         (is_id, ap is_name (sym name) ∙ all_at (λ (x : TreeArena). is_name x.name ≡ true) d.tree arena home.0 named home.2, omega (arith, below), omega (arith, below))
-    by kept.Released e = is_id
+    by (kept.Released arena base) e = is_id
     by (kept.Refused why) e = is_id
 
 module _ (old new : Picture) (is : IsPicture old) (is_new : IsPicture new) (tree : new.tree ≡ old.tree) (named : AreNamed old.tree) where

@@ -40,6 +40,7 @@ use Rattle.lease_machine.proofs.Fitting.{not_known}
 use Rattle.lease_machine.proofs.Rooms.{run_serves, base_serves}
 use Rattle.lease_machine.proofs.NoRoom.{runs_up}
 use Rattle.lease_machine.proofs.CachedReach.{grants_were_reachable}
+use Rattle.lease_machine.proofs.CouldServe.{what_serves_can}
 use Rattle.lease_machine.proofs.Leases.{lease_moves, release_moves, hello_moves, welcome_moves, welcome_anew, welcome_on, settled_becomes, answer_to}
 
 nothing_serves : (old : Picture) (index : ℕ) (x : TreeArena) (l : LeaseLine) → IsPicture old → slice_get old.tree index ≡ Some x → ¬ CanServe old index x (demand_of l) → NothingServes index x l old
@@ -74,7 +75,7 @@ lease_rule old new id l is (reply.Granted g) does =
       index = does.index;
       arena = does.arena;
       takes = does.takes;
-      can = does.can;
+      can = what_serves_can old new does.index does.arena (demand_of l) does.segment is does.takes.finds.here does.serves;
       room = does.granted.room;
       segment = does.segment;
       told = same;

@@ -1,6 +1,6 @@
 -- What follows for the answers to requests.
-use Rattle.std.specs.Prelude.{◌≡◌, ◌≢◌, ◌⊎◌, ℕ, List, [], All, Option, Some, None, Ok, Err}
-use Rattle.std.specs.Prelude.{slice_get, true}
+use Rattle.std.specs.Prelude.{◌≡◌, ◌≢◌, ◌⊎◌, ℕ, ◌+◌, ◌<◌, List, [], All, Option, Some, None}
+use Rattle.std.specs.Prelude.{Ok, Err, slice_get, true}
 use Rattle.std.specs.List.{find, AllByRecursion}
 use Rattle.deed_core.specs.Extent.{Covers}
 use Rattle.deed_core.specs.Tag.{Tag}
@@ -28,6 +28,7 @@ use Rattle.lease_proto.specs.Requests.{client_of, request_named, demand_of}
 use Rattle.lease_book.specs.Receipts.{Kept}
 use Rattle.lease_book.specs.Replies.{kept_at}
 use Rattle.lease_book.specs.BookState.{account_in}
+use Rattle.lease_book.specs.Account.{last_number, window_in}
 use Rattle.lease_book.specs.Answers.{IsNew}
 use Rattle.lease_book.specs.declared.receipts.Terms.{Terms}
 use Rattle.lease_book.specs.declared.receipts.KeptReply.TheVariants as kept
@@ -81,6 +82,22 @@ AnswersAgree = (old mid late new : Picture) (id : RequestId) (op again : Op)
     → IsRequestLine line id op → LeaseStep old line text mid → Runs mid frames between late
     → IsRequestLine repeat id again → LeaseStep late repeat bytes new
     → (bytes ≡ text) ⊎ (IsUnkept text ⊎ IsUnkept bytes)
+
+-- the request is of its client's incarnation, and its number is within the window of the greatest
+-- one that was settled
+pub record IsRecent (d : Picture) (id : RequestId) : Type 0 where
+  pub current : id.incarnation ≡ (account_in id.client d.book).incarnation
+  pub near : last_number (account_in id.client d.book)
+      < id.number + window_in (account_in id.client d.book)
+
+-- So long a request that comes again after any lines, its client's own among them, is answered by
+-- the same bytes, and nothing changes; but where its answer wasn't kept.
+abbrev pub RecentRepeat : Type 0
+RecentRepeat = (old mid late new : Picture) (id : RequestId) (op again : Op)
+    (line text between repeat bytes : List ℕ) (frames : List Frame) → IsPicture old
+    → IsRequestLine line id op → LeaseStep old line text mid → Runs mid frames between late
+    → IsRecent late id → IsRequestLine repeat id again → LeaseStep late repeat bytes new
+    → ((bytes ≡ text) × (new ≡ late)) ⊎ IsUnkept text
 
 -- the reply is to this request, and says so; `old` names its client alone
 abbrev pub NamesRequest : RequestId → Reply → Type 0

@@ -1,5 +1,5 @@
 -- What two requests are granted doesn't overlap, while the first lease stands.
-use Rattle.std.specs.Prelude.{◌≡◌, ◌≢◌, ◌⊎◌, ℕ, ◌<◌, List, [], slice_get, Some, None, Ok}
+use Rattle.std.specs.Prelude.{◌≡◌, ◌≢◌, ◌⊎◌, ℕ, ◌<◌, List, [], Contains, slice_get, Some, None, Ok}
 use Rattle.deed_core.specs.Extent.{Extent, Covers}
 use Rattle.arena_tree.specs.declared.trees.TreeArena.{TreeArena}
 use Rattle.arena_tree.specs.Trees.{index_in}
@@ -17,22 +17,31 @@ use Rattle.lease_proto.specs.declared.replies.Reply.TheVariants as reply
 use Rattle.lease_proto.specs.Frames.{Frame}
 use Rattle.lease_proto.specs.Operators.{served_of}
 use Rattle.lease_proto.specs.Serving.{ServesLines}
+use Rattle.lease_book.specs.Account.{Lease, granted_request}
 use Rattle.lease_book.specs.Answers.{IsNew}
 use Rattle.lease_book.specs.BookState.{account_in}
 use Rattle.lease_machine.specs.Picture.{Picture, IsPicture}
 use Rattle.lease_machine.specs.Machine.{LeaseStep}
 use Rattle.lease_machine.specs.Laws.{Runs}
 use Rattle.lease_machine.specs.AnswerLaws.{reply_bytes, IsRequestLine, IsReadAs, AreNamed}
+use Rattle.lease_machine.specs.LeaseLaws.{leases_in}
+
+-- the client still has the lease that the request was granted
+pub record LeaseStands (d : Picture) (id : RequestId) : Type 0 where
+  pub lease : Lease
+  pub held : Contains (leases_in d id.client) lease
+  pub own : granted_request id.client lease ≡ id
 
 -- the line is a request, and is answered with this grant: it is new, or its client asks again by
--- the first protocol (by the second a reply is told again after its lease ended, too)
+-- the first protocol, or while the lease stands (by the second a reply is told again after that
+-- ended, too)
 pub record AnswersGranted (old : Picture) (line text : List ℕ) (g : Granted) (new : Picture)
     : Type 0 where
   pub id : RequestId
   pub op : Op
   pub read : IsRequestLine line id op
   pub counts : IsNew (account_in id.client old.book) id
-      ⊎ ((account_in id.client old.book).protocol ≡ One)
+      ⊎ ((account_in id.client old.book).protocol ≡ One) ⊎ LeaseStands old id
   pub step : LeaseStep old line text new
   pub told : IsReadAs text (reply.Granted g)
 

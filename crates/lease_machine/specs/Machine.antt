@@ -57,7 +57,6 @@ pub record Grants (id : RequestId) (l : LeaseLine) (old new : Picture) (r : Repl
   pub index : ℕ
   pub arena : TreeArena
   pub takes : TakesDemand old l index arena
-  pub can : CanServe old index arena (demand_of l)
   pub segment : Tag
   pub serves : ServesWith index arena (demand_of l) segment old new
   pub receipt : ReceiptState

@@ -2,6 +2,7 @@
 use Rattle.std.specs.Prelude.{◌≡◌, ◌≢◌, ◌⊎◌, ℕ, ◌≤◌, List, [], ◌∷◌, All, Contains, slice_get}
 use Rattle.std.specs.Prelude.{Some, Ok}
 use Rattle.deed_core.specs.Holding.{Holding}
+use Rattle.deed_core.specs.Tag.{Tag}
 use Rattle.deed_core.specs.Request.{IsPlain, plain_of}
 use Rattle.deed_core.specs.declared.requests.Request.{Request}
 use Rattle.tag_arena.specs.ArenaState.{spans_of}
@@ -30,6 +31,7 @@ use Rattle.lease_book.specs.BookState.{leased_segments, account_in}
 use Rattle.lease_book.specs.Answers.{IsNew}
 use Rattle.lease_machine.specs.Picture.{Picture, IsPicture, Finds, held_outside}
 use Rattle.local_calls.specs.NoFits.{HasBaseUp}
+use Rattle.lease_machine.specs.Serving.{CanServe, ServesWith}
 use Rattle.lease_machine.specs.Machine.{LeaseStep, Grants}
 use Rattle.lease_machine.specs.AnswerLaws.{reply_bytes, IsRequestLine}
 
@@ -61,10 +63,17 @@ NoFitMeansTaken = (old new : Picture) (id : RequestId) (l : LeaseLine) (x : Tree
     → (run : Holding) (base : ℕ) → IsRun (spans_of s.arena) s.arena.allocated run
     → ¬ ServesIn x.quantum (demand_of l) run base
 
--- no picture lets one request be granted and be refused so
+-- what served a request could serve it: a cache had the chunk, or an address of the arena or of one
+-- of its sources was free
+abbrev pub WhatServesCan : Type 0
+WhatServesCan = (old new : Picture) (index : ℕ) (x : TreeArena) (q : Request) (t : Tag)
+    → IsPicture old → slice_get old.tree index ≡ Some x → ServesWith index x q t old new
+    → CanServe old index x q
+
+-- so no picture lets one request be granted and be refused so
 abbrev pub NeverGrantedAndRefused : Type 0
 NeverGrantedAndRefused = (old new other : Picture) (id : RequestId) (l : LeaseLine) (r : Reply)
-    → Grants id l old new r → ¬ FindsNoRoom old other id l
+    → IsPicture old → Grants id l old new r → ¬ FindsNoRoom old other id l
 
 -- a run of free units of the arena at the index serves the request
 abbrev pub HasRun : List SpaceState → ℕ → Request → Type 0

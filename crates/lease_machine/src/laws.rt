@@ -11,14 +11,14 @@ ghost use Rattle.lease_machine.specs.Laws.{SameSetupGrows, SetupGrowsOn, UnitsHa
 ghost use Rattle.lease_machine.specs.Laws.{LeasesAreApart, AuditTellsLeases, AuditIsWhole};
 ghost use Rattle.lease_machine.specs.Laws.{AuditIsTold};
 ghost use Rattle.lease_machine.specs.AnswerLaws.{LinesRepeat, AnswersAgree, GrantsFit};
-ghost use Rattle.lease_machine.specs.AnswerLaws.{ClientsGetReplies};
+ghost use Rattle.lease_machine.specs.AnswerLaws.{ClientsGetReplies, RecentRepeat};
 ghost use Rattle.lease_machine.specs.Rules.{StepsKeepRules, RunsKeepRules};
 ghost use Rattle.lease_machine.specs.AnswerLaws.{KeptGrantsFit, GrantsWereReachable, RepeatsFit};
 ghost use Rattle.lease_machine.specs.LeaseLaws.{LeasesMove};
 ghost use Rattle.lease_machine.specs.GrantLaws.{GrantsStayApart};
 ghost use Rattle.lease_machine.specs.RoomLaws.{NoFitMeansTaken, NoFitMeansTakenUp};
 ghost use Rattle.lease_machine.specs.RoomLaws.{FreedIsWhole, FirstLeaseIsServed, FewerFitToo};
-ghost use Rattle.lease_machine.specs.RoomLaws.{NeverGrantedAndRefused};
+ghost use Rattle.lease_machine.specs.RoomLaws.{WhatServesCan, NeverGrantedAndRefused};
 ghost use Rattle.lease_machine.specs.GrowLaws.{GrowsAddFree, GrownIsServed, GrownStays};
 ghost use Rattle.lease_machine.specs.GrowLaws.{GrowsKeep, GrowsKeepNothing, GrowsAreAnswered};
 ghost use Rattle.lease_machine.specs.EmptyingLaws.{ReapLeavesNone, OfflineHasNoRound};
@@ -63,10 +63,12 @@ pub fn rule_laws()
 {}
 
 /// A client's line gets one line, which is read as a reply to it. A request that comes again gets
-/// the bytes that it got, and is never settled by others.
+/// the bytes that it got, while only others ask or its number is recent, and is never settled by
+/// others.
 pub fn repeat_laws()
     ensures named { ClientsGetReplies }
     ensures repeats { LinesRepeat }
+    ensures recent { RecentRepeat }
     ensures agree { AnswersAgree }
 {}
 
@@ -81,7 +83,8 @@ pub fn grant_laws()
 
 /// What each line and its answer make of all leases: one more, one less, those of a client's older
 /// incarnations gone, or none changed. So what two requests are granted doesn't overlap, while no
-/// line ends the first lease: each is told to a new request, or again by the first protocol.
+/// line ends the first lease: each is told to a new request, or again by the first protocol or
+/// while its lease stands.
 pub fn lease_laws()
     ensures moves { LeasesMove }
     ensures apart { GrantsStayApart }
@@ -96,6 +99,7 @@ pub fn no_fit_laws()
     ensures freed { FreedIsWhole }
     ensures first { FirstLeaseIsServed }
     ensures fewer { FewerFitToo }
+    ensures serves { WhatServesCan }
     ensures never_both { NeverGrantedAndRefused }
 {}
 

@@ -5,10 +5,10 @@
 //! own: what segments come from (supplies), the book as `lease_call` asks it (own_books), the
 //! answers to requests and hellos by its lists of steps (requests, hellos) and the replies that
 //! they are (replies), the answers to an operator (operators), his choice of a CPU (cpus), his
-//! intervals and magazine sizes (depots), the ranges that he adds (growing), what he is told of the arenas and clients (reports), CPUs
-//! that go offline (offlines), what is reaped (reapings), what a setup gives (openings), and how
-//! leases and CPUs end (endings). What a line may be answered is stated in the crate
-//! `lease_machine`.
+//! intervals and magazine sizes (depots), the ranges that he adds (growing), what he is told of the
+//! arenas and clients (reports), CPUs that go offline (offlines), what is reaped (reapings), what a
+//! setup gives, and that it is a picture (openings), and how leases and CPUs end (endings). What a
+//! line may be answered is stated in the crate `lease_machine`.
 //!
 //! A client's line costs what the calls of `quantum_cache` and of the book do, and a look at the
 //! names of the arenas and the numbers of the CPUs, which are few; a hello one free for each lease
@@ -35,3 +35,4 @@ mod requests;
 mod supplies;
 
 pub use desks::Desk;
+pub use openings::opening_law;

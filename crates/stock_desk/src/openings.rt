@@ -2,7 +2,7 @@
 ghost use Rattle.std.specs.Prelude.{◌≡◌, [], ◌∷◌, IfOk};
 ghost use Rattle.lease_book.specs.BookState.{BookState, IsHistory};
 ghost use Rattle.lease_machine.specs.Picture.{IsPicture, fresh_cpu};
-ghost use Rattle.stock_desk.specs.Openings.{IsOpenedFrom};
+ghost use Rattle.stock_desk.specs.Openings.{IsOpenedFrom, OpenedIsPicture};
 ghost use Rattle.stock_desk.specs.Supplies.{picture_with};
 
 use crate::cpus::{Cpu, FIRST_ROUNDS};
@@ -59,3 +59,8 @@ fn first_cpu(alloc: Global, stock: &Stock<PlainDeed>) -> Result<Vec<Cpu>, AllocE
         }
     }
 }
+
+/// What follows for what a setup opens. The function does nothing: its contract is the law.
+pub fn opening_law()
+    ensures { OpenedIsPicture }
+{}

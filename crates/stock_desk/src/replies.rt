@@ -56,7 +56,7 @@ fn settled(tree: &Tree, id: RequestId, reply: KeptReply) -> Reply
                 len,
             })
         }
-        KeptReply::Released => Reply::Released(id),
+        KeptReply::Released { .. } => Reply::Released(id),
         KeptReply::Refused(refusal) => Reply::Refused(RefusedRequest { id, refusal }),
     }
 }
