@@ -38,7 +38,7 @@ use Rattle.world_core.proofs.HeldLemmas.{hand_is_apart}
 outcome_told : (names : ℕ → List ℕ) (es : List Entry) (id : RequestId) (r : KeptReply) (k : Kept) → outcome_of id es ≡ Some k → r ≡ k.reply
     → MayTell names es (reply_to names id r)
 outcome_told names es id (kept_replies.Granted a b l) k out is = (k, out, ap (reply_to names id) is)
-outcome_told names es id kept_replies.Released k out is = (k, out, ap (reply_to names id) is)
+outcome_told names es id (kept_replies.Released a b) k out is = (k, out, ap (reply_to names id) is)
 outcome_told names es id (kept_replies.Refused why) k out is = (k, out, ap (reply_to names id) is)
 
 repeat_told : (w : WorldState) (id : RequestId) (reply : Reply) → IsWorld w

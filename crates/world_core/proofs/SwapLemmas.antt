@@ -82,10 +82,9 @@ module _ (w : WorldState) (cpu arena cache index : ℕ) (own : OwnCacheState) (i
           either d (inl other) = other
           either d (inr other) = λ e. other (sized ∙ e)
 
-      pub fresh_wants_memory : (back : MagazineState) → BothFull own.cpu → OnDepot own.arena own.cache (λ a b. PutFullOf own.cpu a magazine (Err (putting.NoMemory back)) next.cpu b) w.stock stock
+      pub fresh_wants_memory : (back : MagazineState) → HasDepot w cpu arena cache (λ c d. BothFull c × (c.size ≡ d.size)) → OnDepot own.arena own.cache (λ a b. PutFullOf own.cpu a magazine (Err (putting.NoMemory back)) next.cpu b) w.stock stock
           → EndsAs (events.SwapsFresh cpu arena cache) NoMemory w (record w { stock = stock; caches = caches })
-      fresh_wants_memory back both at = (let on = depot_of _ w.stock stock at in
-          (so BothFull both, left _ on on.does.4 on.does.3))
+      fresh_wants_memory back enabled at = (let on = depot_of _ w.stock stock at in (enabled, left _ on on.does.4 on.does.3))
 
     module _ (sound : IsOwnCache next) (shaped : IsShaped next.cpu) where
       moved : (Does : (old new : CpuCacheState) → (before after : List SpaceState) → Type 0) → Does own.cpu next.cpu w.stock stock → IsStep w.stock (own_rounds own) stock (own_rounds next)
@@ -125,6 +124,11 @@ module _ (w : WorldState) (cpu arena cache index : ℕ) (own : OwnCacheState) (i
   -- the quantum cache that it is for stands
   pub cache_stands : HasCache w.stock arena cache
   cache_stands = subst (λ (k : ℕ). HasCache w.stock k cache) here.home (subst (λ (j : ℕ). HasCache w.stock own.arena j) here.number (own_in w index own is here.mine.at).has)
+
+  -- the depot's size being told, what is so of the two
+  pub as_told : (told : ℕ) → ((c : QuantumCacheState) → IsCacheAt w.stock arena cache c → told ≡ c.depot.size) → (Are : CpuCacheState → DepotState → Type 0) → ((d : DepotState) → told ≡ d.size → Are own.cpu d) → HasDepot w cpu arena cache Are
+  as_told told tells Are are = (let has = cache_stands in
+      record { index = index; own = own; depot = has.0; here = here; at = has.1; are = are has.0.depot (tells has.0 has.1) })
 
   -- where its magazines may change, the new ones are greater
   pub grows : (size : ℕ) → HasDepot w cpu arena cache (CanGrowTo size) → IsSize size × (own.cpu.size < size)

@@ -256,8 +256,7 @@ BringsNew which w = (id : RequestId) × (op : Op)
     × (slice_get w.requests which ≡ Some (lines.Request id op))
     × IsNew (account_in id.client w.book) id
 
--- where an event may want memory: only where it can happen, and some events never do; the new
--- magazine of a swap is made before the depot tells whether it takes its size
+-- where an event may want memory: only where it can happen, and some events never do
 abbrev pub MayWantMemory : WorldEvent → WorldState → Type 0
 MayWantMemory (events.Hears c which) w = ⊥
 MayWantMemory (events.Looks cpu which) w =
@@ -274,8 +273,6 @@ MayWantMemory (events.SwapsFull cpu arena cache) w = ⊥
 MayWantMemory (events.SwapsEmpty cpu arena cache) w = ⊥
 MayWantMemory (events.Ticks arena cache) w = ⊥
 MayWantMemory (events.Resizes arena cache size) w = ⊥
-MayWantMemory (events.SwapsFresh cpu arena cache) w =
-    IsReady (events.SwapsFresh cpu arena cache) w
 MayWantMemory event w = IsEnabled event w
 
 -- the move of an event

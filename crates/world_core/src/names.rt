@@ -34,7 +34,7 @@ pub(crate) fn reply_to(names: &[ArenaName], id: RequestId, kept: KeptReply) -> R
             base,
             len,
         }),
-        KeptReply::Released => Reply::Released(id),
+        KeptReply::Released { .. } => Reply::Released(id),
         KeptReply::Refused(refusal) => Reply::Refused(RefusedRequest { id, refusal }),
     }
 }

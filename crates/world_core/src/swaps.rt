@@ -78,11 +78,15 @@ impl<D: Deed> WorldParts<D> {
         let Some(index) = self.own_index(cpu, arena, cache) else {
             return Outcome::NotEnabled;
         };
+        let size = self.stock.depot_size(arena, cache);
         let own = &mut self.caches[index];
         if !own.is_full() {
             return Outcome::NotEnabled;
         }
-        let Ok(magazine) = Magazine::new(self.alloc, own.size()) else {
+        if own.size() != size {
+            return Outcome::Refused(EventFault::OldSize);
+        }
+        let Ok(magazine) = Magazine::new(self.alloc, size) else {
             return Outcome::NoMemory;
         };
         let swapped = own.swap_fresh(&mut self.stock, magazine);
