@@ -6,6 +6,7 @@ mod Slabs
 mod Wholes
 mod Walks
 mod Begins
+mod Owns
 mod Numbers
 mod Grows
 pub mod Sums

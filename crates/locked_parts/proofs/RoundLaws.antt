@@ -1,5 +1,5 @@
 -- Rounds stay chunks of their quantum cache.
-use Rattle.std.proofs.Common.{◌≡◌, ◌∙◌, List, [], ◌∷◌, ◌++◌, All, map, ap, Option, Some, None, IfSome}
+use Rattle.std.proofs.Common.{◌≡◌, ◌∙◌, List, [], ◌∷◌, ◌++◌, All, map, ap, sym, Option, Some, None, IfSome}
 use Rattle.std.proofs.lemmas.List.{map-append, append_assoc}
 use Rattle.std.specs.Option.{option_to_list}
 use Rattle.std.proofs.lemmas.List.Elements.{All-append, All-cons, All-nil, All-head, All-tail, All-same, All-push}
@@ -49,6 +49,11 @@ module _ (P : Tag → Type 0) where
 -- one more is such
 pub all_pushed : {X : Type 0} (P : X → Type 0) (old mid new : List X) (x : X) → mid ≡ old → new ≡ mid ++ x ∷ [] → All P old → P x → All P new
 all_pushed P old mid new x same more all is = All-same P new (mid ++ x ∷ []) more (All-push P mid x (All-same P mid old same all) is)
+
+-- a list of what is made of keys goes on by what is made of one key more
+pub made_pushed : {X K : Type 0} (f : K → X) (old mid new first : List X) (x : X) (last : List K) (k : K) → mid ≡ old → new ≡ mid ++ x ∷ [] → old ≡ first ++ map f last → x ≡ f k → new ≡ first ++ map f (last ++ k ∷ [])
+made_pushed f old mid new first x last k same more was is =
+    more ∙ ap (λ xs. xs ++ x ∷ []) (same ∙ was) ∙ append_assoc first (map f last) (x ∷ []) ∙ ap (λ y. first ++ (map f last ++ y ∷ [])) is ∙ ap (λ ys. first ++ ys) (sym (map-append f last (k ∷ [])))
 
 -- and its key comes last
 pub keys_pushed : {X K : Type 0} (f : X → K) (old mid new : List X) (x : X) (first last : List K) (k : K) → mid ≡ old → new ≡ mid ++ x ∷ [] → map f old ≡ first ++ last → f x ≡ k → map f new ≡ first ++ (last ++ k ∷ [])

@@ -13,6 +13,7 @@ use Rattle.arena_tree.specs.declared.part_faults.GrowFault.TheVariants.{NotAlign
 use Rattle.arena_tree.specs.declared.part_faults.GrowFault.TheVariants.{NoMemory}
 use Rattle.arena_tree.specs.declared.trees.TreeArena.{TreeArena}
 use Rattle.locked_parts.specs.Answers.{ArenaPartState}
+use Rattle.locked_parts.specs.declared.arena_parts.Grown.{Grown}
 
 -- the arena of this number has no source
 abbrev pub IsRootArena : List TreeArena → ℕ → Type 0
@@ -22,26 +23,38 @@ IsRootArena arenas id = (x : TreeArena) × (slice_get arenas id ≡ Some x) × (
 abbrev pub HasSource : List TreeArena → ℕ → Type 0
 HasSource arenas id = (x : TreeArena) × (slice_get arenas id ≡ Some x) × IsSome x.source
 
--- what a grow of the arena of this number is answered: NoArena and then NotRoot exactly where they
+-- how a grow of the arena of this number is refused: NoArena and then NotRoot exactly where they
 -- stand
-abbrev pub AnswersGrow : List TreeArena → ℕ → Result (Unit {0}) GrowFault → Type 0
-AnswersGrow arenas id (Ok _) = IsRootArena arenas id
-AnswersGrow arenas id (Err NoArena) = length arenas ≤ id
-AnswersGrow arenas id (Err NotRoot) = HasSource arenas id
-AnswersGrow arenas id (Err Overlaps) = IsRootArena arenas id
-AnswersGrow arenas id (Err NotAligned) = IsRootArena arenas id
-AnswersGrow arenas id (Err TooMany) = IsRootArena arenas id
-AnswersGrow arenas id (Err NoMemory) = IsRootArena arenas id
+abbrev pub MayRefuseGrow : List TreeArena → ℕ → GrowFault → Type 0
+MayRefuseGrow arenas id NoArena = length arenas ≤ id
+MayRefuseGrow arenas id NotRoot = HasSource arenas id
+MayRefuseGrow arenas id Overlaps = IsRootArena arenas id
+MayRefuseGrow arenas id NotAligned = IsRootArena arenas id
+MayRefuseGrow arenas id TooMany = IsRootArena arenas id
+MayRefuseGrow arenas id NoMemory = IsRootArena arenas id
 
--- an answer of the arena itself: which of the arenas it is, is known before
-abbrev pub IsOfArena : Result (Unit {0}) GrowFault → Type 0
+-- what it is answered
+abbrev pub AnswersGrow : {A : Type 0} → List TreeArena → ℕ → Result A GrowFault → Type 0
+AnswersGrow arenas id (Ok _) = IsRootArena arenas id
+AnswersGrow arenas id (Err f) = MayRefuseGrow arenas id f
+
+-- a fault of the arena itself: which of the arenas it is, is known before
+abbrev pub IsFaultOfArena : GrowFault → Type 0
+IsFaultOfArena NoArena = ⊥
+IsFaultOfArena NotRoot = ⊥
+IsFaultOfArena Overlaps = Unit {0}
+IsFaultOfArena NotAligned = Unit {0}
+IsFaultOfArena TooMany = Unit {0}
+IsFaultOfArena NoMemory = Unit {0}
+
+-- an answer of it
+abbrev pub IsOfArena : {A : Type 0} → Result A GrowFault → Type 0
 IsOfArena (Ok _) = Unit {0}
-IsOfArena (Err NoArena) = ⊥
-IsOfArena (Err NotRoot) = ⊥
-IsOfArena (Err Overlaps) = Unit {0}
-IsOfArena (Err NotAligned) = Unit {0}
-IsOfArena (Err TooMany) = Unit {0}
-IsOfArena (Err NoMemory) = Unit {0}
+IsOfArena (Err f) = IsFaultOfArena f
+
+-- the arena of this number opened a root of this range, and added its deed
+abbrev pub IsGrowthBy : ℕ → Extent → Grown → Type 0
+IsGrowthBy id range g = (g.arena ≡ id) × (g.range ≡ range)
 
 -- nothing stands against a further root of this range, and a number is left for it
 abbrev pub CanGrow : ArenaPartState → Extent → Type 0

@@ -25,6 +25,14 @@ pub record OwnCacheState : Type 0 where
   pub kind : CacheKind
   pub cpu : CpuCacheState
 
+-- how many rounds a magazine holds at first
+abbrev pub first_size : ℕ
+first_size = 3
+
+-- as they begin: two empty ones
+abbrev pub new_own : CacheKind → OwnCacheState
+new_own k = record { kind = k; cpu = record { size = first_size; loaded = []; previous = [] } }
+
 -- all their rounds are chunks of it
 pub record IsOwnCache (r : OwnCacheState) : Type 0 where
   pub some : 0 < r.kind.quantum

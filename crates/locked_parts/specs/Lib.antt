@@ -2,8 +2,10 @@ pub mod Gates
 pub mod Kinds
 pub mod News
 pub mod Swaps
+pub mod Owns
 pub mod Sums
 pub mod Walks
 pub mod States
 pub mod Answers
 pub mod Growing
+pub mod Saying

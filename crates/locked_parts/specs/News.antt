@@ -9,7 +9,8 @@ use Rattle.arena_tree.specs.Chains.{quantum_in}
 use Rattle.arena_tree.specs.Trees.{nodes_of}
 use Rattle.arena_tree.specs.declared.setups.OwnedSpan.{OwnedSpan}
 use Rattle.arena_tree.specs.declared.trees.TreeArena.{TreeArena}
-use Rattle.locked_parts.specs.Kinds.{count_of_caches, kinds_up_to}
+use Rattle.magazine_layer.specs.Depots.{DepotState, new_depot}
+use Rattle.locked_parts.specs.Kinds.{count_of_caches, kinds_up_to, first_size}
 use Rattle.locked_parts.specs.declared.kinds.CacheKind.{CacheKind}
 
 -- the ranges of those spans that the arena of this number owns, in order of coming
@@ -26,15 +27,17 @@ numbered_from first (e ∷ ranges) =
 abbrev pub AreWhole : ArenaState → List Holding → Type 0
 AreWhole a roots = (a.owned ≡ roots) × (a.free ≡ roots) × (a.imported ≡ [])
 
--- a quantum cache, and how many units each slab of it has
+-- a quantum cache, how many units each slab of it has, and its depot
 pub record NewCacheState : Type 0 where
   pub kind : CacheKind
   pub slab_size : ℕ
+  pub depot : DepotState
 
--- its slabs are of the size that the arena with this number was set up with
-abbrev pub HasSlabsOf : List TreeArena → ℕ → NewCacheState → Type 0
-HasSlabsOf arenas id c = (x : TreeArena) × (slice_get arenas id ≡ Some x)
-    × (c.slab_size ≡ x.slab_size)
+-- its slabs are of the size that the arena with this number was set up with, and its depot has
+-- nothing, for magazines of the first size
+abbrev pub BeginsAsSet : List TreeArena → ℕ → NewCacheState → Type 0
+BeginsAsSet arenas id c = (x : TreeArena) × (slice_get arenas id ≡ Some x)
+    × (c.slab_size ≡ x.slab_size) × (c.depot ≡ new_depot first_size)
 
 -- an arena as it is made, with its source, its quantum caches and its roots, in order of opening
 pub record NewArenaState : Type 0 where
@@ -51,7 +54,7 @@ pub record IsMadeAsSet (arenas : List TreeArena) (id : ℕ) (a : NewArenaState) 
       × (a.quantum ≡ x.quantum) × (a.policy ≡ x.policy) × (a.source ≡ x.source)
   pub kinds : map (λ c. c.kind) a.caches
       ≡ kinds_up_to id (quantum_in (nodes_of arenas) id) (count_of_caches arenas id)
-  pub slabs : All (HasSlabsOf arenas id) a.caches
+  pub begin : All (BeginsAsSet arenas id) a.caches
 
 -- and each of these is the one of its index
 pub record AreMadeAsSet (arenas : List TreeArena) (made : List NewArenaState) : Type 0 where

@@ -1,7 +1,6 @@
 -- What an exchange of a CPU's magazines with a depot under its lock comes to. A depot of another
 -- cache has nothing for the CPU.
-use Rattle.std.specs.Prelude.{◌≡◌, ◌≢◌, ◌⊎◌, ℕ, List, [], Some, Result, Ok, Err}
-use Rattle.std.specs.Prelude.{slice_get, slice_set}
+use Rattle.std.specs.Prelude.{◌≡◌, ◌≢◌, ◌⊎◌, [], Result, Ok, Err}
 use Rattle.magazine_layer.specs.Magazines.{CpuCacheState, MagazineState, BothEmpty, BothFull}
 use Rattle.magazine_layer.specs.Depots.{DepotState, SwapsForFull, SwapsForEmpty, PutsFull}
 use Rattle.arena_tree.specs.declared.part_faults.FreshFault.{FreshFault}
@@ -21,19 +20,6 @@ pub record Exchanges (P : CpuCacheState → DepotState → CpuCacheState → Dep
   pub cpu_kind : c'.kind ≡ c.kind
   pub depot_kind : d'.kind ≡ d.kind
 
--- the magazines that a CPU has for this cache of an arena, and no others, changed so with a depot
-pub record ExchangesIn (P : CpuCacheState → DepotState → CpuCacheState → DepotState → Type 0)
-    (arena cache : ℕ) (old new : List OwnCacheState) : Type 0 where
-  pub index : ℕ
-  pub own : OwnCacheState
-  pub after : OwnCacheState
-  pub depot : KindDepotState
-  pub depot_after : KindDepotState
-  pub stands : slice_get old index ≡ Some own
-  pub of_cache : (own.kind.arena ≡ arena) × (own.kind.number ≡ cache)
-  pub does : Exchanges P own depot after depot_after
-  pub rest : new ≡ slice_set old index after
-
 -- neither changed
 abbrev pub NoExchange : OwnCacheState → KindDepotState → OwnCacheState → KindDepotState → Type 0
 NoExchange c d c' d' = (c' ≡ c) × (d' ≡ d)
@@ -42,8 +28,8 @@ NoExchange c d c' d' = (c' ≡ c) × (d' ≡ d)
 abbrev pub GivesFull : OwnCacheState → KindDepotState → Result (Unit {0}) FullFault →
     OwnCacheState → KindDepotState → Type 0
 GivesFull c d (Ok _) c' d' = BothEmpty c.cpu × Exchanges SwapsForFull c d c' d'
-GivesFull c d (Err (fulling.OldSize size)) c' d' = NoExchange c d c' d'
-    × (c.cpu.size ≢ d.depot.size) × (size ≡ d.depot.size)
+GivesFull c d (Err (fulling.OldSize size)) c' d' = NoExchange c d c' d' × (c.kind ≡ d.kind)
+    × BothEmpty c.cpu × (c.cpu.size ≢ d.depot.size) × (size ≡ d.depot.size)
 GivesFull c d (Err fulling.NoneFull) c' d' = NoExchange c d c' d'
     × (c.kind ≡ d.kind → BothEmpty c.cpu → (c.cpu.size ≡ d.depot.size) × (d.depot.full ≡ []))
 
@@ -51,8 +37,8 @@ GivesFull c d (Err fulling.NoneFull) c' d' = NoExchange c d c' d'
 abbrev pub GivesEmpty : OwnCacheState → KindDepotState → Result (Unit {0}) EmptyFault →
     OwnCacheState → KindDepotState → Type 0
 GivesEmpty c d (Ok _) c' d' = BothFull c.cpu × Exchanges SwapsForEmpty c d c' d'
-GivesEmpty c d (Err (emptying.OldSize size)) c' d' = NoExchange c d c' d'
-    × (c.cpu.size ≢ d.depot.size) × (size ≡ d.depot.size)
+GivesEmpty c d (Err (emptying.OldSize size)) c' d' = NoExchange c d c' d' × (c.kind ≡ d.kind)
+    × BothFull c.cpu × (c.cpu.size ≢ d.depot.size) × (size ≡ d.depot.size)
 GivesEmpty c d (Err emptying.NoneEmpty) c' d' = NoExchange c d c' d'
     × (c.kind ≡ d.kind → BothFull c.cpu → (c.cpu.size ≡ d.depot.size) × (d.depot.empty ≡ 0))
 
@@ -60,8 +46,9 @@ GivesEmpty c d (Err emptying.NoneEmpty) c' d' = NoExchange c d c' d'
 abbrev pub TakesFull : MagazineState → OwnCacheState → KindDepotState →
     Result (Unit {0}) FreshFault → OwnCacheState → KindDepotState → Type 0
 TakesFull m c d (Ok _) c' d' = BothFull c.cpu × Exchanges (PutsFull m) c d c' d'
-TakesFull m c d (Err (freshing.OldSize size)) c' d' = NoExchange c d c' d'
-    × ((c.cpu.size ≢ d.depot.size) ⊎ (m.size ≢ d.depot.size)) × (size ≡ d.depot.size)
+TakesFull m c d (Err (freshing.OldSize size)) c' d' = NoExchange c d c' d' × (c.kind ≡ d.kind)
+    × BothFull c.cpu × ((c.cpu.size ≢ d.depot.size) ⊎ (m.size ≢ d.depot.size))
+    × (size ≡ d.depot.size)
 TakesFull m c d (Err freshing.NotFull) c' d' = NoExchange c d c' d'
     × (c.kind ≡ d.kind → ¬ BothFull c.cpu)
 TakesFull m c d (Err freshing.NoMemory) c' d' = NoExchange c d c' d'

@@ -1,6 +1,6 @@
 //! An arena as its lock keeps it. What lies there when the lock is taken is known by its type
 //! alone, so that each event looks whether it is the arena that is meant.
-ghost use Rattle.std.specs.Prelude.{◌≡◌, ◌≢◌, ◌<◌, ◌≤◌, ◌↔◌, ◌++◌, List, [], Some, Ok, IsOk};
+ghost use Rattle.std.specs.Prelude.{◌≡◌, ◌≢◌, ◌<◌, ◌≤◌, ◌↔◌, ◌++◌, ℕ, List, [], Some, Ok, IsOk};
 ghost use Rattle.std.specs.Prelude.{OnOk, OnErr, IfOk};
 ghost use Rattle.std.specs.Prelude.{IfErr};
 ghost use Rattle.deed_core.specs.Covering.{units_held};
@@ -14,9 +14,12 @@ ghost use Rattle.arena_tree.specs.Events.{Carve, Free, AddCarve};
 ghost use Rattle.arena_tree.specs.Tags.{wording_of};
 ghost use Rattle.locked_parts.specs.Answers.{AnswersSoundly};
 ghost use Rattle.locked_parts.specs.Growing.{CanGrow, HasRootsMore, IsOfArena, PartGrew};
-ghost use Rattle.locked_parts.specs.Growing.{RefusesGrow};
+ghost use Rattle.locked_parts.specs.Growing.{IsGrowthBy, RefusesGrow};
+ghost use Rattle.locked_parts.specs.Saying.{IsSaidByArena};
 ghost use Rattle.locked_parts.specs.Sums.{ArenaTells};
 
+use crate::gates::EventName;
+use crate::said::Said;
 use arena_tree::{GivenFault, GrowFault, PartFault};
 use deed_core::{Range, Request, Route, Segment};
 use deed_table::{Name, Root, Roots, SeatDeed};
@@ -49,11 +52,37 @@ impl<N: Name> Model for ArenaPart<N> {
         IsArenaPart (record { source = p.source; arena = p.arena; roots = p.roots }) };
 }
 
+/// That the arena of this number was asked for an event. Only `ArenaPart` makes one, where it is
+/// asked.
+#[derive(Clone, Copy, PartialEq, Eq, Debug)]
+pub struct ArenaSaid {
+    arena: u32,
+    event: EventName,
+}
+
+/// That a root was opened for an arena, and its deed added. Only `ArenaPart::grow` makes one.
+#[derive(PartialEq, Eq, Debug, Drop)]
+pub struct Grown {
+    arena: u32,
+    range: Range,
+}
+
 impl<N: Name> ArenaPart<N> {
+    /// That it is asked for the event.
+    fn said(&self, event: EventName) -> Said
+        ensures { (id : ℕ) → self.now.arena.id ≡ id → IsSaidByArena id event result }
+    {
+        Said::Arena(ArenaSaid {
+            arena: self.arena.id(),
+            event,
+        })
+    }
+
     /// Carves a segment for the request from the arena with this number and quantum. Where another
     /// stands here, nothing is done.
     pub(crate) fn carve(
         &mut self,
+        said: &mut Said,
         id: u32,
         quantum: u64,
         request: &Request,
@@ -62,12 +91,14 @@ impl<N: Name> ArenaPart<N> {
         ensures sound { (nodes : List Node) → quantum_in nodes id ≡ quantum
             → AnswersSoundly nodes (Carve id request.now)
             (wording_of PartFault.Refused result) }
+        ensures said { self.old.arena.id ≡ id → IsSaidByArena id EventName.Carve said.new }
         ensures event { IfOk result (λ t.
             CarveOf self.old.arena request.now (Ok t) self.new.arena) }
         ensures refused { IfErr result (λ f. self.old.arena.id ≡ id
             → self.old.arena.quantum ≡ quantum → RefusesCarve self.old.arena request.now f) }
         ensures unchanged { OnErr result (self.new ≡ self.old) }
     {
+        *said = self.said(EventName::Carve);
         if !request.is_good(quantum) {
             return Err(ArenaFault::BadRequest);
         }
@@ -81,17 +112,21 @@ impl<N: Name> ArenaPart<N> {
     /// refused.
     pub(crate) fn free(
         &mut self,
+        said: &mut Said,
         source: Option<u32>,
         segment: Segment<SeatDeed<N>>,
     ) -> Result<Option<Segment<SeatDeed<N>>>, Segment<SeatDeed<N>>>
         ensures sound { (nodes : List Node) → source_of nodes segment.arena ≡ source
             → AnswersSoundly nodes (Free segment) (wording_of GivenFault.Refused result) }
+        ensures said { self.old.arena.id ≡ segment.arena
+            → IsSaidByArena segment.arena EventName.Free said.new }
         ensures event { IfOk result (λ back.
             FreeOf self.old.arena segment (Ok back) self.new.arena) }
         ensures refused { OnErr result (self.old.source ≡ source
             → ¬ IsTagged self.old.arena segment) }
         ensures unchanged { OnErr result (self.new ≡ self.old) }
     {
+        *said = self.said(EventName::Free);
         if self.source != source {
             return Err(segment);
         }
@@ -102,6 +137,7 @@ impl<N: Name> ArenaPart<N> {
     /// units. Where another stands here, it is refused.
     pub(crate) fn add_carve(
         &mut self,
+        said: &mut Said,
         id: u32,
         quantum: u64,
         span: Segment<SeatDeed<N>>,
@@ -113,6 +149,7 @@ impl<N: Name> ArenaPart<N> {
         ensures sound { (nodes : List Node) → quantum_in nodes id ≡ quantum
             → AnswersSoundly nodes (AddCarve id span size)
             (wording_of GivenFault.Refused result) }
+        ensures said { self.old.arena.id ≡ id → IsSaidByArena id EventName.AddCarve said.new }
         ensures event { IfOk result (λ t.
             ImportOf self.old.arena span (plain_of size) (Ok t) self.new.arena) }
         ensures refused { IfErr result (λ f. self.old.source ≡ Some span.arena
@@ -120,6 +157,7 @@ impl<N: Name> ArenaPart<N> {
             → RefusesSpan self.old.arena span.holding.range span f) }
         ensures unchanged { OnErr result (self.new ≡ self.old) }
     {
+        *said = self.said(EventName::AddCarve);
         if self.source != Some(span.arena()) {
             return Err(SpanFault::Overlaps(span));
         }
@@ -173,9 +211,10 @@ impl<N: Name> ArenaPart<N> {
 
     /// Opens a further root of this range for the arena with this number, and adds its deed. Where
     /// another stands here, it is refused.
-    pub(crate) fn grow(&mut self, id: u32, range: Range) -> Result<(), GrowFault>
+    pub(crate) fn grow(&mut self, id: u32, range: Range) -> Result<Grown, GrowFault>
         ensures of_arena { IsOfArena result }
         ensures grown { OnOk result (PartGrew self.old range self.new) }
+        ensures told { IfOk result (IsGrowthBy id range) }
         ensures refused { IfErr result (λ f. self.old.arena.id ≡ id
             → RefusesGrow self.old range f) }
         ensures unchanged { OnErr result (self.new ≡ self.old) }
@@ -185,7 +224,7 @@ impl<N: Name> ArenaPart<N> {
         }
         self.judge_growth(id, &range)?;
         match self.arena.grow(range, &mut self.roots) {
-            Ok(()) => Ok(()),
+            Ok(()) => Ok(Grown { arena: id, range }),
             Err(AllocError) => Err(GrowFault::NoMemory),
         }
     }

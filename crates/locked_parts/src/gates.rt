@@ -1,6 +1,6 @@
 //! Gates: who lets a request go on.
 ghost use Rattle.std.specs.Prelude.{◌≡◌, ◌⊎◌, true, false};
-ghost use Rattle.locked_parts.specs.Gates.{MayStop};
+ghost use Rattle.locked_parts.specs.Gates.{AsksGate, MayStop};
 
 /// What may happen next: one call on one part under its lock, or one change of the CPU's own
 /// magazines (`Pop`, `Push`, `Change`).
@@ -51,9 +51,13 @@ pub trait Gate {
     // it may say Stop before this step
     ghost may_stop: { Self → NextStep → Type 0 };
 
+    // it was asked about this step, and let it come
+    ghost passed: { Self → NextStep → Type 0 };
+
     /// Lets the step come, or ends the request before it.
     fn pass(&self, step: &NextStep) -> Pass
-        ensures { result ≡ Pass.Stop → may_stop self.now step.now };
+        ensures stop { result ≡ Pass.Stop → may_stop self.now step.now }
+        ensures go { result ≡ Pass.Go → passed self.now step.now };
 }
 
 /// The gate that never stops a request.
@@ -62,6 +66,8 @@ pub struct OpenGate;
 
 impl Gate for OpenGate {
     ghost may_stop = { λ _ _. ⊥ };
+
+    ghost passed = { λ _ _. Unit {0} };
 
     fn pass(&self, _step: &NextStep) -> Pass {
         Pass::Go
@@ -75,8 +81,10 @@ pub struct RequestStopped;
 /// The steps of one request, counted.
 #[derive(Drop)]
 pub struct StepCount {
-    cpu: u32,
-    turn: u64,
+    /// The number of the worker's CPU.
+    pub cpu: u32,
+    /// How many steps the gate was asked about; it stays at the greatest number.
+    pub turn: u64,
     /// Whether the gate said Stop.
     pub noted: bool,
 }
@@ -84,7 +92,7 @@ pub struct StepCount {
 impl StepCount {
     /// No step yet, by the CPU with this number.
     pub fn new(cpu: u32) -> StepCount
-        ensures { result.noted ≡ false }
+        ensures { result ≡ record { cpu = cpu; turn = 0; noted = false } }
     {
         StepCount {
             cpu,
@@ -95,9 +103,9 @@ impl StepCount {
 
     /// Asks the gate before the next step, and notes a Stop.
     pub fn stops<G: Gate>(&mut self, gate: &G, event: EventName) -> bool
+        ensures asks { AsksGate G.may_stop G.passed gate.now event result self.old self.new }
         ensures noted { self.new.noted ≡ true
             → (self.old.noted ≡ true) ⊎ MayStop G.may_stop gate.now }
-        ensures stops { result ≡ true → MayStop G.may_stop gate.now }
         ensures told { result ≡ true → self.new.noted ≡ true }
         ensures same { result ≡ false → self.new.noted ≡ self.old.noted }
         ensures kept { self.old.noted ≡ true → self.new.noted ≡ true }

@@ -1,16 +1,19 @@
 //! A depot as its lock keeps it, and its exchanges with a CPU.
 ghost use Rattle.std.specs.Prelude.{◌≡◌, ◌≢◌, ◌<◌, ◌↔◌, [], IsOk, IfSome, IfErr};
-ghost use Rattle.std.specs.Prelude.{◌≤◌, ◌-◌, ◌^◌, true, false, None, min};
+ghost use Rattle.std.specs.Prelude.{◌≤◌, ◌-◌, ◌^◌, true, false, None, min, ℕ};
 ghost use Rattle.deed_core.specs.Covering.{units_tagged};
 ghost use Rattle.magazine_layer.specs.Magazines.{IsSize};
 ghost use Rattle.magazine_layer.specs.Depots.{new_depot, after_tick, after_resize, depot_rounds};
 ghost use Rattle.magazine_layer.specs.Calls.{DepotReapOf, ResizeOf};
 ghost use Rattle.locked_parts.specs.Kinds.{IsOfKind};
+ghost use Rattle.locked_parts.specs.Saying.{IsSaidByCache};
 ghost use Rattle.locked_parts.specs.Sums.{DepotTells};
 ghost use Rattle.locked_parts.specs.Swaps.{GivesFull, GivesEmpty, TakesFull};
 
+use crate::gates::EventName;
 use crate::kinds::CacheKind;
 use crate::own_caches::OwnCache;
+use crate::said::Said;
 use arena_tree::FreshFault;
 use deed_core::{Deed, Segment};
 use magazine_layer::{Depot, EmptyFault, FullFault, Magazine, NotGreater, PutFullFault};
@@ -33,7 +36,28 @@ impl<D: Deed> Model for KindDepot<D> {
     ghost invariant = { λ d. IsKindDepot (record { kind = d.kind; depot = d.depot }) };
 }
 
+/// That the depot of this cache of an arena was asked for an event. Only `KindDepot` makes one,
+/// where it is asked.
+#[derive(Clone, Copy, PartialEq, Eq, Debug)]
+pub struct DepotSaid {
+    arena: u32,
+    cache: u8,
+    event: EventName,
+}
+
 impl<D: Deed> KindDepot<D> {
+    /// That it is asked for the event.
+    fn said(&self, event: EventName) -> Said
+        ensures { (arena cache : ℕ) → self.now.kind.arena ≡ arena → self.now.kind.number ≡ cache
+            → IsSaidByCache arena cache event result }
+    {
+        Said::Depot(DepotSaid {
+            arena: self.kind.arena,
+            cache: self.kind.number,
+            event,
+        })
+    }
+
     /// A depot with no magazine.
     pub(crate) fn new(alloc: Global, kind: CacheKind, size: usize) -> KindDepot<D>
         requires quantum { 0 < kind.quantum }
@@ -182,13 +206,16 @@ impl<D: Deed> KindDepot<D> {
     }
 
     /// The same of the depot of this quantum cache; another has none.
-    pub(crate) fn reap_of(&mut self, kind: &CacheKind) -> Option<Segment<D>>
+    pub(crate) fn reap_of(&mut self, said: &mut Said, kind: &CacheKind) -> Option<Segment<D>>
+        ensures said { self.old.kind ≡ kind.now
+            → IsSaidByCache kind.now.arena kind.now.number EventName.DepotReap said.new }
         ensures chunk { IfSome result (IsOfKind kind.now) }
         ensures reaped { self.old.kind ≡ kind.now
             → DepotReapOf self.old.depot result self.new.depot }
         ensures other { self.old.kind ≢ kind.now → (result ≡ None) × (self.new ≡ self.old) }
         ensures kind { self.new.kind ≡ self.old.kind }
     {
+        *said = self.said(EventName::DepotReap);
         if !self.kind.is(kind) {
             return None;
         }

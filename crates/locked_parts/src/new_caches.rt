@@ -4,7 +4,7 @@ ghost use Rattle.std.specs.Prelude.{vec_len, vec_capacity};
 ghost use Rattle.arena_tree.specs.Chains.{quantum_in};
 ghost use Rattle.arena_tree.specs.Trees.{nodes_of};
 ghost use Rattle.locked_parts.specs.Kinds.{count_of_caches, kinds_up_to};
-ghost use Rattle.locked_parts.specs.News.{HasSlabsOf};
+ghost use Rattle.locked_parts.specs.News.{BeginsAsSet};
 
 use crate::kind_depots::KindDepot;
 use crate::kinds::CacheKind;
@@ -32,7 +32,11 @@ impl<N: Name> Model for NewCache<N> {
 
     ghost Value = { NewCacheState };
 
-    ghost view = { λ c. record { kind = c.depot.kind; slab_size = c.slab.slab_size } };
+    ghost view = { λ c. record {
+      kind = c.depot.kind;
+      slab_size = c.slab.slab_size;
+      depot = c.depot.depot;
+    } };
 
     ghost invariant = { λ c. (deeds_of c.slab ≡ []) × (depot_rounds c.depot.depot ≡ [])
         × AreSlabsOf c.depot.kind c.slab };
@@ -71,7 +75,7 @@ fn new_cache<N: Name>(alloc: Global, tree: &Tree, arena: u32, number: u8) -> New
       number = number;
       quantum = quantum_in (nodes_of tree.now) arena;
     } }
-    ensures slabs { HasSlabsOf tree.now arena result }
+    ensures begins { BeginsAsSet tree.now arena result }
 {
     let TreeArena {
         quantum,
@@ -103,8 +107,8 @@ pub(crate) fn add_caches<N: Name>(
     ensures count { vec_len caches.new ≡ vec_len caches.old + count }
     ensures kinds { map (λ c. c.kind) caches.new.items ≡ map (λ c. c.kind) caches.old.items
         ++ kinds_up_to arena (quantum_in (nodes_of tree.now) arena) count }
-    ensures slabs { All (HasSlabsOf tree.now arena) caches.old.items
-        → All (HasSlabsOf tree.now arena) caches.new.items }
+    ensures begin { All (BeginsAsSet tree.now arena) caches.old.items
+        → All (BeginsAsSet tree.now arena) caches.new.items }
 {
     for before in 0..count {
         caches.push_reserved(new_cache(alloc, tree, arena, before + 1));

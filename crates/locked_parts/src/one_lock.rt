@@ -14,6 +14,7 @@ use crate::new_arenas::NewArena;
 use crate::own_events::{swap_empty_in, swap_fresh_in, swap_full_in};
 use crate::own_rounds::{end_rounds, new_rounds};
 use crate::parts::LockedParts;
+use crate::said::Said;
 use arena_tree::{GivenFault, GrowFault, NewRoot, Setting, Setup};
 use deed_core::{Range, Request, Route, Segment};
 use deed_table::{Ground, Name, Root, SeatDeed, close};
@@ -97,7 +98,7 @@ fn carved<N: Name, R: Abort + Wait>(rt: &R, parts: &LockedParts<N>) -> Segment<S
     requires { 0 < length parts.now.arenas }
     ensures { IsGrant (nodes_of parts.now.arenas) 0 (plain_of 16) result }
 {
-    match carve_in(parts, rt, 0, &Request::plain(16)) {
+    match carve_in(parts, rt, &mut Said::Nothing, 0, &Request::plain(16)) {
         Ok(segment) => segment,
         Err(_) => panic!(rt; "no segment"),
     }
@@ -105,7 +106,7 @@ fn carved<N: Name, R: Abort + Wait>(rt: &R, parts: &LockedParts<N>) -> Segment<S
 
 /// Frees the segment, which makes no span whole.
 fn freed<N: Name, R: Abort + Wait>(rt: &R, parts: &LockedParts<N>, segment: Segment<SeatDeed<N>>) {
-    match free_in(parts, rt, segment) {
+    match free_in(parts, rt, &mut Said::Nothing, segment) {
         Ok(None) => {}
         Ok(Some(other)) => stuck(rt, other),
         Err(fault) => stuck(rt, fault),
@@ -122,7 +123,7 @@ fn of_arena<N: Name, R: Abort + Wait>(rt: &R, parts: &LockedParts<N>)
     let _slabs = locked.slab.lock(rt);
     let _depot = locked.depot.lock(rt);
     let segment = carved(rt, parts);
-    match add_carve_in(parts, rt, 0, segment, 16) {
+    match add_carve_in(parts, rt, &mut Said::Nothing, 0, segment, 16) {
         Err(GivenFault::Refused(SpanFault::Overlaps(segment))) => freed(rt, parts, segment),
         held => stuck(rt, held),
     }
@@ -156,15 +157,15 @@ fn through_slabs<N: Name, R: Abort + Wait>(
     };
     let _arena = arena.part.lock(rt);
     let _depot = locked.depot.lock(rt);
-    match slab_add_in(parts, rt, 0, 1, span) {
+    match slab_add_in(parts, rt, &mut Said::Nothing, 0, 1, span) {
         Ok(chunk) => put(rt, parts, chunk),
         held => stuck(rt, held),
     }
-    match slab_take_in(parts, rt, 0, 1) {
+    match slab_take_in(parts, rt, &mut Said::Nothing, 0, 1) {
         Ok(Some(chunk)) => put(rt, parts, chunk),
         held => stuck(rt, held),
     }
-    match slab_reap_in(parts, rt, 0, 1) {
+    match slab_reap_in(parts, rt, &mut Said::Nothing, 0, 1) {
         Ok(Some(span)) => span,
         held => stuck(rt, held),
     }
@@ -172,7 +173,7 @@ fn through_slabs<N: Name, R: Abort + Wait>(
 
 /// Puts the chunk back.
 fn put<N: Name, R: Abort + Wait>(rt: &R, parts: &LockedParts<N>, chunk: Segment<SeatDeed<N>>) {
-    match slab_put_in(parts, rt, chunk) {
+    match slab_put_in(parts, rt, &mut Said::Nothing, chunk) {
         Ok(()) => {}
         held => stuck(rt, held),
     }
@@ -197,7 +198,7 @@ fn of_depot<N: Name, R: Abort + Wait + AllocGlobal>(rt: &R, parts: &LockedParts<
         stuck(rt, caches)
     }
     end_rounds(caches);
-    match depot_reap_in(parts, rt, 0, 1) {
+    match depot_reap_in(parts, rt, &mut Said::Nothing, 0, 1) {
         Ok(None) => {}
         Ok(Some(round)) => stuck(rt, round),
         Err(fault) => stuck(rt, fault),

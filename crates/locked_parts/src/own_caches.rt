@@ -1,11 +1,10 @@
 //! A CPU's magazines for one quantum cache.
-ghost use Rattle.std.specs.Prelude.{◌≡◌, ◌<◌, ◌↔◌, IsTrue, Ok, IfOk, IfErr, length};
-ghost use Rattle.std.specs.Prelude.{IfSome, OnOk, OnErr};
-ghost use Rattle.magazine_layer.specs.Magazines.{IsSize, BothEmpty, cache_rounds};
-ghost use Rattle.magazine_layer.specs.Magazines.{after_change};
-ghost use Rattle.magazine_layer.specs.Calls.{PopOf, PushOf};
+ghost use Rattle.std.specs.Prelude.{◌≡◌, ◌<◌, ◌↔◌, IsTrue, Ok, IfOk, IfSome, length};
+ghost use Rattle.magazine_layer.specs.Magazines.{IsSize, BothEmpty, BothFull, cache_rounds};
+ghost use Rattle.magazine_layer.specs.Calls.{PopOf};
 ghost use Rattle.arena_tree.specs.Sound.{PopsRound, PushesRound};
-ghost use Rattle.locked_parts.specs.Kinds.{IsOfKind};
+ghost use Rattle.locked_parts.specs.Kinds.{IsOfKind, new_own};
+ghost use Rattle.locked_parts.specs.Owns.{DoesPush, DoesChange};
 ghost use Rattle.deed_core.specs.Covering.{units_tagged};
 
 use crate::kinds::CacheKind;
@@ -39,8 +38,7 @@ impl<D: Deed> OwnCache<D> {
     /// Two empty magazines of the first size.
     pub(crate) fn new(alloc: Global, kind: CacheKind) -> Result<OwnCache<D>, AllocError>
         requires { 0 < kind.quantum }
-        ensures kind { IfOk result (λ r. r.kind ≡ kind) }
-        ensures empty { IfOk result (λ r. BothEmpty r.cpu) }
+        ensures { IfOk result (λ r. r ≡ new_own kind) }
     {
         let cpu = CpuCache::new(alloc, FIRST_SIZE)?;
         Ok(OwnCache { kind, cpu })
@@ -60,11 +58,9 @@ impl<D: Deed> OwnCache<D> {
 
     /// Keeps a chunk of its cache, if there is room. Another segment comes back.
     pub(crate) fn push(&mut self, segment: Segment<D>) -> Result<(), Segment<D>>
-        ensures pushed { OnOk result (PushOf self.old.cpu segment result self.new.cpu) }
+        ensures pushed { DoesPush segment result self.old self.new }
         ensures more { PushesRound result
             (length (cache_rounds self.old.cpu)) (length (cache_rounds self.new.cpu)) }
-        ensures handed_back { IfErr result (λ same. same ≡ segment) }
-        ensures unchanged { OnErr result (self.new ≡ self.old) }
         ensures kind { self.new.kind ≡ self.old.kind }
     {
         if !self.kind.takes(&segment) {
@@ -75,9 +71,8 @@ impl<D: Deed> OwnCache<D> {
 
     /// Changes over to two new magazines of a greater size.
     pub(crate) fn change(&mut self, alloc: Global, size: usize) -> Result<(), ChangeFault>
-        ensures changed { OnOk result (self.new.cpu ≡ after_change size self.old.cpu) }
+        ensures changed { DoesChange size result self.old self.new }
         ensures as_many { length (cache_rounds self.new.cpu) ≡ length (cache_rounds self.old.cpu) }
-        ensures unchanged { OnErr result (self.new ≡ self.old) }
         ensures kind { self.new.kind ≡ self.old.kind }
     {
         if !is_magazine_size(size) || size <= self.cpu.size() {
@@ -103,6 +98,13 @@ impl<D: Deed> OwnCache<D> {
         ensures { IsTrue result ↔ BothEmpty self.now.cpu }
     {
         self.cpu.is_empty()
+    }
+
+    /// Whether both magazines are full.
+    pub(crate) fn is_full(&self) -> bool
+        ensures { IsTrue result ↔ BothFull self.now.cpu }
+    {
+        self.cpu.is_full()
     }
 
     /// The units of its rounds.

@@ -1,16 +1,11 @@
 //! The events of a CPU's own magazines, by themselves and with a depot of the parts.
-ghost use Rattle.std.specs.Prelude.{◌≡◌, ◌<◌, Some, IfSome, length, slice_get};
-ghost use Rattle.std.specs.Prelude.{IfNone, map};
-ghost use Rattle.std.specs.Prelude.{OnOk, OnErr};
-ghost use Rattle.arena_tree.specs.Events.{Pop, Push, Change};
+ghost use Rattle.std.specs.Prelude.{◌≡◌, ◌<◌, IfSome, IfNone, OnErr, length};
+ghost use Rattle.arena_tree.specs.Events.{Pop, Push, Change, SwapFull, SwapEmpty, SwapFresh};
 ghost use Rattle.arena_tree.specs.Sound.{PopsRound, PushesRound};
 ghost use Rattle.arena_tree.specs.Trees.{nodes_of};
-ghost use Rattle.magazine_layer.specs.Depots.{SwapsForFull, SwapsForEmpty, PutsFull};
-ghost use Rattle.magazine_layer.specs.Magazines.{BothEmpty, BothFull, empty_magazine};
 ghost use Rattle.locked_parts.specs.Answers.{AnswersSoundly};
-ghost use Rattle.locked_parts.specs.Kinds.{OwnCacheState, AreForSame, IsCacheOf};
-ghost use Rattle.locked_parts.specs.Kinds.{count_of_rounds, kinds_of};
-ghost use Rattle.locked_parts.specs.Swaps.{ExchangesIn};
+ghost use Rattle.locked_parts.specs.Kinds.{OwnCacheState, AreForSame, count_of_rounds};
+ghost use Rattle.locked_parts.specs.Owns.{IsOwnAt, HasNoOwn, OwnStep};
 
 use crate::kinds::CacheKind;
 use crate::own_caches::OwnCache;
@@ -25,20 +20,30 @@ use std::sync::Wait;
 fn own_at<N: Name>(
     parts: &LockedParts<N>,
     caches: &[OwnCache<SeatDeed<N>>],
-    kind: &CacheKind,
+    arena: u32,
+    cache: u8,
 ) -> Option<usize>
     ensures within { IfSome result (λ index. index < length caches.now) }
-    ensures kind { IfSome result (λ index. (o : OwnCacheState)
-        × (slice_get caches.now index ≡ Some o) × (o.kind ≡ kind.now)) }
-    ensures none { IfNone result (map (λ o. o.kind) caches.now ≡ kinds_of parts.now.arenas
-        → ¬ IsCacheOf parts.now.arenas kind.now) }
+    ensures at { IfSome result (λ index. (o : OwnCacheState)
+        × IsOwnAt parts.now.arenas arena cache caches.now index o) }
+    ensures none { IfNone result (HasNoOwn parts.now.arenas arena cache caches.now) }
 {
-    let index = parts.own_index(kind.arena, kind.number);
+    let tree = parts.tree();
+    if arena as usize >= tree.len() || cache == 0 {
+        return None;
+    }
+    let index = parts.own_index(arena, cache);
     if index >= caches.len() {
         return None;
     }
+    let quantum = tree.quantum(arena);
+    let kind = CacheKind {
+        arena,
+        number: cache,
+        quantum,
+    };
     let own = &caches[index];
-    if !own.kind.is(kind) {
+    if !own.kind.is(&kind) {
         return None;
     }
     Some(index)
@@ -51,15 +56,14 @@ pub(crate) fn pop_in<N: Name>(
     arena: u32,
     cache: u8,
 ) -> Result<Option<Segment<SeatDeed<N>>>, Stopped>
+    ensures does { OwnStep parts.now.arenas (Pop arena cache) result
+        caches.old.items caches.new.items }
     ensures sound { AnswersSoundly (nodes_of parts.now.arenas) (Pop arena cache) result }
     ensures moved { PopsRound result (count_of_rounds caches.old.items)
         (count_of_rounds caches.new.items) }
     ensures kinds { AreForSame caches.old.items caches.new.items }
 {
-    let Some(kind) = parts.kind(arena, cache) else {
-        return Ok(None);
-    };
-    let Some(index) = own_at(parts, caches, &kind) else {
+    let Some(index) = own_at(parts, caches, arena, cache) else {
         return Ok(None);
     };
     let own = &mut caches[index];
@@ -74,15 +78,14 @@ pub(crate) fn push_in<N: Name>(
     cache: u8,
     segment: Segment<SeatDeed<N>>,
 ) -> Result<(), GivenFault<Segment<SeatDeed<N>>, Segment<SeatDeed<N>>>>
+    ensures does { OwnStep parts.now.arenas (Push arena cache segment) result
+        caches.old.items caches.new.items }
     ensures sound { AnswersSoundly (nodes_of parts.now.arenas) (Push arena cache segment) result }
     ensures moved { PushesRound result (count_of_rounds caches.old.items)
         (count_of_rounds caches.new.items) }
     ensures kinds { AreForSame caches.old.items caches.new.items }
 {
-    let Some(kind) = parts.kind(arena, cache) else {
-        return Err(GivenFault::Refused(segment));
-    };
-    let Some(index) = own_at(parts, caches, &kind) else {
+    let Some(index) = own_at(parts, caches, arena, cache) else {
         return Err(GivenFault::Refused(segment));
     };
     let own = &mut caches[index];
@@ -100,18 +103,20 @@ pub(crate) fn change_in<N: Name>(
     cache: u8,
     size: usize,
 ) -> Result<(), PartFault<ChangeFault>>
+    ensures does { OwnStep parts.now.arenas (Change arena cache size) result
+        caches.old.items caches.new.items }
     ensures sound { AnswersSoundly (nodes_of parts.now.arenas) (Change arena cache size) result }
     ensures moved { count_of_rounds caches.new.items ≡ count_of_rounds caches.old.items }
     ensures kinds { AreForSame caches.old.items caches.new.items }
 {
-    let Some(kind) = parts.kind(arena, cache) else {
-        return Err(PartFault::Refused(ChangeFault::NotGreater));
-    };
-    let Some(index) = own_at(parts, caches, &kind) else {
+    let Some(index) = own_at(parts, caches, arena, cache) else {
         return Err(PartFault::Refused(ChangeFault::NotGreater));
     };
     let own = &mut caches[index];
-    PartFault::wrap(own.change(parts.alloc, size))
+    match own.change(parts.alloc, size) {
+        Ok(()) => Ok(()),
+        Err(fault) => Err(PartFault::Refused(fault)),
+    }
 }
 
 /// Exchanges an empty magazine for a full one of the depot.
@@ -121,24 +126,21 @@ pub(crate) fn swap_full_in<N: Name, R: Wait>(
     caches: &mut Vec<OwnCache<SeatDeed<N>>>,
     arena: u32,
     cache: u8,
-) -> Result<(), FullFault>
-    ensures exchanged { OnOk result (ExchangesIn
-        (λ c d c' d'. BothEmpty c × SwapsForFull c d c' d')
-        arena cache caches.old.items caches.new.items) }
+) -> Result<(), PartFault<FullFault>>
+    ensures does { OwnStep parts.now.arenas (SwapFull arena cache) result
+        caches.old.items caches.new.items }
     ensures unchanged { OnErr result (caches.new.items ≡ caches.old.items) }
+    ensures sound { AnswersSoundly (nodes_of parts.now.arenas) (SwapFull arena cache) result }
     ensures kinds { AreForSame caches.old.items caches.new.items }
 {
-    let Some(kind) = parts.kind(arena, cache) else {
-        return Err(FullFault::NoneFull);
-    };
-    let Some(own) = own_at(parts, caches, &kind) else {
-        return Err(FullFault::NoneFull);
+    let Some(own) = own_at(parts, caches, arena, cache) else {
+        return Err(PartFault::Refused(FullFault::NoneFull));
     };
     let Some(locked) = parts.cache(arena, cache) else {
-        return Err(FullFault::NoneFull);
+        return Err(PartFault::Refused(FullFault::NoneFull));
     };
     let mut depot = locked.depot.lock(rt);
-    depot.swap_full(&mut caches[own])
+    PartFault::wrap(depot.swap_full(&mut caches[own]))
 }
 
 /// Exchanges a full magazine for an empty one of the depot.
@@ -148,53 +150,50 @@ pub(crate) fn swap_empty_in<N: Name, R: Wait>(
     caches: &mut Vec<OwnCache<SeatDeed<N>>>,
     arena: u32,
     cache: u8,
-) -> Result<(), EmptyFault>
-    ensures exchanged { OnOk result (ExchangesIn
-        (λ c d c' d'. BothFull c × SwapsForEmpty c d c' d')
-        arena cache caches.old.items caches.new.items) }
+) -> Result<(), PartFault<EmptyFault>>
+    ensures does { OwnStep parts.now.arenas (SwapEmpty arena cache) result
+        caches.old.items caches.new.items }
     ensures unchanged { OnErr result (caches.new.items ≡ caches.old.items) }
+    ensures sound { AnswersSoundly (nodes_of parts.now.arenas) (SwapEmpty arena cache) result }
     ensures kinds { AreForSame caches.old.items caches.new.items }
 {
-    let Some(kind) = parts.kind(arena, cache) else {
-        return Err(EmptyFault::NoneEmpty);
-    };
-    let Some(own) = own_at(parts, caches, &kind) else {
-        return Err(EmptyFault::NoneEmpty);
+    let Some(own) = own_at(parts, caches, arena, cache) else {
+        return Err(PartFault::Refused(EmptyFault::NoneEmpty));
     };
     let Some(locked) = parts.cache(arena, cache) else {
-        return Err(EmptyFault::NoneEmpty);
+        return Err(PartFault::Refused(EmptyFault::NoneEmpty));
     };
     let mut depot = locked.depot.lock(rt);
-    depot.swap_empty(&mut caches[own])
+    PartFault::wrap(depot.swap_empty(&mut caches[own]))
 }
 
-/// Exchanges a full magazine for one that is made.
+/// Exchanges a full magazine for one that is made. No memory is asked for where they aren't full.
 pub(crate) fn swap_fresh_in<N: Name, R: Wait>(
     parts: &LockedParts<N>,
     rt: &R,
     caches: &mut Vec<OwnCache<SeatDeed<N>>>,
     arena: u32,
     cache: u8,
-) -> Result<(), FreshFault>
-    ensures exchanged { OnOk result (ExchangesIn
-        (λ c d c' d'. BothFull c × PutsFull (empty_magazine c.size) c d c' d')
-        arena cache caches.old.items caches.new.items) }
+) -> Result<(), PartFault<FreshFault>>
+    ensures does { OwnStep parts.now.arenas (SwapFresh arena cache) result
+        caches.old.items caches.new.items }
     ensures unchanged { OnErr result (caches.new.items ≡ caches.old.items) }
+    ensures sound { AnswersSoundly (nodes_of parts.now.arenas) (SwapFresh arena cache) result }
     ensures kinds { AreForSame caches.old.items caches.new.items }
 {
-    let Some(kind) = parts.kind(arena, cache) else {
-        return Err(FreshFault::NotFull);
-    };
-    let Some(own) = own_at(parts, caches, &kind) else {
-        return Err(FreshFault::NotFull);
+    let Some(own) = own_at(parts, caches, arena, cache) else {
+        return Err(PartFault::Refused(FreshFault::NotFull));
     };
     let Some(locked) = parts.cache(arena, cache) else {
-        return Err(FreshFault::NotFull);
+        return Err(PartFault::Refused(FreshFault::NotFull));
     };
+    if !caches[own].is_full() {
+        return Err(PartFault::Refused(FreshFault::NotFull));
+    }
     let size = caches[own].size();
     let Ok(magazine) = Magazine::new(parts.alloc, size) else {
-        return Err(FreshFault::NoMemory);
+        return Err(PartFault::Refused(FreshFault::NoMemory));
     };
     let mut depot = locked.depot.lock(rt);
-    depot.swap_fresh(&mut caches[own], magazine)
+    PartFault::wrap(depot.swap_fresh(&mut caches[own], magazine))
 }

@@ -3,7 +3,7 @@ ghost use Rattle.std.specs.Prelude.{◌≡◌, ◌<◌, ◌++◌, All, length, m
 ghost use Rattle.arena_tree.specs.Chains.{quantum_in};
 ghost use Rattle.arena_tree.specs.Trees.{nodes_of};
 ghost use Rattle.magazine_layer.specs.Magazines.{BothEmpty};
-ghost use Rattle.locked_parts.specs.Kinds.{kinds_of, kinds_up_to, count_of_caches};
+ghost use Rattle.locked_parts.specs.Kinds.{kinds_of, kinds_up_to, count_of_caches, new_own};
 
 use crate::kinds::{CacheKind, cache_count};
 use crate::own_caches::OwnCache;
@@ -16,8 +16,8 @@ pub fn new_rounds<N: Name>(
     alloc: Global,
     tree: &Tree,
 ) -> Result<Vec<OwnCache<SeatDeed<N>>>, AllocError>
+    ensures new { IfOk result (λ caches. caches.items ≡ map new_own (kinds_of tree.now)) }
     ensures empty { IfOk result (λ caches. All (λ r. BothEmpty r.cpu) caches.items) }
-    ensures kinds { IfOk result (λ caches. map (λ r. r.kind) caches.items ≡ kinds_of tree.now) }
 {
     let mut caches = Vec::new(alloc);
     match fill(alloc, tree, &mut caches) {
@@ -37,8 +37,8 @@ fn fill<N: Name>(
 ) -> Result<(), AllocError>
     requires { All (λ r. BothEmpty r.cpu) caches.old.items }
     ensures empty { All (λ r. BothEmpty r.cpu) caches.new.items }
-    ensures kinds { OnOk result (map (λ r. r.kind) caches.new.items
-        ≡ map (λ r. r.kind) caches.old.items ++ kinds_of tree.now) }
+    ensures new { OnOk result (caches.new.items
+        ≡ caches.old.items ++ map new_own (kinds_of tree.now)) }
 {
     for arena in 0..tree.len() as u32 {
         fill_arena(alloc, tree, arena, caches)?;
@@ -56,10 +56,8 @@ fn fill_arena<N: Name>(
     requires within { arena < length tree.now }
     requires empty { All (λ r. BothEmpty r.cpu) caches.old.items }
     ensures empty { All (λ r. BothEmpty r.cpu) caches.new.items }
-    ensures kinds { OnOk result (map (λ r. r.kind) caches.new.items
-        ≡ map (λ r. r.kind) caches.old.items
-        ++ kinds_up_to arena (quantum_in (nodes_of tree.now) arena)
-        (count_of_caches tree.now arena)) }
+    ensures new { OnOk result (caches.new.items ≡ caches.old.items ++ map new_own (kinds_up_to
+        arena (quantum_in (nodes_of tree.now) arena) (count_of_caches tree.now arena))) }
 {
     let quantum = tree.quantum(arena);
     for before in 0..cache_count(tree, arena) {

@@ -1,12 +1,14 @@
 //! The parts of a system, each under its lock.
 ghost use Rattle.std.specs.Prelude.{◌≡◌, ◌+◌, ◌<◌, IfErr, IfSome, OnErr, OnOk, Err, length, true};
+ghost use Rattle.std.specs.Prelude.{IfOk};
 ghost use Rattle.arena_tree.specs.Chains.{quantum_in};
 ghost use Rattle.arena_tree.specs.Trees.{nodes_of};
 ghost use Rattle.locked_parts.specs.Kinds.{count_of_caches, caches_before, AreCachesBefore};
-ghost use Rattle.locked_parts.specs.Growing.{AnswersGrow, HasRootsMore, IsRootArena};
+ghost use Rattle.locked_parts.specs.Growing.{AnswersGrow, HasRootsMore, IsGrowthBy, IsRootArena};
+ghost use Rattle.locked_parts.specs.Growing.{MayRefuseGrow};
 ghost use Rattle.magazine_layer.specs.Magazines.{IsSize};
 
-use crate::arena_parts::ArenaPart;
+use crate::arena_parts::{ArenaPart, Grown};
 use crate::depot_walks::{resize_each, tick_each};
 use crate::kind_depots::KindDepot;
 use crate::kinds::{CacheKind, cache_count};
@@ -153,8 +155,9 @@ impl<N: Name> LockedParts<N> {
     /// of the arena, `NotAligned` where it isn't in whole quanta, `TooMany` where the arena has no
     /// root number left, `NoMemory` else, in this order. A root that is opened is always added. Its
     /// number is the least of the arena's numbers that wasn't used.
-    pub fn grow<R: Wait>(&self, rt: &R, arena: u32, range: Range) -> Result<(), GrowFault>
-        ensures { AnswersGrow self.now.arenas arena result }
+    pub fn grow<R: Wait>(&self, rt: &R, arena: u32, range: Range) -> Result<Grown, GrowFault>
+        ensures answers { AnswersGrow self.now.arenas arena result }
+        ensures grown { IfOk result (IsGrowthBy arena range) }
     {
         match self.root_arena(arena)? {
             Some(locked) => locked.part.lock(rt).grow(arena, range),
@@ -165,7 +168,7 @@ impl<N: Name> LockedParts<N> {
     /// The arena with this number, which has to be a root; None where it is ended.
     fn root_arena(&self, arena: u32) -> Result<Option<&LockedArena<N>>, GrowFault>
         ensures root { OnOk result (IsRootArena self.now.arenas arena) }
-        ensures refused { IfErr result (λ f. AnswersGrow self.now.arenas arena (Err f)) }
+        ensures refused { IfErr result (MayRefuseGrow self.now.arenas arena) }
     {
         if arena as usize >= self.tree.len() {
             return Err(GrowFault::NoArena);

@@ -4,8 +4,10 @@
 ghost use Rattle.std.specs.Prelude.{◌≡◌, true, false};
 ghost use Rattle.arena_tree.specs.Stops.{is_stopped};
 ghost use Rattle.arena_tree.specs.Trees.{nodes_of};
-ghost use Rattle.locked_parts.specs.Gates.{NotesStops};
+ghost use Rattle.locked_parts.specs.Gates.{AsksGate, NotesStops, step_named};
 ghost use Rattle.locked_parts.specs.Kinds.{AreForSame, count_of_rounds};
+ghost use Rattle.locked_parts.specs.Owns.{OwnStep};
+ghost use Rattle.locked_parts.specs.Saying.{IsSaid};
 
 use crate::gates::{EventName, Gate, StepCount};
 use crate::locked_events::{
@@ -15,6 +17,7 @@ use crate::locked_events::{
 use crate::own_caches::OwnCache;
 use crate::own_events::{change_in, pop_in, push_in, swap_empty_in, swap_fresh_in, swap_full_in};
 use crate::parts::LockedParts;
+use crate::said::Said;
 use arena_tree::{ChangeFault, FreshFault, GivenFault, PartFault, Parts, Stopped};
 use deed_core::{Request, Segment};
 use deed_table::{Name, SeatDeed};
@@ -31,6 +34,8 @@ pub struct Running<'a, N: Name, R: Wait, G: Gate> {
     pub gate: &'a G,
     pub caches: &'a mut Vec<OwnCache<SeatDeed<N>>>,
     pub steps: StepCount,
+    /// What the part said that was reached last.
+    pub said: Said,
     /// How many events of shared parts there were.
     pub count: u64,
 }
@@ -50,6 +55,7 @@ impl<'a, N: Name, R: Wait, G: Gate> Running<'a, N, R, G> {
         ensures caches { result.caches.now ≡ caches.old }
         ensures loan { result.caches.ghost_name ≡ caches.entry.ghost_name }
         ensures unstopped { result.steps.noted ≡ false }
+        ensures first { (result.steps.cpu ≡ cpu) × (result.steps.turn ≡ 0) }
         ensures uncounted { result.count ≡ 0 }
     {
         Running {
@@ -58,6 +64,7 @@ impl<'a, N: Name, R: Wait, G: Gate> Running<'a, N, R, G> {
             gate,
             caches,
             steps: StepCount::new(cpu),
+            said: Said::Nothing,
             count: 0,
         }
     }
@@ -69,7 +76,10 @@ impl<N: Name, R: Wait, G: Gate> Parts<Segment<SeatDeed<N>>> for Running<'_, N, R
         × (t.caches.ghost_name ≡ s.caches.ghost_name)
         × AreForSame s.caches.now.items t.caches.now.items
         × (is_stopped e a ≡ true → t.steps.noted ≡ true)
-        × (is_stopped e a ≡ false → t.steps.noted ≡ s.steps.noted) };
+        × (is_stopped e a ≡ false → t.steps.noted ≡ s.steps.noted)
+        × AsksGate G.may_stop G.passed s.gate.now (step_named e) (is_stopped e a) s.steps t.steps
+        × (is_stopped e a ≡ false → IsSaid e t.said)
+        × OwnStep s.parts.now.arenas e a s.caches.now.items t.caches.now.items };
 
     ghost tree = { λ s. nodes_of s.parts.now.arenas };
 
@@ -90,7 +100,7 @@ impl<N: Name, R: Wait, G: Gate> Parts<Segment<SeatDeed<N>>> for Running<'_, N, R
             return Err(PartFault::Stopped);
         }
         self.count = self.count.saturating_add(1);
-        carve_in(self.parts, self.rt, arena, request)
+        carve_in(self.parts, self.rt, &mut self.said, arena, request)
     }
 
     fn free(
@@ -104,7 +114,7 @@ impl<N: Name, R: Wait, G: Gate> Parts<Segment<SeatDeed<N>>> for Running<'_, N, R
             return Err(GivenFault::Stopped(segment));
         }
         self.count = self.count.saturating_add(1);
-        free_in(self.parts, self.rt, segment)
+        free_in(self.parts, self.rt, &mut self.said, segment)
     }
 
     fn add_carve(
@@ -120,7 +130,7 @@ impl<N: Name, R: Wait, G: Gate> Parts<Segment<SeatDeed<N>>> for Running<'_, N, R
             return Err(GivenFault::Stopped(segment));
         }
         self.count = self.count.saturating_add(1);
-        add_carve_in(self.parts, self.rt, child, segment, size)
+        add_carve_in(self.parts, self.rt, &mut self.said, child, segment, size)
     }
 
     fn slab_take(
@@ -132,7 +142,7 @@ impl<N: Name, R: Wait, G: Gate> Parts<Segment<SeatDeed<N>>> for Running<'_, N, R
             return Err(Stopped);
         }
         self.count = self.count.saturating_add(1);
-        slab_take_in(self.parts, self.rt, arena, cache)
+        slab_take_in(self.parts, self.rt, &mut self.said, arena, cache)
     }
 
     fn slab_put(
@@ -143,7 +153,7 @@ impl<N: Name, R: Wait, G: Gate> Parts<Segment<SeatDeed<N>>> for Running<'_, N, R
             return Err(GivenFault::Stopped(segment));
         }
         self.count = self.count.saturating_add(1);
-        slab_put_in(self.parts, self.rt, segment)
+        slab_put_in(self.parts, self.rt, &mut self.said, segment)
     }
 
     fn slab_add(
@@ -159,7 +169,7 @@ impl<N: Name, R: Wait, G: Gate> Parts<Segment<SeatDeed<N>>> for Running<'_, N, R
             return Err(GivenFault::Stopped(segment));
         }
         self.count = self.count.saturating_add(1);
-        slab_add_in(self.parts, self.rt, arena, cache, segment)
+        slab_add_in(self.parts, self.rt, &mut self.said, arena, cache, segment)
     }
 
     fn slab_reap(
@@ -171,7 +181,7 @@ impl<N: Name, R: Wait, G: Gate> Parts<Segment<SeatDeed<N>>> for Running<'_, N, R
             return Err(Stopped);
         }
         self.count = self.count.saturating_add(1);
-        slab_reap_in(self.parts, self.rt, arena, cache)
+        slab_reap_in(self.parts, self.rt, &mut self.said, arena, cache)
     }
 
     fn swap_full(&mut self, arena: u32, cache: u8) -> Result<(), PartFault<FullFault>> {
@@ -179,7 +189,7 @@ impl<N: Name, R: Wait, G: Gate> Parts<Segment<SeatDeed<N>>> for Running<'_, N, R
             return Err(PartFault::Stopped);
         }
         self.count = self.count.saturating_add(1);
-        PartFault::wrap(swap_full_in(self.parts, self.rt, self.caches, arena, cache))
+        swap_full_in(self.parts, self.rt, self.caches, arena, cache)
     }
 
     fn swap_empty(&mut self, arena: u32, cache: u8) -> Result<(), PartFault<EmptyFault>> {
@@ -187,7 +197,7 @@ impl<N: Name, R: Wait, G: Gate> Parts<Segment<SeatDeed<N>>> for Running<'_, N, R
             return Err(PartFault::Stopped);
         }
         self.count = self.count.saturating_add(1);
-        PartFault::wrap(swap_empty_in(self.parts, self.rt, self.caches, arena, cache))
+        swap_empty_in(self.parts, self.rt, self.caches, arena, cache)
     }
 
     fn swap_fresh(&mut self, arena: u32, cache: u8) -> Result<(), PartFault<FreshFault>> {
@@ -195,7 +205,7 @@ impl<N: Name, R: Wait, G: Gate> Parts<Segment<SeatDeed<N>>> for Running<'_, N, R
             return Err(PartFault::Stopped);
         }
         self.count = self.count.saturating_add(1);
-        PartFault::wrap(swap_fresh_in(self.parts, self.rt, self.caches, arena, cache))
+        swap_fresh_in(self.parts, self.rt, self.caches, arena, cache)
     }
 
     fn depot_reap(
@@ -207,7 +217,7 @@ impl<N: Name, R: Wait, G: Gate> Parts<Segment<SeatDeed<N>>> for Running<'_, N, R
             return Err(Stopped);
         }
         self.count = self.count.saturating_add(1);
-        depot_reap_in(self.parts, self.rt, arena, cache)
+        depot_reap_in(self.parts, self.rt, &mut self.said, arena, cache)
     }
 
     fn pop(&mut self, arena: u32, cache: u8) -> Result<Option<Segment<SeatDeed<N>>>, Stopped> {

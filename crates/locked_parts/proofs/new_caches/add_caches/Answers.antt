@@ -2,7 +2,7 @@ use Rattle.std.proofs.Common.{◌≡◌, ◌∙◌, ◌+◌, ◌++◌, suc, map,
 use Rattle.arena_tree.specs.Chains.{quantum_in}
 use Rattle.arena_tree.specs.Trees.{nodes_of}
 use Rattle.locked_parts.specs.Kinds.{kinds_up_to}
-use Rattle.locked_parts.specs.News.{HasSlabsOf}
+use Rattle.locked_parts.specs.News.{BeginsAsSet}
 use Rattle.locked_parts.specs.declared.kinds.CacheKind.{CacheKind}
 use Rattle.locked_parts.proofs.RoundLaws.{all_pushed, keys_pushed}
 use Rattle.locked_parts.proofs.new_caches.add_caches.Goals as goal
@@ -21,5 +21,5 @@ loop-before-preserved g c =
       search arith,
       keys_pushed (λ r. r.kind) old old new c.new_cache.result first (kinds_up_to c.args.arena quantum n) kind refl c.push_reserved.ensures.items c.loop-before.invariant.2 is
           ∙ ap (λ m. first ++ kinds_up_to c.args.arena quantum m) next,
-      λ all. all_pushed (HasSlabsOf c.args.tree.now c.args.arena) old old new c.new_cache.result refl c.push_reserved.ensures.items (c.loop-before.invariant.3 all) c.new_cache.ensures.slabs,
+      λ all. all_pushed (BeginsAsSet c.args.tree.now c.args.arena) old old new c.new_cache.result refl c.push_reserved.ensures.items (c.loop-before.invariant.3 all) c.new_cache.ensures.begins,
     )

@@ -1,24 +1,24 @@
-use Rattle.std.proofs.Common.{◌≡◌, ◌∙◌, refl, subst, ap, Some, IfSome}
-use Rattle.std.specs.Prelude.{slice_get}
-use Rattle.deed_core.proofs.LawProofs.{read_is, map_set_same}
+use Rattle.std.proofs.Common.{List, subst, refl, inl}
+use Rattle.magazine_layer.specs.Calls.{PopOf}
 use Rattle.arena_tree.specs.Trees.{nodes_of}
-use Rattle.locked_parts.specs.Kinds.{IsOfKind, OwnCacheState}
+use Rattle.locked_parts.specs.Kinds.{OwnCacheState}
+use Rattle.locked_parts.specs.Owns.{IsOwnAt}
+use Rattle.locked_parts.proofs.Owns.{did, found_kind, kinds_stay}
 use Rattle.locked_parts.proofs.Sounds.{cached_given}
 use Rattle.locked_parts.proofs.own_events.pop_in.Goals as goal
 
+pub returns-clause-does : goal.returns-clause-does
+returns-clause-does g c =
+    let h = subst (λ (l : List OwnCacheState). (o : OwnCacheState) × IsOwnAt c.args.parts.now.arenas c.args.arena c.args.cache l c.in-Some.index o) c.deref.ensures.value c.in-Some.ensures.at in
+    inl (did _ _ _ _ _ h c.index_mut-own.result.now c.index_mut-own.ensures.value (λ o o'. PopOf o.cpu c.pop.result o'.cpu) c.pop.new.self c.pop.ensures.popped c.pop.ensures.kind)
+
 pub returns-clause-sound : goal.returns-clause-sound
 returns-clause-sound g c =
-    let h = c.in-Some-own_at.ensures.kind in
-    let at : slice_get c.args.caches.now.items c.in-Some-own_at.index ≡ Some h.0 = (let e = c.deref.ensures.value in let there = h.1 in cc) in
-    let is = read_is c.args.caches.now.items c.in-Some-own_at.index c.index_mut-own.result.now h.0 c.index_mut-own.ensures.value at in (
-      cached_given (nodes_of c.args.parts.now.arenas) c.args.arena c.args.cache c.in-Some.kind c.pop.result c.in-Some.ensures.kind
-          (subst (λ k. IfSome c.pop.result (IsOfKind k)) (ap (λ (r : OwnCacheState). r.kind) is ∙ h.2) c.pop.ensures.chunk),
-      refl,
-    )
+    let h = subst (λ (l : List OwnCacheState). (o : OwnCacheState) × IsOwnAt c.args.parts.now.arenas c.args.arena c.args.cache l c.in-Some.index o) c.deref.ensures.value c.in-Some.ensures.at in
+    let kind = found_kind _ _ _ _ _ h c.index_mut-own.result.now c.index_mut-own.ensures.value c.pop.ensures.quantum in
+    (cached_given (nodes_of c.args.parts.now.arenas) c.args.arena c.args.cache c.index_mut-own.result.now.kind c.pop.result kind c.pop.ensures.chunk, refl)
 
 pub returns-clause-kinds : goal.returns-clause-kinds
 returns-clause-kinds g c =
-    let h = c.in-Some-own_at.ensures.kind in
-    let at : slice_get c.args.caches.now.items c.in-Some-own_at.index ≡ Some h.0 = (let e = c.deref.ensures.value in let there = h.1 in cc) in
-    let is = read_is c.args.caches.now.items c.in-Some-own_at.index c.index_mut-own.result.now h.0 c.index_mut-own.ensures.value at in
-    map_set_same (λ (r : OwnCacheState). r.kind) c.args.caches.now.items c.in-Some-own_at.index h.0 c.pop.new.self at (c.pop.ensures.kind ∙ ap (λ (r : OwnCacheState). r.kind) is)
+    let h = subst (λ (l : List OwnCacheState). (o : OwnCacheState) × IsOwnAt c.args.parts.now.arenas c.args.arena c.args.cache l c.in-Some.index o) c.deref.ensures.value c.in-Some.ensures.at in
+    kinds_stay _ _ _ _ _ h c.index_mut-own.result.now c.index_mut-own.ensures.value c.pop.new.self c.pop.ensures.kind

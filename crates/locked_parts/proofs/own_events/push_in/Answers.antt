@@ -1,12 +1,25 @@
-use Rattle.std.proofs.Common.{◌≡◌, ◌∙◌, ap, Some}
-use Rattle.std.specs.Prelude.{slice_get}
-use Rattle.deed_core.proofs.LawProofs.{read_is, map_set_same}
+use Rattle.std.proofs.Common.{List, subst, inl, Ok, Err}
 use Rattle.locked_parts.specs.Kinds.{OwnCacheState}
+use Rattle.locked_parts.specs.Owns.{IsOwnAt, DoesPush}
+use Rattle.locked_parts.proofs.Owns.{did, kinds_stay}
 use Rattle.locked_parts.proofs.own_events.push_in.Goals as goal
+
+pub returns-in-Ok-clause-does : goal.returns-in-Ok-clause-does
+returns-in-Ok-clause-does g c =
+    let h = subst (λ (l : List OwnCacheState). (o : OwnCacheState) × IsOwnAt c.args.parts.now.arenas c.args.arena c.args.cache l c.in-Some.index o) c.deref.ensures.value c.in-Some.ensures.at in
+    did _ _ _ _ _ h c.index_mut-own.result.now c.index_mut-own.ensures.value (DoesPush c.args.segment (Ok tt)) c.push.new.self c.in-Ok.ensures.pushed c.push.ensures.kind
 
 pub returns-in-Ok-clause-kinds : goal.returns-in-Ok-clause-kinds
 returns-in-Ok-clause-kinds g c =
-    let h = c.in-Some-own_at.ensures.kind in
-    let at : slice_get c.args.caches.now.items c.in-Some-own_at.index ≡ Some h.0 = (let e = c.deref.ensures.value in let there = h.1 in cc) in
-    let is = read_is c.args.caches.now.items c.in-Some-own_at.index c.index_mut-own.result.now h.0 c.index_mut-own.ensures.value at in
-    map_set_same (λ (r : OwnCacheState). r.kind) c.args.caches.now.items c.in-Some-own_at.index h.0 c.push.new.self at (c.push.ensures.kind ∙ ap (λ (r : OwnCacheState). r.kind) is)
+    let h = subst (λ (l : List OwnCacheState). (o : OwnCacheState) × IsOwnAt c.args.parts.now.arenas c.args.arena c.args.cache l c.in-Some.index o) c.deref.ensures.value c.in-Some.ensures.at in
+    kinds_stay _ _ _ _ _ h c.index_mut-own.result.now c.index_mut-own.ensures.value c.push.new.self c.push.ensures.kind
+
+pub returns-in-Err-clause-does : goal.returns-in-Err-clause-does
+returns-in-Err-clause-does g c =
+    let h = subst (λ (l : List OwnCacheState). (o : OwnCacheState) × IsOwnAt c.args.parts.now.arenas c.args.arena c.args.cache l c.in-Some.index o) c.deref.ensures.value c.in-Some.ensures.at in
+    inl (did _ _ _ _ _ h c.index_mut-own.result.now c.index_mut-own.ensures.value (DoesPush c.args.segment (Err c.in-Err.segment)) c.push.new.self c.in-Err.ensures.pushed c.push.ensures.kind)
+
+pub returns-in-Err-clause-kinds : goal.returns-in-Err-clause-kinds
+returns-in-Err-clause-kinds g c =
+    let h = subst (λ (l : List OwnCacheState). (o : OwnCacheState) × IsOwnAt c.args.parts.now.arenas c.args.arena c.args.cache l c.in-Some.index o) c.deref.ensures.value c.in-Some.ensures.at in
+    kinds_stay _ _ _ _ _ h c.index_mut-own.result.now c.index_mut-own.ensures.value c.push.new.self c.push.ensures.kind

@@ -1,9 +1,8 @@
 use Rattle.std.proofs.Common.{◌≡◌, ◌++◌, All, map}
 use Rattle.magazine_layer.specs.Magazines.{BothEmpty}
-use Rattle.locked_parts.specs.Kinds.{kinds_of_first}
+use Rattle.locked_parts.specs.Kinds.{kinds_of_first, new_own}
 use Rattle.locked_parts.proofs.own_rounds.fill.Given as goal
 
 abbrev pub invariant-loop-arena : goal.invariant-loop-arena
 invariant-loop-arena g l = All (λ r. BothEmpty r.cpu) l.caches.items
-    × (map (λ r. r.kind) l.caches.items
-    ≡ map (λ r. r.kind) l.fn.caches.items ++ kinds_of_first l.fn.tree l.arena)
+    × (l.caches.items ≡ l.fn.caches.items ++ map new_own (kinds_of_first l.fn.tree l.arena))

@@ -2,10 +2,10 @@ use Rattle.std.proofs.Common.{◌≡◌, ◌++◌, All, map}
 use Rattle.arena_tree.specs.Chains.{quantum_in}
 use Rattle.arena_tree.specs.Trees.{nodes_of}
 use Rattle.magazine_layer.specs.Magazines.{BothEmpty}
-use Rattle.locked_parts.specs.Kinds.{kinds_up_to}
+use Rattle.locked_parts.specs.Kinds.{kinds_up_to, new_own}
 use Rattle.locked_parts.proofs.own_rounds.fill_arena.Given as goal
 
 abbrev pub invariant-loop-before : goal.invariant-loop-before
 invariant-loop-before g l = All (λ r. BothEmpty r.cpu) l.caches.items
-    × (map (λ r. r.kind) l.caches.items ≡ map (λ r. r.kind) l.fn.caches.items
-    ++ kinds_up_to l.fn.arena (quantum_in (nodes_of l.fn.tree) l.fn.arena) l.before)
+    × (l.caches.items ≡ l.fn.caches.items
+    ++ map new_own (kinds_up_to l.fn.arena (quantum_in (nodes_of l.fn.tree) l.fn.arena) l.before))
