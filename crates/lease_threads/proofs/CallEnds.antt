@@ -123,23 +123,26 @@ module _ (D : Type 0) (arenas : List TreeArena) where
     refuse_ends o why so (Err e) k = tt
 
     module _ (l : ReleaseLine) where
+      some_named : (arena : ℕ) → index_in l.arena arenas ≡ Some arena → index_in l.arena arenas ≢ None
+      some_named arena at none = absurd (let e : Some arena ≡ None = sym at ∙ none in cc)
+
       release_refused : (why : Refusal) → MayRefuseRelease arenas l why → (v : ReceiptState) → IsRefusalReceipt why v → Settles arenas (op.Release l) v
       release_refused why may v is = subst (SettlesRelease arenas l) (sym is) may
 
-      released_ends : (arena : ℕ) → index_in l.arena arenas ≢ None → (x : Result (ReceiptState × Tag) (NotReleased D)) → Locked (Release id arena l.base) x → EndsWell SoundIn Locked (Well (op.Release l)) (on_release arenas x)
+      released_ends : (arena : ℕ) → index_in l.arena arenas ≡ Some arena → (x : Result (ReceiptState × Tag) (NotReleased D)) → Locked (Release id arena l.base) x → EndsWell SoundIn Locked (Well (op.Release l)) (on_release arenas x)
       released_ends arena named (Ok r) k = place_ends (op.Release l) r.1 (Settled r.0) (record {
         of_book = released k.old id k.mark k.new arena l.base r.0 r.1 k.event;
-        settles = subst (SettlesRelease arenas l) (sym (ap (λ (v : ReceiptState). v.reply) k.event.receipt)) named;
+        settles = subst (SettlesRelease arenas l) (sym (ap (λ (v : ReceiptState). v.reply) k.event.receipt)) (named, refl);
       })
       released_ends arena named (Err (releasing.Answered a)) k = record {
         of_book = answered k.old id k.mark k.new (λ v. IsRefused k.old k.new id NotYours v × (find (is_lease id.incarnation arena l.base) (account_in id.client k.old).leases ≡ None)) ⊥ (λ v is. refused k.old id k.mark k.new NotYours v is.0) a k.event;
-        settles = answered_new k.old k.new id (λ v. IsRefused k.old k.new id NotYours v × (find (is_lease id.incarnation arena l.base) (account_in id.client k.old).leases ≡ None)) ⊥ (Settles arenas (op.Release l)) (λ v is. release_refused NotYours named v (refused_so k.old k.new id NotYours v is.0)) a k.event;
+        settles = answered_new k.old k.new id (λ v. IsRefused k.old k.new id NotYours v × (find (is_lease id.incarnation arena l.base) (account_in id.client k.old).leases ≡ None)) ⊥ (Settles arenas (op.Release l)) (λ v is. release_refused NotYours (some_named arena named) v (refused_so k.old k.new id NotYours v is.0)) a k.event;
       }
       released_ends arena named (Err releasing.Stopped) k = tt
 
       release_ends : (o : Option ℕ) → index_in l.arena arenas ≡ o → EndsWell SoundIn Locked (Well (op.Release l)) (release_at arenas id l.base o)
       release_ends None at = refuse_ends (op.Release l) NoArena (release_refused NoArena at)
-      release_ends (Some arena) at = released_ends arena (λ none. absurd (let e : Some arena ≡ None = sym at ∙ none in cc))
+      release_ends (Some arena) at = released_ends arena at
 
     module _ (l : LeaseLine) where
       lease_refused : (why : Refusal) → MayRefuseLease arenas l why → (v : ReceiptState) → IsRefusalReceipt why v → Settles arenas (op.Lease l) v

@@ -5,4 +5,5 @@ mod CallEnds
 mod LineLaws
 mod Roots
 mod Reaped
+mod Retired
 mod Told

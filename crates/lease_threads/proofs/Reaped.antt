@@ -30,7 +30,8 @@ never_stops may old new noted now stopped never notes tells none =
 abbrev pub IsQuiet : {S : Type 0} → (S → (e : Event) → AnswerTo e → S → Type 0) → (S → Bool) → Type 0
 IsQuiet {S} step noted = (s t : S) (e : Event) (x : AnswerTo e) → step s e x t → noted s ≡ false → (is_stopped e x ≡ false) × (noted t ≡ false)
 
-path_ends : {S A : Type 0} (step : S → (e : Event) → AnswerTo e → S → Type 0) (tree : S → List Node) (count rounds : S → ℕ) (noted : S → Bool) → IsQuiet step noted → (nodes : List Node) (p : Plan A) (s t : S) (a : A) → noted s ≡ false → tree s ≡ nodes → Path (Step step tree count rounds) p s t a → EndsSoundly nodes p a
+-- each answer of a path was sound, and no stop
+pub path_ends : {S A : Type 0} (step : S → (e : Event) → AnswerTo e → S → Type 0) (tree : S → List Node) (count rounds : S → ℕ) (noted : S → Bool) → IsQuiet step noted → (nodes : List Node) (p : Plan A) (s t : S) (a : A) → noted s ≡ false → tree s ≡ nodes → Path (Step step tree count rounds) p s t a → EndsSoundly nodes p a
 path_ends step tree count rounds noted quiet nodes (Done b) s t a none is d = d.1
 path_ends step tree count rounds noted quiet nodes (Ask e f) s t a none is d =
     let calm = quiet s d.0 e d.1 d.2.does none in

@@ -1,13 +1,13 @@
 -- What a line's list of steps comes to in a running system.
 use Rattle.std.specs.Prelude.{◌≡◌, ◌⊎◌, ◌+◌, Bool, true, false, List, Option, Some, None, Result}
-use Rattle.std.specs.Prelude.{Ok, Err, IfSome}
+use Rattle.std.specs.Prelude.{Ok, Err, IfSome, IsTrue, ◌↔◌}
 use Rattle.deed_core.specs.Tag.{Tag}
 use Rattle.lease_terms.specs.Requests.{RequestId}
 use Rattle.arena_tree.specs.Sound.{Sound}
 use Rattle.arena_tree.specs.Trees.{nodes_of}
 use Rattle.arena_tree.specs.declared.limits.TheConstants.{MOST_ROOTS}
 use Rattle.arena_tree.specs.declared.trees.TreeArena.{TreeArena}
-use Rattle.lease_book.specs.BookState.{BookState}
+use Rattle.lease_book.specs.BookState.{BookState, HasHistory}
 use Rattle.lease_book.specs.Receipts.{ReceiptState}
 use Rattle.lease_book.specs.declared.books.TheConstants.{MOST_LEASES}
 use Rattle.lease_proto.specs.Requests.{again_of, hello_again_of}
@@ -20,7 +20,7 @@ use Rattle.lease_proto.specs.declared.replies.Reply.TheVariants as reply
 use Rattle.lease_call.specs.Answered.{GoneThrough}
 use Rattle.lease_call.specs.BookEvents.{BookEvent}
 use Rattle.lease_call.specs.CallPlans.{CallPlan}
-use Rattle.lease_call.specs.Calls.{BookCall, AnswerOf}
+use Rattle.lease_call.specs.Calls.{BookCall, AnswerOf, Look, Settle, Refuse, Release, Hello, Sweep}
 use Rattle.lease_call.specs.Greeting.{HelloEnd, hello_plan}
 use Rattle.lease_call.specs.Kept.{call_left}
 use Rattle.lease_call.specs.Releasing.{CallEnd}
@@ -34,16 +34,22 @@ use Rattle.lease_call.specs.declared.outcomes.Outcome.{Outcome}
 use Rattle.lease_call.specs.declared.outcomes.Outcome.TheVariants.{Settled, Answered, Again}
 use Rattle.lease_history.specs.Told.{hello_refusal}
 use Rattle.locked_parts.specs.Answers.{AnswersSoundly}
+use Rattle.locked_parts.specs.Gates.{CountsStep, step_after}
+use Rattle.locked_parts.specs.declared.gates.EventName.{EventName}
+use Rattle.locked_parts.specs.declared.gates.EventName.TheVariants as step
+use Rattle.locked_parts.specs.declared.gates.NextStep.{NextStep}
 use Rattle.locked_parts.specs.declared.gates.RequestStopped.{RequestStopped}
+use Rattle.locked_parts.specs.declared.gates.StepCount.{StepCount}
 use Rattle.lease_threads.specs.Replying.{IsReceiptOf, IsBookAnswerTo, IsToldAs, TellsAnswer}
 use Rattle.lease_threads.specs.Replying.{IsLateHello}
-use Rattle.lease_threads.specs.Settling.{Settles, new_receipt}
+use Rattle.lease_threads.specs.Settling.{Settles, TellsNew, new_receipt}
 
--- the call was an event of a book whose mark is of the system's root
+-- the call was an event of a book that some entries give, and whose mark is of the system's root
 pub record IsLockedCall (D : Type 0) (k : BookCall) (a : AnswerOf D k) : Type 0 where
   pub old : BookState
   pub new : BookState
   pub mark : old.mark.root ≡ MOST_ROOTS
+  pub history : HasHistory old
   pub event : BookEvent D old k a new
 
 -- or nothing was done
@@ -55,6 +61,22 @@ abbrev pub IsLockedAnswer : (D : Type 0) → (k : BookCall) → AnswerOf D k →
     → Type 0
 IsLockedAnswer D k a noted now =
     (StoppedCall D k a × (now ≡ true)) ⊎ (IsLockedCall D k a × (now ≡ noted))
+
+-- the name that a call has as a step: a hello is told to the book by one that looks
+abbrev pub step_called : BookCall → EventName
+step_called (Look id) = step.Look
+step_called (Settle id given terms) = step.Settle
+step_called (Refuse id why) = step.Settle
+step_called (Release id arena base) = step.Release
+step_called (Hello client incarnation protocol) = step.Look
+step_called (Sweep client) = step.Sweep
+
+-- the gate was asked about that step before, and said Stop to what was stopped, and to nothing else
+abbrev pub IsAskedCall : {X : Type 0} → (D : Type 0) → (may passed : X → NextStep → Type 0) → X
+    → (k : BookCall) → AnswerOf D k → (old new : StepCount) → Type 0
+IsAskedCall D may passed gate k a old new = CountsStep old new
+    × ((StoppedCall D k a × may gate (step_after old (step_called k)))
+    ⊎ (IsLockedCall D k a × passed gate (step_after old (step_called k))))
 
 -- what the request comes to is the book's
 abbrev pub IsOutcomeOf : {D : Type 0} → RequestId → Outcome D → Type 0
@@ -107,6 +129,13 @@ pub record AnswersBy {D : Type 0} (arenas : List TreeArena) (id : RequestId)
   pub left : hand ≡ call_left ended
   pub told : TellsEnd arenas id ended r w
 
+-- and as new just where the request was settled on that way
+pub record AnswersNewly {D : Type 0} (arenas : List TreeArena) (id : RequestId)
+    (plan : CallPlan D (CallEnd D)) (hand : Option Tag) (r : Reply) (w : Option ReceiptState)
+    (is_new : Bool) : Type 0 where
+  pub answers : AnswersBy arenas id plan hand r w
+  pub newly : IsTrue is_new ↔ TellsNew (end_receipt answers.ended) w
+
 -- the list of steps was gone through up to a step that was stopped, and the hand has what it left
 abbrev pub StopsIn : {D A : Type 0} → List TreeArena → CallPlan D (Result A (CallFault Tag))
     → Option Tag → Type 0
@@ -158,6 +187,14 @@ RunsLine D arenas hand (lines.Hello h) after r w =
     GreetsBy D arenas h (greeting_plan D arenas hand h) after r
 RunsLine D arenas hand (lines.Request id o) after r w =
     AnswersBy {D = D} arenas id (request_plan arenas hand id o) after r w
+
+-- and it is told as new just where it was settled on that way
+abbrev pub RunsNewly : (D : Type 0) → List TreeArena → (hand : Option Tag) → Line
+    → (after : Option Tag) → Reply → Option ReceiptState → (new : Bool) → Type 0
+RunsNewly D arenas hand (lines.Hello h) after r w new =
+    RunsLine D arenas hand (lines.Hello h) after r w × (new ≡ false)
+RunsNewly D arenas hand (lines.Request id o) after r w new =
+    AnswersNewly {D = D} arenas id (request_plan arenas hand id o) after r w new
 
 -- the same of one that was stopped, which isn't answered
 abbrev pub StopsLine : (D : Type 0) → List TreeArena → (hand : Option Tag) → Line

@@ -3,6 +3,7 @@ pub mod Openings
 pub mod Ends
 pub mod Replying
 pub mod Reaping
+pub mod Retiring
 pub mod Sums
 pub mod Settling
 pub mod Calling

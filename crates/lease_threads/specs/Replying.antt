@@ -48,7 +48,7 @@ abbrev pub TellsSettled : List TreeArena → RequestId → KeptReply → Reply �
 TellsSettled arenas id (kept.Granted arena base len) r = (x : TreeArena)
     × (slice_get arenas arena ≡ Some x)
     × (r ≡ reply.Granted (record { id = id; arena = x.name; base = base; len = len }))
-TellsSettled arenas id kept.Released r = r ≡ reply.Released id
+TellsSettled arenas id (kept.Released arena base) r = r ≡ reply.Released id
 TellsSettled arenas id (kept.Refused why) r =
     r ≡ reply.Refused (record { id = id; refusal = why })
 
@@ -57,7 +57,7 @@ abbrev pub IsByQuantum : List TreeArena → KeptReply → Option Terms → Type 
 IsByQuantum arenas (kept.Granted arena base len) (Some t) =
     t.quantum ≡ quantum_in (nodes_of arenas) arena
 IsByQuantum arenas (kept.Granted arena base len) None = Unit {0}
-IsByQuantum arenas kept.Released terms = Unit {0}
+IsByQuantum arenas (kept.Released arena base) terms = Unit {0}
 IsByQuantum arenas (kept.Refused why) terms = Unit {0}
 
 -- nothing was settled, and the reply is to this request
@@ -80,7 +80,7 @@ pub record IsSettledBy (arenas : List TreeArena) (id : RequestId) (r : Reply) (v
 abbrev pub IsForeign : List TreeArena → KeptReply → Option Terms → Type 0
 IsForeign arenas (kept.Granted arena base len) terms =
     arena < length arenas → ¬ IsByQuantum arenas (kept.Granted arena base len) terms
-IsForeign arenas kept.Released terms = ⊥
+IsForeign arenas (kept.Released arena base) terms = ⊥
 IsForeign arenas (kept.Refused why) terms = ⊥
 
 -- what the request's receipt is told as: by what it says, or, where that is foreign, by `again`

@@ -35,6 +35,10 @@ new_receipt (answer.Stale greatest) = None
 new_receipt (answer.Gap low) = None
 new_receipt answer.Again = None
 
+-- the receipt that is told is the one by which the request was settled, if it was
+abbrev pub TellsNew : (settled told : Option ReceiptState) → Type 0
+TellsNew settled told = (told ≢ None) × (settled ≡ told)
+
 -- the receipt says that the request is refused so
 abbrev pub IsRefusalReceipt : Refusal → ReceiptState → Type 0
 IsRefusalReceipt why v = v.reply ≡ kept.Refused why
@@ -65,7 +69,7 @@ SettlesLease arenas l (kept.Granted arena base len) terms =
     (index_in l.arena arenas ≡ Some arena)
     × (terms
     ≡ Some (record { quantum = quantum_in (nodes_of arenas) arena; request = demand_of l }))
-SettlesLease arenas l kept.Released terms = ⊥
+SettlesLease arenas l (kept.Released arena base) terms = ⊥
 SettlesLease arenas l (kept.Refused why) terms = MayRefuseLease arenas l why
 
 -- a release is refused so
@@ -74,10 +78,11 @@ MayRefuseRelease arenas r refusal.NoArena = index_in r.arena arenas ≡ None
 MayRefuseRelease arenas r refusal.NotYours = index_in r.arena arenas ≢ None
 MayRefuseRelease arenas r _ = ⊥
 
--- settled by a release, or refused
+-- settled by the release of the lease that it names, or refused
 abbrev pub SettlesRelease : List TreeArena → ReleaseLine → KeptReply → Type 0
 SettlesRelease arenas r (kept.Granted arena base len) = ⊥
-SettlesRelease arenas r kept.Released = index_in r.arena arenas ≢ None
+SettlesRelease arenas r (kept.Released arena base) =
+    (index_in r.arena arenas ≡ Some arena) × (base ≡ r.base)
 SettlesRelease arenas r (kept.Refused why) = MayRefuseRelease arenas r why
 
 abbrev pub Settles : List TreeArena → Op → ReceiptState → Type 0

@@ -1,5 +1,5 @@
 //! How the roots of a system are closed.
-ghost use Rattle.std.specs.Prelude.{◌≡◌, ◌+◌, [], length, None, IfErr, OnOk, true};
+ghost use Rattle.std.specs.Prelude.{◌≡◌, ◌+◌, ◌<◌, [], length, None, IfErr, IfSome, OnOk, true};
 
 use crate::cpus::Cpu;
 use crate::systems::{System, owner_of};
@@ -9,7 +9,8 @@ use std::sync::Wait;
 
 /// Takes the spans of the roots out of their arenas, the first arena first, and closes each root by
 /// its deed, and says whether that was done with all. A deed that isn't the whole of a root's is in
-/// the hand.
+/// the hand. An arena gives its lowest span first: the roots are put in the order of that, so that
+/// none is looked for, and those that are left in order of their numbers again.
 pub(crate) fn close_roots<N: Name, R: Wait>(
     rt: &R,
     system: &mut System<N>,
@@ -19,8 +20,33 @@ pub(crate) fn close_roots<N: Name, R: Wait>(
     ensures arenas { system.new.arenas ≡ system.old.arenas }
     ensures all { result ≡ true → (system.new.roots ≡ []) × (cpu.new.hand ≡ None) }
 {
-    while let Some(root) = system.roots.first() {
-        let arena = owner_of(root);
+    system.roots.sort_unstable_by_key(|root| turn_of(root));
+    if close_each(rt, system, cpu) {
+        return true;
+    }
+    system.roots.sort_unstable_by_key(|root| root.number());
+    false
+}
+
+/// One more than the greatest number that a base has room for.
+const ABOVE_BASES: u128 = 0x1_0000_0000_0000_0000;
+
+/// What rises by roots that come before others: those of later arenas, and the higher ones of an
+/// arena. So the last is closed first.
+fn turn_of<N: Name>(root: &Root<N>) -> u128 {
+    let place = u128::from(owner_of(root)) * ABOVE_BASES + u128::from(root.range().base());
+    u128::MAX - place
+}
+
+/// Closes each root, the last of them first.
+fn close_each<N: Name, R: Wait>(rt: &R, system: &mut System<N>, cpu: &mut Cpu<N>) -> bool
+    requires hand { cpu.old.hand ≡ None }
+    ensures arenas { system.new.arenas ≡ system.old.arenas }
+    ensures all { result ≡ true → (system.new.roots ≡ []) × (cpu.new.hand ≡ None) }
+{
+    'roots: while !system.roots.is_empty() {
+        let last = system.roots.len() - 1;
+        let arena = owner_of(&system.roots[last]);
         if !close_one(rt, arena, system, cpu) {
             return false;
         }
@@ -53,7 +79,7 @@ fn close_by<N: Name>(roots: &mut Vec<Root<N>>, deed: SeatDeed<N>) -> Result<(), 
     ensures handed_back { IfErr result (λ same. same ≡ deed) }
 {
     let number = deed.root();
-    let Some(index) = roots.iter().position(|root| root.number() == number) else {
+    let Some(index) = index_of(roots, number) else {
         return Err(deed);
     };
     let root = roots.remove(index);
@@ -64,4 +90,16 @@ fn close_by<N: Name>(roots: &mut Vec<Root<N>>, deed: SeatDeed<N>) -> Result<(), 
             Err(deed)
         }
     }
+}
+
+/// Where the root of this number stands, which is mostly the last.
+fn index_of<N: Name>(roots: &[Root<N>], number: u32) -> Option<usize>
+    ensures { IfSome result (λ index. index < length roots.now) }
+{
+    if let Some(root) = roots.last() {
+        if root.number() == number {
+            return Some(roots.len() - 1);
+        }
+    }
+    roots.iter().position(|root| root.number() == number)
 }

@@ -3,7 +3,7 @@ ghost use Rattle.std.specs.Prelude.{◌≡◌, ◌-◌, ◌^◌, ◌≤◌, ◌�
 ghost use Rattle.std.specs.Prelude.{map, IfOk, IfSome, IsTrue};
 ghost use Rattle.magazine_layer.specs.Magazines.{BothEmpty};
 ghost use Rattle.lease_proto.specs.declared.limits.TheConstants.{MOST_CPUS};
-ghost use Rattle.locked_parts.specs.Kinds.{kinds_of};
+ghost use Rattle.locked_parts.specs.Kinds.{kinds_of, new_own};
 ghost use Rattle.lease_threads.specs.Systems.{cpu_units};
 
 use crate::systems::System;
@@ -32,16 +32,14 @@ impl<N: Name> Model for Cpu<N> {
 }
 
 impl<N: Name> Cpu<N> {
-    /// A CPU of the system, with an empty hand and empty magazines; None where the number is
+    /// A CPU of the system, with an empty hand and new magazines; None where the number is
     /// `MOST_CPUS` or above. The number is a label: each Cpu is one of its own.
     pub fn new(alloc: Global, system: &System<N>, number: u32) -> Result<Option<Cpu<N>>, AllocError>
         ensures exactly { IfOk result (λ cpu. cpu ≡ None ↔ MOST_CPUS ≤ number) }
         ensures number { IfOk result (λ cpu. IfSome cpu (λ c. c.number ≡ number)) }
         ensures empty { IfOk result (λ cpu. IfSome cpu (λ c. c.hand ≡ None)) }
-        ensures no_round { IfOk result (λ cpu. IfSome cpu
-            (λ c. All (λ r. BothEmpty r.cpu) c.caches)) }
         ensures magazines { IfOk result (λ cpu. IfSome cpu
-            (λ c. map (λ r. r.kind) c.caches ≡ kinds_of system.now.arenas)) }
+            (λ c. c.caches ≡ map new_own (kinds_of system.now.arenas))) }
     {
         if number >= MOST_CPUS {
             return Ok(None);

@@ -1,6 +1,7 @@
 //! What a request or another call left in a CPU's hand goes back.
-ghost use Rattle.std.specs.Prelude.{◌≡◌, ◌≢◌, None, true, false};
+ghost use Rattle.std.specs.Prelude.{◌≡◌, ◌≢◌, None, IfSome, true, false};
 ghost use Rattle.locked_parts.specs.Kinds.{AreForSame};
+ghost use Rattle.lease_threads.specs.Retiring.{IsUnplaced};
 
 use crate::cpus::Cpu;
 use crate::systems::System;
@@ -17,13 +18,18 @@ impl<N: Name> System<N> {
         ensures magazines { AreForSame cpu.old.caches cpu.new.caches }
         ensures empty { result ≡ true → cpu.new.hand ≡ None }
         ensures held_on { result ≡ false → (cpu.old.hand ≢ None) × (cpu.new.hand ≢ None) }
+        ensures unplaced { result ≡ false
+            → IfSome cpu.new.hand (IsUnplaced self.now.arenas cpu.old.hand) }
     {
         let Some(segment) = cpu.hand.take() else {
             return true;
         };
+        let tree = self.parts.tree();
+        // For its clause: it is a tree.
+        let _ = tree.len();
         let number = cpu.number();
         let mut running = Running::new(&self.parts, rt, &OpenGate, number, &mut cpu.caches);
-        match place(&mut running, self.parts.tree(), segment) {
+        match place(&mut running, tree, segment) {
             Ok(()) => true,
             Err(ReturnFault::Stuck(segment)) => {
                 cpu.hold(segment);

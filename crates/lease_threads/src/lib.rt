@@ -18,8 +18,8 @@
 //! What contracts see of a system and a CPU stands in `specs/Systems.antt`, what a line may be
 //! answered in `Replying.antt` and `Settling.antt`, that its list of steps was gone through in
 //! `Calling.antt`, what follows of each line's segments in `LineLaws.antt` (laws), what a reaping
-//! tells in `Reaping.antt`, what watchers are told in `Sums.antt`, how a system begins and ends in
-//! `Openings.antt` and `Ends.antt`.
+//! tells in `Reaping.antt`, why a CPU can't end in `Retiring.antt`, what watchers are told in
+//! `Sums.antt`, how a system begins and ends in `Openings.antt` and `Ends.antt`.
 //!
 //! A request takes the book's lock twice at most, as its list of steps shows, and those of its
 //! steps over the parts, of which `lease_call` says how many they are at most (`lock_laws`), by the

@@ -1,7 +1,7 @@
 //! The book of leases as its lock keeps it.
 ghost use Rattle.std.specs.Prelude.{◌≡◌, ◌+◌, ◌-◌, ◌^◌, ◌<◌, ◌≤◌, ◌↔◌, ◌++◌, [], length, min};
 ghost use Rattle.std.specs.Prelude.{slice_get, sum_by, vec_len, vec_capacity, Ok};
-ghost use Rattle.std.specs.Prelude.{IsNone, IfNone, IfSome};
+ghost use Rattle.std.specs.Prelude.{IsNone, IfNone, IfSome, IsOk, IfErr};
 ghost use Rattle.lease_terms.specs.declared.values.TheConstants.{LAST_CLIENT};
 ghost use Rattle.lease_threads.specs.Sums.{leases_from, leases_of};
 ghost use Rattle.std.specs.Option.{option_map};
@@ -52,8 +52,11 @@ impl<N: Name> MarkedBook<N> {
         MarkedBook { book, mark }
     }
 
-    /// Ends a book of no leases, and closes the root of its mark.
-    pub(crate) fn end(self) -> Result<(), MarkedBook<N>> {
+    /// Ends a book of no leases, and closes the root of its mark. A book of leases comes back.
+    pub(crate) fn end(self) -> Result<(), MarkedBook<N>>
+        ensures exactly { IsOk result ↔ (leased_segments self ≡ []) }
+        ensures handed_back { IfErr result (λ book. book ≡ self) }
+    {
         let MarkedBook { book, mark } = self;
         match book.close() {
             Ok(deed) => match close(mark, deed) {

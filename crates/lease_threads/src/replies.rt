@@ -1,5 +1,5 @@
 //! The replies to a client's lines.
-ghost use Rattle.std.specs.Prelude.{◌≡◌, ◌≢◌, None, Some, IfNone, IfSome, true, false};
+ghost use Rattle.std.specs.Prelude.{◌≡◌, ◌↔◌, None, Some, IfNone, IfSome, IsTrue, false};
 ghost use Rattle.lease_book.specs.Receipts.{IsEarned};
 ghost use Rattle.lease_threads.specs.Replying.{TellsSettled, IsUnsettledTo, IsReplyTo, IsToldAs};
 ghost use Rattle.lease_threads.specs.Replying.{TellsAnswer, IsForeign};
@@ -7,7 +7,7 @@ ghost use Rattle.lease_proto.specs.Requests.{again_of};
 ghost use Rattle.lease_history.specs.Told.{hello_refusal};
 ghost use Rattle.lease_threads.specs.Replying.{IsByQuantum, IsLateHello};
 ghost use Rattle.lease_threads.specs.Replying.{IsReceiptOf, IsBookAnswerTo, IsGreeting, IsAgain};
-ghost use Rattle.lease_threads.specs.Settling.{new_receipt};
+ghost use Rattle.lease_threads.specs.Settling.{TellsNew, new_receipt};
 ghost use Rattle.lease_threads.specs.Calling.{IsOutcomeOf, TellsOutcome, outcome_receipt};
 ghost use Rattle.lease_threads.specs.Calling.{IsGreetedSo, greeting_of};
 
@@ -23,8 +23,8 @@ use lease_terms::RequestId;
 pub struct LineAnswer<V> {
     pub reply: Reply,
     pub receipt: Option<V>,
-    /// Whether the line was settled by this. A request that comes again gets what it was settled by
-    /// before, which is of the line that came first.
+    /// Whether the line was settled just now, by this receipt. A request that comes again gets what it
+    /// was settled by before, which is of the line that came first.
     pub is_new: bool,
 }
 
@@ -83,7 +83,7 @@ fn settled(tree: &Tree, id: RequestId, kept: KeptReply, terms: Option<Terms>) ->
                 len,
             }))
         }
-        KeptReply::Released => Some(Reply::Released(id)),
+        KeptReply::Released { .. } => Some(Reply::Released(id)),
         KeptReply::Refused(refusal) => Some(Reply::Refused(RefusedRequest { id, refusal })),
     }
 }
@@ -127,7 +127,7 @@ fn told<N: Name>(tree: &Tree, id: RequestId, receipt: Receipt<SeatDeed<N>>, is_n
     requires { IsReceiptOf id receipt }
     ensures told { IsReplyTo tree.now id result.reply result.receipt }
     ensures exactly { IsToldAs tree.now id receipt result.reply result.receipt }
-    ensures new { result.is_new ≡ true → (is_new ≡ true) × (result.receipt ≡ Some receipt) }
+    ensures new { IsTrue result.is_new ↔ IsTrue is_new × (result.receipt ≡ Some receipt) }
 {
     match settled(tree, id, receipt.reply(), receipt.terms()) {
         Some(reply) => LineAnswer {
@@ -144,8 +144,7 @@ fn answered<N: Name>(tree: &Tree, id: RequestId, answer: Answer<SeatDeed<N>>) ->
     requires { IsBookAnswerTo id answer }
     ensures told { IsReplyTo tree.now id result.reply result.receipt }
     ensures exactly { TellsAnswer tree.now id answer result.reply result.receipt }
-    ensures new { result.is_new ≡ true
-        → (result.receipt ≢ None) × (new_receipt answer ≡ result.receipt) }
+    ensures new { IsTrue result.is_new ↔ TellsNew (new_receipt answer) result.receipt }
 {
     match answer {
         Answer::Kept(receipt) => told(tree, id, receipt, false),
@@ -169,8 +168,7 @@ pub(crate) fn told_outcome<N: Name>(
     requires { IsOutcomeOf id outcome }
     ensures exactly { TellsOutcome tree.now id outcome result.reply result.receipt }
     ensures told { IsReplyTo tree.now id result.reply result.receipt }
-    ensures new { result.is_new ≡ true
-        → (result.receipt ≢ None) × (outcome_receipt outcome ≡ result.receipt) }
+    ensures new { IsTrue result.is_new ↔ TellsNew (outcome_receipt outcome) result.receipt }
 {
     match outcome {
         Outcome::Settled(receipt) => told(tree, id, receipt, true),

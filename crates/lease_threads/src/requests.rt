@@ -1,17 +1,18 @@
 //! Answering one line: its list of steps is gone through, and what that comes to is told.
-ghost use Rattle.std.specs.Prelude.{◌≡◌, ◌≢◌, None, Some, true, IfOk, IfSome};
+ghost use Rattle.std.specs.Prelude.{◌≡◌, ◌↔◌, None, Some, true, IfOk, IfSome, IsTrue};
 ghost use Rattle.std.specs.Prelude.{OnOk, OnErr};
 ghost use Rattle.deed_table.specs.declared.deeds.SeatDeed.{SeatDeed};
 ghost use Rattle.lease_call.specs.Kept.{call_left};
 ghost use Rattle.lease_call.specs.Requesting.{request_plan};
 ghost use Rattle.locked_parts.specs.Gates.{MayStop};
 ghost use Rattle.locked_parts.specs.Kinds.{AreForSame};
-ghost use Rattle.lease_threads.specs.Calling.{AnswersBy, GreetsBy, RunsLine, WentThrough};
+ghost use Rattle.lease_threads.specs.Calling.{AnswersNewly, GreetsBy, WentThrough};
+ghost use Rattle.lease_threads.specs.Calling.{RunsLine, RunsNewly};
 ghost use Rattle.lease_threads.specs.Calling.{IsGreetedSo, IsOutcomeOf, TellsEnd};
 ghost use Rattle.lease_threads.specs.Calling.{greeting_end, end_receipt, greeting_plan};
 ghost use Rattle.lease_threads.specs.Calling.{StopsIn, StopsLine, StopsOrEnds};
 ghost use Rattle.lease_threads.specs.Replying.{IsAnswerTo, IsReplyTo, IsGreeting, IsAgain};
-ghost use Rattle.lease_threads.specs.Settling.{IsSettledAsAsked, Settles};
+ghost use Rattle.lease_threads.specs.Settling.{IsSettledAsAsked, Settles, TellsNew};
 ghost use Rattle.lease_book.specs.Receipts.{ReceiptState};
 
 use crate::cpus::Cpu;
@@ -36,6 +37,7 @@ impl<N: Name> System<N> {
     /// request ends there, and the CPU keeps what that left in its hand, and its magazines. A
     /// segment that can't be placed stays in the hand: each request tries to place it first, and is
     /// answered `again` while it can't.
+    #[tactic(auto, using(crate::proofs::Runs::runs_line))]
     pub fn request<R: Wait, G: Gate>(
         &self,
         rt: &R,
@@ -58,7 +60,8 @@ impl<N: Name> System<N> {
     }
 
     /// The same, and tells whether the line was settled by that. Then it is as the line asks: a
-    /// grant is of the arena that it names, by that one's quantum, and for what it asks.
+    /// grant is of the arena that it names, by that one's quantum, and for what it asks, and what is
+    /// released is the lease of the arena and the base that it names.
     pub fn answer<R: Wait, G: Gate>(
         &self,
         rt: &R,
@@ -67,8 +70,8 @@ impl<N: Name> System<N> {
         line: &Line,
     ) -> Result<Told<N>, RequestStopped>
         ensures runs { IfOk result (λ r.
-            RunsLine (SeatDeed N) self.now.arenas cpu.old.hand line.now cpu.new.hand
-            r.reply r.receipt) }
+            RunsNewly (SeatDeed N) self.now.arenas cpu.old.hand line.now cpu.new.hand
+            r.reply r.receipt r.is_new) }
         ensures answers { IfOk result (λ r.
             IsAnswerTo self.now.arenas line.now r.reply r.receipt) }
         ensures new { IfOk result (λ r. r.is_new ≡ true
@@ -117,9 +120,9 @@ impl<N: Name> System<N> {
         id: RequestId,
         op: &Op,
     ) -> Result<Told<N>, RequestStopped>
-        ensures runs { IfOk result (λ r. AnswersBy {D = SeatDeed N} self.now.arenas id
+        ensures runs { IfOk result (λ r. AnswersNewly {D = SeatDeed N} self.now.arenas id
             (request_plan self.now.arenas cpu.old.hand id op.now) cpu.new.hand
-            r.reply r.receipt) }
+            r.reply r.receipt r.is_new) }
         ensures told { IfOk result (λ r. IsReplyTo self.now.arenas id r.reply r.receipt) }
         ensures new { IfOk result (λ r. r.is_new ≡ true → (v : ReceiptState)
             × (r.receipt ≡ Some v) × Settles self.now.arenas op.now v) }
@@ -245,8 +248,7 @@ fn tell<N: Name>(
     ensures exactly { TellsEnd tree.now id ended result.reply result.receipt }
     ensures left { cpu.new.hand ≡ call_left ended }
     ensures told { IsReplyTo tree.now id result.reply result.receipt }
-    ensures new { result.is_new ≡ true
-        → (result.receipt ≢ None) × (end_receipt ended ≡ result.receipt) }
+    ensures new { IsTrue result.is_new ↔ TellsNew (end_receipt ended) result.receipt }
     ensures number { cpu.new.number ≡ cpu.old.number }
     ensures magazines { AreForSame cpu.old.caches cpu.new.caches }
     ensures held { IfSome cpu.new.hand (λ _. IsAgain result.reply) }

@@ -2,6 +2,7 @@
 ghost use Rattle.std.specs.Prelude.{◌≡◌, None, IfErr};
 ghost use Rattle.lease_threads.specs.Systems.{HoldsNothing};
 ghost use Rattle.locked_parts.specs.Kinds.{AreForSame};
+ghost use Rattle.lease_threads.specs.Retiring.{DrainsSoundly, RetiresSoundly};
 
 use crate::cpus::Cpu;
 use crate::systems::System;
@@ -17,6 +18,7 @@ impl<N: Name> System<N> {
         ensures number { IfErr result (λ rest. rest.number ≡ cpu.number) }
         ensures magazines { IfErr result (λ rest. AreForSame cpu.caches rest.caches) }
         ensures rest { IfErr result (λ rest. ¬ HoldsNothing rest) }
+        ensures left { IfErr result (λ rest. RetiresSoundly self.now.arenas cpu.hand rest.hand) }
     {
         let mut cpu = cpu;
         self.drain(rt, &mut cpu);
@@ -33,6 +35,7 @@ impl<N: Name> System<N> {
         ensures number { IfErr result (λ rest. rest.number ≡ cpu.number) }
         ensures magazines { IfErr result (λ rest. AreForSame cpu.caches rest.caches) }
         ensures rest { IfErr result (λ rest. ¬ HoldsNothing rest) }
+        ensures left { IfErr result (λ rest. RetiresSoundly self.now.arenas cpu.hand rest.hand) }
     {
         self.retire(rt, cpu)
     }
@@ -42,6 +45,7 @@ impl<N: Name> System<N> {
     pub fn drain<R: Wait>(&self, rt: &R, cpu: &mut Cpu<N>)
         ensures number { cpu.new.number ≡ cpu.old.number }
         ensures magazines { AreForSame cpu.old.caches cpu.new.caches }
+        ensures left { RetiresSoundly self.now.arenas cpu.old.hand cpu.new.hand }
     {
         if self.place_hand(rt, cpu) {
             self.drain_rounds(rt, cpu);
@@ -53,6 +57,7 @@ impl<N: Name> System<N> {
         requires { cpu.old.hand ≡ None }
         ensures number { cpu.new.number ≡ cpu.old.number }
         ensures magazines { AreForSame cpu.old.caches cpu.new.caches }
+        ensures left { DrainsSoundly self.now.arenas cpu.new.hand }
     {
         let number = cpu.number();
         let mut running = Running::new(&self.parts, rt, &OpenGate, number, &mut cpu.caches);

@@ -6,7 +6,7 @@ ghost use Rattle.deed_table.specs.declared.deeds.SeatDeed.{SeatDeed};
 ghost use Rattle.lease_call.specs.Calls.{Look, Settle, Refuse, Release, Hello, Sweep};
 ghost use Rattle.lease_book.specs.Calls.{IsSystemRefusal};
 ghost use Rattle.locked_parts.specs.Gates.{NotesStops};
-ghost use Rattle.lease_threads.specs.Calling.{IsLockedCall, IsLockedAnswer};
+ghost use Rattle.lease_threads.specs.Calling.{IsAskedCall, IsLockedCall, IsLockedAnswer};
 
 use crate::marked_books::MarkedBook;
 use arena_tree::Stopped;
@@ -31,7 +31,8 @@ impl<N: Name, R: Wait, G: Gate> Books<Segment<SeatDeed<N>>, SeatDeed<N>, Running
         NotesStops G.may_stop s.gate.now t.gate.now s.steps.noted t.steps.noted
         × (t.caches.ghost_name ≡ s.caches.ghost_name)
         × (t.caches.now ≡ s.caches.now)
-        × IsLockedAnswer _ k a s.steps.noted t.steps.noted };
+        × IsLockedAnswer _ k a s.steps.noted t.steps.noted
+        × IsAskedCall _ G.may_stop G.passed s.gate.now k a s.steps t.steps };
 
     fn look(
         &mut self,
@@ -67,7 +68,10 @@ impl<N: Name, R: Wait, G: Gate> Books<Segment<SeatDeed<N>>, SeatDeed<N>, Running
         if parts.steps.stops(parts.gate, EventName::Settle) {
             return Err(NotSettled::Stopped(segment));
         }
-        settle_in(self.book, parts.rt, id, quantum, request, segment)
+        match settle_in(self.book, parts.rt, id, quantum, request, segment) {
+            Ok(receipt) => Ok(receipt),
+            Err(fault) => Err(fault),
+        }
     }
 
     fn release(

@@ -2,6 +2,7 @@
 ghost use Rattle.std.specs.Prelude.{◌≡◌, [], IfOk, OnOk, IfErr, IfSome, IfNone, IsSome, Some, None};
 ghost use Rattle.std.specs.Prelude.{true};
 ghost use Rattle.lease_threads.specs.Ends.{AreRangesOf, AreRangesLeft, IsRestOf, begun, stop_of};
+ghost use Rattle.lease_threads.specs.Retiring.{RetiresSoundly};
 ghost use Rattle.lease_threads.specs.Systems.{HoldsNothing};
 ghost use Rattle.locked_parts.specs.Kinds.{AreForSame};
 
@@ -82,6 +83,8 @@ impl<N: Name> Halted<N> {
         ensures number { IfErr result (λ rest. rest.number ≡ cpu.number) }
         ensures magazines { IfErr result (λ rest. AreForSame cpu.caches rest.caches) }
         ensures rest { IfErr result (λ rest. ¬ HoldsNothing rest) }
+        ensures left { IfErr result
+            (λ rest. RetiresSoundly self.now.system.arenas cpu.hand rest.hand) }
     {
         self.system.retire(rt, cpu)
     }

@@ -1,7 +1,7 @@
 //! What keeps a system in shape while it runs: intervals, sizes of magazines, growing, reaping.
-ghost use Rattle.std.specs.Prelude.{◌≡◌, ◌⊎◌, ◌<◌, ◌≤◌, None, true, length};
+ghost use Rattle.std.specs.Prelude.{◌≡◌, ◌⊎◌, ◌<◌, ◌≤◌, IfOk, None, true, length};
 ghost use Rattle.magazine_layer.specs.Magazines.{IsSize};
-ghost use Rattle.locked_parts.specs.Growing.{AnswersGrow};
+ghost use Rattle.locked_parts.specs.Growing.{AnswersGrow, IsGrowthBy};
 ghost use Rattle.locked_parts.specs.Kinds.{AreForSame, count_of_caches};
 ghost use Rattle.lease_threads.specs.Reaping.{ReapsSoundly, KeepsHand, unbegun};
 
@@ -10,7 +10,7 @@ use crate::systems::System;
 use arena_tree::GrowFault;
 use deed_core::Range;
 use deed_table::Name;
-use locked_parts::{OpenGate, Running};
+use locked_parts::{Grown, OpenGate, Running};
 use quantum_cache::{EmptyingFault, ReapFault, Reaping, reap_arena};
 use std::sync::Wait;
 
@@ -38,8 +38,9 @@ impl<N: Name> System<N> {
     /// span, in one event under the arena's lock. The first fault that stands is told; of those
     /// that lie under the lock the part's own call says exactly when. Room for the root in the
     /// lists of the end is made before, and given back where no root is opened.
-    pub fn grow<R: Wait>(&self, rt: &R, arena: u32, range: Range) -> Result<(), GrowFault>
-        ensures { AnswersGrow self.now.arenas arena result }
+    pub fn grow<R: Wait>(&self, rt: &R, arena: u32, range: Range) -> Result<Grown, GrowFault>
+        ensures answers { AnswersGrow self.now.arenas arena result }
+        ensures grown { IfOk result (IsGrowthBy arena range) }
     {
         let room = self.room.lock(rt).add(1);
         if room.is_err() {

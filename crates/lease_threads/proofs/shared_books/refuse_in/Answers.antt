@@ -1,8 +1,10 @@
 use Rattle.std.proofs.Common.{rules, ◌≡◌}
 use Rattle.arena_tree.specs.declared.limits.TheConstants.{MOST_ROOTS}
+use Rattle.lease_book.specs.BookState.{HasHistory}
 use Rattle.lease_threads.proofs.shared_books.refuse_in.Goals as goal
 
 pub returns : goal.returns
 returns g c =
     let mark : c.deref_mut.result.now.mark.root ≡ MOST_ROOTS = search rules in
-    record { old = c.deref_mut.result.now; new = c.refuse.new.self; mark = mark; event = c.refuse.ensures }
+    let history : HasHistory c.deref_mut.result.now = search rules in
+    record { old = c.deref_mut.result.now; new = c.refuse.new.self; mark = mark; history = history; event = c.refuse.ensures }

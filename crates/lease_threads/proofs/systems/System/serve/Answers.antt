@@ -1,6 +1,8 @@
-use Rattle.std.proofs.Common.{subst}
+use Rattle.std.proofs.Common.{List, subst}
 use Rattle.std.proofs.lemmas.Result.{IfOk-weaker}
 use Rattle.arena_tree.specs.Trees.{IsTree}
+use Rattle.arena_tree.specs.declared.trees.TreeArena.{TreeArena}
+use Rattle.lease_threads.specs.Calling.{TellsEnd}
 use Rattle.lease_threads.proofs.CallEnds.{request_well, settled_so}
 use Rattle.lease_threads.proofs.systems.System.serve.Goals as goal
 
@@ -12,4 +14,15 @@ tell-requires-clause-outcome g c =
 pub returns-clause-new : goal.returns-clause-new
 returns-clause-new g c =
     let well = request_well _ c.args.self.now.arenas c.args.id (subst IsTree c.tree.ensures c.len.ensures.tree) c.args.cpu.now.hand c.args.op.now c.in_ok-ended.ended c.in_ok-ended.ensures.went in
-    λ new. (let is = c.tell.ensures.new new in settled_so c.args.self.now.arenas c.args.id c.args.op.now c.in_ok-ended.ended c.tell.result.receipt well is.0 is.1)
+    λ new. (let is = c.tell.ensures.new.0 new in settled_so c.args.self.now.arenas c.args.id c.args.op.now c.in_ok-ended.ended c.tell.result.receipt well is.0 is.1)
+
+pub returns-clause-runs : goal.returns-clause-runs
+returns-clause-runs g c = record {
+  answers = record {
+    ended = c.in_ok-ended.ended;
+    went = c.in_ok-ended.ensures.went;
+    left = c.tell.ensures.left;
+    told = subst (λ (xs : List TreeArena). TellsEnd xs c.args.id c.in_ok-ended.ended c.tell.result.reply c.tell.result.receipt) c.tree-2.ensures c.tell.ensures.exactly;
+  };
+  newly = c.tell.ensures.new;
+}
