@@ -1,1 +1,2 @@
 mod ArrivalLemmas
+mod TidyingLemmas

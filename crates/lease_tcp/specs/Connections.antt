@@ -13,10 +13,12 @@ use Rattle.lease_tcp.specs.Replying.{worker_of, MayAnswer}
 abbrev pub unread_intake : IntakeState
 unread_intake = record { hand = hand_in [] []; reads = 0; ended = false }
 
-module _ {K : Type 0} (may_reply : K → Line → Reply → K → Type 0) (may_tidy : K → K → Type 0) where
+module _ {K : Type 0} (may_reply : K → Line → Reply → K → Type 0) (may_pass : K → K → Type 0)
+    (may_tidy : K → K → Type 0) where
   -- the lines for a worker may get this answer
   abbrev pub WorkerMayAnswer : ClientLines K → List ℕ → List ℕ → ClientLines K → Type 0
-  WorkerMayAnswer old line text new = MayAnswer may_reply (worker_of old) line text (worker_of new)
+  WorkerMayAnswer old line text new =
+      MayAnswer may_reply may_pass (worker_of old) line text (worker_of new)
 
   -- all lines of a connection are answered, and the worker tidied after them
   abbrev pub ServesConnection : Streams → Streams → ClientLines K → ClientLines K → Type 0

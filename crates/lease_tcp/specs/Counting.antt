@@ -16,5 +16,5 @@ module _ {C : Type 0} (may_count : C → Word → C → Type 0) where
   abbrev pub CountsExchange : C → Line → Reply → C → Type 0
   CountsExchange old line reply new = (asked : C) × (answered : C)
       × may_count old (line_word line) asked
-      × CountsIf asked (reply_word reply) answered
+      × may_count asked (reply_word reply) answered
       × CountsIf answered (reason_word reply) new

@@ -13,13 +13,13 @@ use Rattle.lease_tcp.specs.declared.replying.ClientLines.{ClientLines}
 abbrev pub worker_of : {K : Type 0} → ClientLines K → K
 worker_of c = c.worker
 
-module _ {K : Type 0} (may_reply : K → Line → Reply → K → Type 0) where
+module _ {K : Type 0} (may_reply : K → Line → Reply → K → Type 0) (may_pass : K → K → Type 0) where
   -- a line gets a reply that the worker may give to it; what is none gets its error line, and the
-  -- worker stays as it was
+  -- worker passes over it
   abbrev pub AnswersRead : K → Result Line LineFault → List ℕ → K → Type 0
   AnswersRead old (Ok line) text new = (reply : Reply) × may_reply old line reply new
       × (text ≡ with_line_feed (reply_text reply))
-  AnswersRead old (Err fault) text new = (text ≡ error_line fault) × (new ≡ old)
+  AnswersRead old (Err fault) text new = (text ≡ error_line fault) × may_pass old new
 
   -- the same, of a line's bytes without the line feed
   abbrev pub MayAnswer : K → List ℕ → List ℕ → K → Type 0

@@ -1,13 +1,17 @@
--- A worker of a running system, and what it may reply.
-use Rattle.std.specs.Prelude.{◌≡◌, Bool, true, false, List, Option, IfSome}
+-- A worker of a running system, what it may reply, and how it tidies.
+use Rattle.std.specs.Prelude.{◌≡◌, ◌<◌, ◌⊎◌, ℕ, Bool, true, false, List, Option, IfSome, length}
 use Rattle.arena_tree.specs.declared.trees.TreeArena.{TreeArena}
 use Rattle.lease_book.specs.Receipts.{ReceiptState}
 use Rattle.lease_proto.specs.declared.lines.Line.{Line}
 use Rattle.lease_proto.specs.declared.replies.Reply.{Reply}
 use Rattle.lease_proto.specs.declared.replies.Reply.TheVariants.{Granted, Released}
+use Rattle.lease_tcp.specs.Tidying.{Tidies}
+use Rattle.lease_tcp.specs.declared.system_workers.TheConstants.{REAP_LIMIT}
+use Rattle.lease_threads.specs.Reaping.{KeepsHand, ReapsSoundly}
 use Rattle.lease_threads.specs.Replying.{IsAnswerTo, IsAgain}
 use Rattle.lease_threads.specs.Systems.{CpuState}
 use Rattle.locked_parts.specs.Kinds.{AreForSame}
+use Rattle.quantum_cache.specs.declared.reaps.Reaping.{Reaping}
 
 -- the arenas that its system was set up with, and its CPU
 pub record SystemWorkerState : Type 0 where
@@ -43,8 +47,30 @@ MayReply old line reply new = IsAnswer old.arenas line reply
     × StaysCpu old.cpu new.cpu
 
 -- the arenas and the CPU stay
+abbrev pub Stays : SystemWorkerState → SystemWorkerState → Type 0
+Stays old new = (new.arenas ≡ old.arenas) × StaysCpu old.cpu new.cpu
+
+-- the arena of this number was reaped by the CPU, as far as can be told of a running system; or the
+-- CPU's hand can't be placed, and no look was taken
+abbrev pub ReapsOrHolds : List TreeArena → ℕ → CpuState → CpuState → Type 0
+ReapsOrHolds arenas arena old new = (reaping : Reaping)
+    × (KeepsHand old.hand new.hand REAP_LIMIT reaping
+    ⊎ ReapsSoundly arenas arena REAP_LIMIT reaping new.hand)
+
+abbrev pub MayReap : SystemWorkerState → ℕ → SystemWorkerState → Type 0
+MayReap old arena new = Stays old new
+    × (arena < length old.arenas → ReapsOrHolds old.arenas arena old.cpu new.cpu)
+
+abbrev pub count_of_arenas : SystemWorkerState → ℕ
+count_of_arenas w = length w.arenas
+
+-- what stands beside the locks
+abbrev pub MayTick : SystemWorkerState → SystemWorkerState → Type 0
+MayTick old new = new ≡ old
+
+-- it drained its CPU, reaped each arena, and ticked
 abbrev pub MayTidy : SystemWorkerState → SystemWorkerState → Type 0
-MayTidy old new = (new.arenas ≡ old.arenas) × StaysCpu old.cpu new.cpu
+MayTidy old new = Tidies count_of_arenas Stays MayReap MayTick old new
 
 -- The same of a worker that shares its CPUs, of which its arenas are seen: whichever CPU does it.
 abbrev pub MayShareReply : List TreeArena → Line → Reply → List TreeArena → Type 0

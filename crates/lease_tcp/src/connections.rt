@@ -2,6 +2,8 @@
 ghost use Rattle.std.specs.Prelude.{◌≡◌, [], false, OnOk, IfErr};
 ghost use Rattle.lease_server.specs.Watching.{inner_of, has_failed, streams_of};
 ghost use Rattle.lease_tcp.specs.Connections.{ServesConnection, BreaksOff};
+ghost use Rattle.lease_tcp.specs.Entrances.{HasTidied};
+ghost use Rattle.lease_tcp.specs.Replying.{worker_of};
 
 use crate::links::Link;
 use crate::replying::ClientLines;
@@ -21,12 +23,13 @@ pub fn serve_connection<R: Read, W: Write, L: Link, K: Worker>(
     lines: &mut ClientLines<K>,
 ) -> Result<(), ServeFault>
     requires { (has_failed reader.old ≡ false) × (has_failed writer.old ≡ false) }
-    ensures ok { OnOk result (ServesConnection K.may_reply K.may_tidy
+    ensures ok { OnOk result (ServesConnection K.may_reply K.may_pass K.may_tidy
         (streams_of R.remaining W.contents reader.old writer.old)
         (streams_of R.remaining W.contents reader.new writer.new) lines.old lines.new) }
-    ensures err { IfErr result (BreaksOff K.may_reply K.may_tidy
+    ensures err { IfErr result (BreaksOff K.may_reply K.may_pass K.may_tidy
         (streams_of R.remaining W.contents reader.old writer.old)
         (streams_of R.remaining W.contents reader.new writer.new) lines.old lines.new) }
+    ensures tidied { HasTidied K.may_tidy (worker_of lines.old) (worker_of lines.new) }
     ensures ended { L.is_ended link.new }
 {
     let mut input = Intake::new();

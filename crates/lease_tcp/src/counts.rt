@@ -18,13 +18,12 @@ pub trait Counter {
         ensures { may_count self.old word self.new };
 }
 
-/// Counts a line and its reply: each by its first word, and a refusal by its reason too. An `error`
-/// line isn't counted as a reply.
+/// Counts a line and its reply: each by its first word, and a refusal by its reason too.
 pub fn count_exchange<C: Counter>(counter: &mut C, line: &Line, reply: &Reply)
     ensures { CountsExchange C.may_count counter.old line.now reply.now counter.new }
 {
     counter.count(Word::of_line(line));
-    count_if(counter, Word::of_reply(reply));
+    counter.count(Word::of_reply(reply));
     count_if(counter, Word::of_reason(reply));
 }
 
@@ -37,7 +36,8 @@ fn count_if<C: Counter>(counter: &mut C, word: Option<Word>)
     }
 }
 
-/// A worker each of whose lines is counted once, with its reply.
+/// A worker each of whose lines is counted once, with its reply. Of a line that was none the error
+/// line is.
 #[derive(Drop)]
 pub struct Counted<K, C> {
     worker: K,
@@ -65,9 +65,13 @@ impl<K, C: Drop> Counted<K, C> {
 impl<K: Worker, C: Counter> Worker for Counted<K, C> {
     ghost use Rattle.std.specs.Prelude.{◌≡◌};
     ghost use Rattle.lease_tcp.specs.Counting.{CountsExchange};
+    ghost use Rattle.lease_watch.specs.declared.words.Word.TheVariants as word;
 
     ghost may_reply = { λ old line reply new. K.may_reply old.worker line reply new.worker
         × CountsExchange C.may_count old.counter line reply new.counter };
+
+    ghost may_pass = { λ old new. K.may_pass old.worker new.worker
+        × C.may_count old.counter word.Error new.counter };
 
     ghost may_tidy = { λ old new. K.may_tidy old.worker new.worker
         × (new.counter ≡ old.counter) };
@@ -76,6 +80,11 @@ impl<K: Worker, C: Counter> Worker for Counted<K, C> {
         let reply = self.worker.reply(line);
         count_exchange(&mut self.counter, line, &reply);
         reply
+    }
+
+    fn pass_over(&mut self) {
+        self.worker.pass_over();
+        self.counter.count(Word::Error);
     }
 
     fn tidy(&mut self) {

@@ -2,7 +2,9 @@
 //! for ever.
 
 use crate::houses::House;
+use crate::rounds::{Rounds, keep_rounds};
 use crate::shared_cpus::SharedCpus;
+use crate::tidying::{Upkeep, tidy_by};
 use deed_table::Name;
 use std::sync::Wait;
 use std::thread;
@@ -17,19 +19,53 @@ const ROUND: u64 = 1000;
 /// How often each arena is reaped in a round at most, by `REAP_LIMIT` looks at most each time.
 const REAPS: u32 = 64;
 
-/// Goes round each second, until all connections have ended.
-pub fn keep<N: Name, R: Wait + Clock>(rt: &R, house: &House<'_, N>) {
-    let mut round = Instant::now(rt).ok();
-    for _ in rt.forever() {
-        if house.is_over() {
-            break;
-        }
-        thread::sleep(rt, Duration::from_millis(KEEPER_TURN));
-        if is_due(rt, round) {
-            go_round(rt, &house.cpus);
-            round = Instant::now(rt).ok();
-        }
+/// Who keeps a house, and when it last went round.
+#[derive(Drop)]
+struct Keeper<'a, N: Name, R> {
+    rt: &'a R,
+    house: &'a House<'a, N>,
+    round: Option<Instant>,
+}
+
+impl<N: Name, R: Wait + Clock> Rounds for Keeper<'_, N, R> {
+    ghost use Rattle.std.specs.Prelude.{⊤};
+
+    // (of a flag no contract can say what threads make it, of a clock what it tells, of locks what
+    // lies under them)
+    ghost may_end = { λ _ _. ⊤ };
+
+    ghost may_rest = { λ _ _. ⊤ };
+
+    ghost may_be_due = { λ _ _. ⊤ };
+
+    ghost may_go = { λ _ _. ⊤ };
+
+    fn is_over(&self) -> bool {
+        self.house.is_over()
     }
+
+    fn rest(&mut self) {
+        thread::sleep(self.rt, Duration::from_millis(KEEPER_TURN));
+    }
+
+    fn is_due(&self) -> bool {
+        is_due(self.rt, self.round)
+    }
+
+    fn go(&mut self) {
+        go_round(self.rt, &self.house.cpus);
+        self.round = Instant::now(self.rt).ok();
+    }
+}
+
+/// Goes round each second, as `keep_rounds` does, until all connections have ended.
+pub fn keep<N: Name, R: Wait + Clock>(rt: &R, house: &House<'_, N>) {
+    let mut keeper = Keeper {
+        rt,
+        house,
+        round: Instant::now(rt).ok(),
+    };
+    keep_rounds(rt, &mut keeper);
 }
 
 /// Whether a second has passed since the last round. It has where the clock can't be read.
@@ -43,24 +79,55 @@ fn is_due<C: Clock>(clock: &C, round: Option<Instant>) -> bool {
     }
 }
 
-/// Drains each CPU that moved nothing since the last round, reaps each arena, and ticks each
-/// depot. It has one seat at a time, and none for longer than one drain or reap takes.
-pub fn go_round<N: Name, R: Wait>(rt: &R, cpus: &SharedCpus<'_, N>) {
-    for seat in cpus.seats {
-        let mut guard = seat.lock(rt);
-        if guard.rests() {
-            guard.drain(rt, cpus.system);
-        }
-    }
-    reap_by_turns(rt, cpus);
-    cpus.system.tick(rt);
+/// What tidies the CPUs that connections share.
+#[derive(Drop)]
+struct SharedUpkeep<'a, N: Name, R> {
+    rt: &'a R,
+    cpus: &'a SharedCpus<'a, N>,
 }
 
-/// Reaps each arena. Children come before their sources: what they hand back can be reaped there.
-fn reap_by_turns<N: Name, R: Wait>(rt: &R, cpus: &SharedCpus<'_, N>) {
-    for arena in (0..cpus.system.tree().len() as u32).rev() {
-        reap_often(rt, cpus, arena);
+impl<N: Name, R: Wait> Upkeep for SharedUpkeep<'_, N, R> {
+    ghost use Rattle.std.specs.Prelude.{⊤, length};
+
+    ghost arenas = { λ u. length u.cpus.now };
+
+    // (what lies under locks no contract can say)
+    ghost may_drain = { λ _ _. ⊤ };
+
+    ghost may_reap = { λ _ _ _. ⊤ };
+
+    ghost may_tick = { λ _ _. ⊤ };
+
+    fn arenas(&self) -> u32 {
+        let cpus = self.cpus;
+        cpus.system.tree().len() as u32
     }
+
+    fn drain(&mut self) {
+        let cpus = self.cpus;
+        for seat in cpus.seats {
+            let mut guard = seat.lock(self.rt);
+            if guard.rests() {
+                guard.drain(self.rt, cpus.system);
+            }
+        }
+    }
+
+    fn reap(&mut self, arena: u32) {
+        reap_often(self.rt, self.cpus, arena);
+    }
+
+    fn tick(&mut self) {
+        let cpus = self.cpus;
+        cpus.system.tick(self.rt);
+    }
+}
+
+/// Drains each CPU that moved nothing since the last round, reaps each arena, and ticks each
+/// depot, as `tidy_by` does. It has one seat at a time, and none for longer than one drain or reap
+/// takes.
+pub fn go_round<N: Name, R: Wait>(rt: &R, cpus: &SharedCpus<'_, N>) {
+    tidy_by(&mut SharedUpkeep { rt, cpus });
 }
 
 /// Reaps an arena, each time by a seat that is free then, until a reap ends before its limit.

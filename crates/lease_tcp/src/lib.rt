@@ -6,24 +6,27 @@
 //! the line server can serve any stream by it. `serve_connection` (connections) serves one, over
 //! any reader, writer and `Link` (links), by which its peer is told where the answers end.
 //! `next_open` (arrivals) gives the next connection that is accepted while a door is open, and
-//! `serve_each` serves whatever connections come so, one after another. `worker_loop` (loops) does
-//! so for a worker with those of a `Door` (doors), each through a reader and a writer that wait for
-//! its peer no longer than a `Pace` allows (pacing, deadlines), and while it stands on a `Roll`
-//! (rolls), by which all can be ended. A `Counted` worker (counts) has each line and reply counted
+//! `serve_each` serves whatever connections come so, one after another. `worker_loop` (entrances)
+//! does so for a worker, with those of an `Entrance`, where each is entered, served and left, and
+//! has the worker tidy after each: over a `Door` (doors, loops) each is served through a reader and
+//! a writer that wait for its peer no longer than a `Pace` allows (pacing, deadlines), and while it
+//! stands on a `Roll` (rolls), by which all can be ended. A `Counted` worker (counts) has each line and reply counted
 //! once, by the words of specs/Counting.antt, in a `Tally` (tallies): a server has some, so that
 //! threads seldom count in the same.
-//! `SystemWorker` (system_workers) is a worker of a running system, and `accept_loop` its loop.
+//! `SystemWorker` (system_workers) is a worker of a running system, which tidies by `tidy_by`
+//! (tidying), and `accept_loop` its loop.
 //!
 //! `serve_talks` (talks) gives each connection of a `House` (houses) a thread, up to as many as its
 //! roll takes; one more is told so. Each has a `SharedWorker` (shared_workers), which for each line
 //! takes a `Seat` (seats) of the `SharedCpus` (shared_cpus): one of the system's CPUs, under a
-//! lock. `keep` (keepers) tidies such a system by time. An `Overseer` (shortages) is told what
+//! lock. `keep` (keepers) tidies such a system by `tidy_by` too, by time, as `keep_rounds` (rounds)
+//! goes round whatever is to be gone round. An `Overseer` (shortages) is told what
 //! there was none of for a connection. A thread holds one seat at a time, and takes no seat while
 //! it holds a part's lock.
 //!
 //! What a line may be answered is stated in specs/Replying.antt, what a connection leaves in
 //! specs/Connections.antt, and what becomes of connections one after another in
-//! specs/Arrivals.antt. Of a socket no contract can say what it gives or takes, and of a clock none
+//! specs/Arrivals.antt and Entrances.antt, how a system is tidied in Tidying.antt. Of a socket no contract can say what it gives or takes, and of a clock none
 //! what it tells.
 //!
 //! Each byte is looked at a few times, and a line costs what its worker does. A `SystemWorker` does
@@ -40,6 +43,7 @@ mod connections;
 mod counts;
 mod deadlines;
 mod doors;
+mod entrances;
 mod houses;
 mod keepers;
 mod links;
@@ -47,6 +51,7 @@ mod loops;
 mod pacing;
 mod replying;
 mod rolls;
+mod rounds;
 mod seats;
 mod shared_cpus;
 mod shared_workers;
@@ -54,6 +59,7 @@ mod shortages;
 mod system_workers;
 mod talks;
 mod tallies;
+mod tidying;
 mod workers;
 
 pub use arrivals::{Arrivals, Server, next_open, serve_each};
@@ -61,13 +67,15 @@ pub use connections::serve_connection;
 pub use counts::{Counted, Counter, count_exchange};
 pub use deadlines::{Deadline, Limited, Side};
 pub use doors::Door;
+pub use entrances::{Entrance, worker_loop};
 pub use houses::House;
 pub use keepers::{go_round, keep};
 pub use links::{Link, let_go};
-pub use loops::{ACCEPT_PAUSE, pause, worker_loop};
+pub use loops::{ACCEPT_PAUSE, pause};
 pub use pacing::{Pace, PacedReader, PacedWriter};
 pub use replying::ClientLines;
 pub use rolls::{NotEntered, Roll, SharedStream};
+pub use rounds::{Rounds, keep_rounds};
 pub use seats::{Seat, new_seats};
 pub use shared_cpus::SharedCpus;
 pub use shared_workers::SharedWorker;
@@ -75,4 +83,5 @@ pub use shortages::{Overseer, Shortage};
 pub use system_workers::{REAP_LIMIT, SystemWorker, accept_loop};
 pub use talks::{serve_talks, turn_away};
 pub use tallies::{Counts, LineSums, Tally};
+pub use tidying::{Upkeep, tidy_by};
 pub use workers::Worker;

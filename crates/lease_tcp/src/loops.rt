@@ -1,12 +1,16 @@
-//! The connections of a door, which a worker serves one after another.
+//! The connections of a door, over TCP.
+ghost use Rattle.lease_tcp.specs.Entrances.{HasTidied};
+ghost use Rattle.lease_tcp.specs.Replying.{worker_of};
 
-use crate::arrivals::{Arrivals, Server, serve_each};
+use crate::arrivals::Arrivals;
 use crate::connections::serve_connection;
 use crate::doors::Door;
+use crate::entrances::Entrance;
 use crate::pacing::{Pace, PacedReader, PacedWriter};
 use crate::replying::ClientLines;
+use crate::rolls::SharedStream;
 use crate::workers::Worker;
-use lease_server::Watched;
+use lease_server::{ServeFault, Watched};
 use std::alloc::Global;
 use std::net::TcpStream;
 use std::sync::{Arc, Wait};
@@ -17,15 +21,22 @@ use std::{io, thread};
 /// the system has no descriptor left.
 pub const ACCEPT_PAUSE: u64 = 20;
 
-/// A worker at a door.
-struct AtDoor<'a, R, K> {
+/// A door as connections come to it, each of which stands on the roll while it is served.
+#[derive(Drop)]
+pub(crate) struct TcpEntrance<'a, R> {
     rt: &'a R,
     alloc: Global,
     door: Door<'a>,
-    lines: ClientLines<K>,
 }
 
-impl<R: Wait + Clock, K: Worker> Arrivals for AtDoor<'_, R, K> {
+impl<'a, R> TcpEntrance<'a, R> {
+    /// The connections of this door.
+    pub(crate) fn new(rt: &'a R, alloc: Global, door: Door<'a>) -> TcpEntrance<'a, R> {
+        TcpEntrance { rt, alloc, door }
+    }
+}
+
+impl<R: Wait + Clock> Arrivals for TcpEntrance<'_, R> {
     ghost use Rattle.std.specs.Prelude.{⊤};
 
     type Connection = TcpStream;
@@ -52,76 +63,74 @@ impl<R: Wait + Clock, K: Worker> Arrivals for AtDoor<'_, R, K> {
     }
 }
 
-impl<R: Wait + Clock, K: Worker> Server for AtDoor<'_, R, K> {
+impl<R: Wait + Clock> Entrance for TcpEntrance<'_, R> {
     ghost use Rattle.std.specs.Prelude.{⊤};
 
-    ghost may_serve = { λ _ _ _. ⊤ };
+    /// The connection, and its key on the roll.
+    type Guest = (SharedStream, usize);
 
-    fn serve(&mut self, stream: TcpStream) {
-        serve_entered(self.rt, self.alloc, stream, &mut self.lines, self.door);
+    ghost may_enter = { λ _ _ _ _. ⊤ };
+
+    ghost may_talk = { λ _ _ _. ⊤ };
+
+    ghost may_leave = { λ _ _ _. ⊤ };
+
+    fn enter(&mut self, stream: TcpStream) -> Option<(SharedStream, usize)> {
+        let Ok(stream) = Arc::new(self.alloc, stream) else {
+            self.door.roll.fail(self.rt);
+            return None;
+        };
+        match self.door.roll.enter(self.rt, &stream) {
+            Ok(key) => Some((stream, key)),
+            Err(_) => None,
+        }
+    }
+
+    fn talk<K: Worker>(&mut self, guest: &(SharedStream, usize), lines: &mut ClientLines<K>) {
+        serve_begun(self.rt, self.alloc, &guest.0, lines, self.door);
+    }
+
+    fn leave(&mut self, guest: (SharedStream, usize)) {
+        self.door.roll.leave(self.rt, guest.1);
     }
 }
 
-/// Serves one connection after another, as `serve_each` does, and gives the worker back once the
-/// door is closed and the connection that it serves has ended. A connection's fault ends that
-/// connection alone.
-pub fn worker_loop<R: Wait + Clock, K: Worker>(
+/// Serves a connection that stands on the roll. It is counted as begun, and as failed where it ends
+/// for want of memory.
+pub(crate) fn serve_begun<R: Wait + Clock, K: Worker>(
     rt: &R,
     alloc: Global,
-    door: Door<'_>,
-    worker: K,
-) -> K {
-    let lines = ClientLines::new(worker);
-    let mut at_door = AtDoor {
-        rt,
-        alloc,
-        door,
-        lines,
-    };
-    serve_each(rt, &mut at_door);
-    let AtDoor {
-        rt: _,
-        alloc: _,
-        door: _,
-        lines,
-    } = at_door;
-    lines.into_worker()
-}
-
-/// Serves a connection while it stands on the roll.
-fn serve_entered<R: Wait + Clock, K: Worker>(
-    rt: &R,
-    alloc: Global,
-    stream: TcpStream,
+    stream: &TcpStream,
     lines: &mut ClientLines<K>,
     door: Door<'_>,
-) {
-    let Ok(stream) = Arc::new(alloc, stream) else {
-        return;
-    };
-    let Ok(key) = door.roll.enter(rt, &stream) else {
-        return;
-    };
-    serve_stream(rt, alloc, &stream, lines, door.pace);
-    door.roll.leave(rt, key);
+)
+    ensures { HasTidied K.may_tidy (worker_of lines.old) (worker_of lines.new) }
+{
+    door.roll.begin(rt);
+    if let Err(ServeFault::Memory) = serve_stream(rt, alloc, stream, lines, door.pace) {
+        door.roll.fail(rt);
+    }
 }
 
-/// Serves a socket to its end, or to its fault.
-pub(crate) fn serve_stream<R: Clock, K: Worker>(
+/// Serves a socket to its end, or to its fault, and then lets the worker tidy.
+fn serve_stream<R: Clock, K: Worker>(
     rt: &R,
     alloc: Global,
     stream: &TcpStream,
     lines: &mut ClientLines<K>,
     pace: Pace,
-) {
+) -> Result<(), ServeFault>
+    ensures { HasTidied K.may_tidy (worker_of lines.old) (worker_of lines.new) }
+{
     // (so that answers leave at once)
     if stream.set_nodelay(true).is_err() {
-        return;
+        lines.tidy();
+        return Err(ServeFault::Write);
     }
     let mut reader = Watched::new(PacedReader::new(rt, stream, pace));
     let mut writer = Watched::new(PacedWriter::new(rt, stream, pace));
     let mut link = stream;
-    let _ = serve_connection(alloc, &mut reader, &mut writer, &mut link, lines);
+    serve_connection(alloc, &mut reader, &mut writer, &mut link, lines)
 }
 
 /// Waits after a connection that couldn't be accepted.

@@ -8,7 +8,7 @@ use lease_server::Responder;
 use std::alloc::AllocError;
 
 /// A worker that is given the lines of clients as bytes. What is no line of a client is answered by
-/// its error line, and the worker never sees it. It isn't to be dropped: `into_worker` ends it.
+/// its error line, and the worker passes over it. It isn't to be dropped: `into_worker` ends it.
 pub struct ClientLines<K> {
     worker: K,
 }
@@ -42,14 +42,18 @@ impl<K: Worker> ClientLines<K> {
 impl<K: Worker> Responder for ClientLines<K> {
     ghost use Rattle.lease_tcp.specs.Replying.{worker_of, MayAnswer};
 
-    ghost may_answer = { λ old line text new. MayAnswer K.may_reply (worker_of old) line text
-        (worker_of new) };
+    ghost may_answer = { λ old line text new. MayAnswer K.may_reply K.may_pass (worker_of old)
+        line text (worker_of new) };
 
     fn answer(&mut self, line: &[u8], out: &mut Vec<u8>) -> Result<(), AllocError> {
         out.reserve(LINE_ROOM)?;
         match Line::read(line) {
             Ok(line) => self.worker.reply(&line).write(out),
-            Err(fault) => out.extend_from_slice(fault.line()),
+            Err(fault) => {
+                out.extend_from_slice(fault.line())?;
+                self.worker.pass_over();
+                Ok(())
+            }
         }
     }
 }

@@ -39,6 +39,7 @@ struct Rows {
     ended: bool,
     total: u64,
     refused: u64,
+    failed: u64,
     ghost within: { slab_len streams ≤ most },
 }
 
@@ -59,6 +60,7 @@ impl Roll {
             ended: false,
             total: 0,
             refused: 0,
+            failed: 0,
         };
         Roll {
             rows: Mutex::new(rows),
@@ -68,6 +70,16 @@ impl Roll {
     /// Enters a connection, and gives its key.
     pub fn enter<R: Wait>(&self, rt: &R, stream: &SharedStream) -> Result<usize, NotEntered> {
         self.rows.lock(rt).enter(stream)
+    }
+
+    /// Counts a connection that is begun to be served.
+    pub fn begin<R: Wait>(&self, rt: &R) {
+        self.rows.lock(rt).begin();
+    }
+
+    /// Counts a connection that ended, begun or not, for want of memory or a thread.
+    pub fn fail<R: Wait>(&self, rt: &R) {
+        self.rows.lock(rt).fail();
     }
 
     /// The connection of this key has ended.
@@ -88,13 +100,14 @@ impl Roll {
         self.shut(rt, Shutdown::Both);
     }
 
-    /// How many there are, were and were turned away.
+    /// How many there are, were begun, were turned away and failed.
     pub fn counts<R: Wait>(&self, rt: &R) -> ConnectionCounts {
         let guard = self.rows.lock(rt);
         ConnectionCounts {
             served: guard.streams.len() as u64,
             total: guard.total,
             refused: guard.refused,
+            failed: guard.failed,
         }
     }
 
@@ -115,7 +128,7 @@ impl Roll {
 
 impl Rows {
     /// Enters a connection. It is refused as one too many just where there are as many as there may
-    /// be.
+    /// be. It is counted where it is turned away, or fails.
     fn enter(&mut self, stream: &SharedStream) -> Result<usize, NotEntered>
         ensures entered { IfOk result (λ key. (get self.old.streams key ≡ None)
             × ContainsKey self.new.streams key) }
@@ -125,9 +138,10 @@ impl Rows {
             ↔ ((self.old.ended ≡ false) × (slab_len self.old.streams ≡ self.old.most)) }
         ensures ended { IsErrOf result NotEntered.Ended ↔ (self.old.ended ≡ true) }
         ensures kept { (self.new.most ≡ self.old.most) × (self.new.ended ≡ self.old.ended) }
-        ensures total { OnOk result (self.new.total ≡ min (self.old.total + 1) (2 ^ 64 - 1)) }
         ensures turned_away { IsErrOf result NotEntered.Full
             → self.new.refused ≡ min (self.old.refused + 1) (2 ^ 64 - 1) }
+        ensures failed { IsErrOf result NotEntered.Memory
+            → self.new.failed ≡ min (self.old.failed + 1) (2 ^ 64 - 1) }
     {
         if self.ended {
             return Err(NotEntered::Ended);
@@ -137,15 +151,36 @@ impl Rows {
             return Err(NotEntered::Full);
         }
         let Ok(own) = Arc::try_clone(stream) else {
+            self.fail();
             return Err(NotEntered::Memory);
         };
         match self.streams.insert(own) {
-            Ok(key) => {
-                self.total = self.total.saturating_add(1);
-                Ok(key)
+            Ok(key) => Ok(key),
+            Err(_) => {
+                self.fail();
+                Err(NotEntered::Memory)
             }
-            Err(_) => Err(NotEntered::Memory),
         }
+    }
+
+    /// Counts a connection that is begun to be served.
+    fn begin(&mut self)
+        ensures counted { self.new.total ≡ min (self.old.total + 1) (2 ^ 64 - 1) }
+        ensures others { (self.new.refused ≡ self.old.refused) × (self.new.failed ≡ self.old.failed) }
+        ensures kept { (self.new.streams ≡ self.old.streams) × (self.new.most ≡ self.old.most)
+            × (self.new.ended ≡ self.old.ended) }
+    {
+        self.total = self.total.saturating_add(1);
+    }
+
+    /// Counts a connection that failed.
+    fn fail(&mut self)
+        ensures counted { self.new.failed ≡ min (self.old.failed + 1) (2 ^ 64 - 1) }
+        ensures others { (self.new.total ≡ self.old.total) × (self.new.refused ≡ self.old.refused) }
+        ensures kept { (self.new.streams ≡ self.old.streams) × (self.new.most ≡ self.old.most)
+            × (self.new.ended ≡ self.old.ended) }
+    {
+        self.failed = self.failed.saturating_add(1);
     }
 
     /// The connection of this key has ended.

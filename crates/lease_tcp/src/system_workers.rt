@@ -1,10 +1,11 @@
 //! A worker of a running system.
 ghost use Rattle.std.specs.Prelude.{◌≡◌};
-ghost use Rattle.lease_tcp.specs.Workers.{StaysCpu};
 
 use crate::counts::Counted;
 use crate::doors::Door;
-use crate::loops::worker_loop;
+use crate::entrances::worker_loop;
+use crate::loops::TcpEntrance;
+use crate::tidying::{Upkeep, tidy_by};
 use crate::workers::Worker;
 use deed_table::Name;
 use lease_proto::{Line, Reply};
@@ -56,9 +57,12 @@ impl<'a, N: Name, R: Wait> SystemWorker<'a, N, R> {
 }
 
 impl<N: Name, R: Wait> Worker for SystemWorker<'_, N, R> {
+    ghost use Rattle.std.specs.Prelude.{◌≡◌};
     ghost use Rattle.lease_tcp.specs.Workers.{MayReply, MayTidy};
 
     ghost may_reply = { MayReply };
+
+    ghost may_pass = { λ old new. new ≡ old };
 
     ghost may_tidy = { MayTidy };
 
@@ -69,19 +73,38 @@ impl<N: Name, R: Wait> Worker for SystemWorker<'_, N, R> {
         }
     }
 
+    fn pass_over(&mut self) {}
+
     fn tidy(&mut self) {
-        self.system.drain(self.rt, &mut self.cpu);
-        reap_each(self.rt, self.system, &mut self.cpu);
-        self.system.tick(self.rt);
+        tidy_by(self);
     }
 }
 
-/// Reaps each arena. Children come before their sources: what they hand back can be reaped there.
-fn reap_each<N: Name, R: Wait>(rt: &R, system: &System<N>, cpu: &mut Cpu<N>)
-    ensures { StaysCpu cpu.old cpu.new }
-{
-    for arena in (0..system.tree().len() as u32).rev() {
-        let _ = system.reap(rt, cpu, arena, REAP_LIMIT);
+impl<N: Name, R: Wait> Upkeep for SystemWorker<'_, N, R> {
+    ghost use Rattle.lease_tcp.specs.Workers.{MayReap, MayTick, Stays, count_of_arenas};
+
+    ghost arenas = { count_of_arenas };
+
+    ghost may_drain = { Stays };
+
+    ghost may_reap = { MayReap };
+
+    ghost may_tick = { MayTick };
+
+    fn arenas(&self) -> u32 {
+        self.system.tree().len() as u32
+    }
+
+    fn drain(&mut self) {
+        self.system.drain(self.rt, &mut self.cpu);
+    }
+
+    fn reap(&mut self, arena: u32) {
+        let _ = self.system.reap(self.rt, &mut self.cpu, arena, REAP_LIMIT);
+    }
+
+    fn tick(&mut self) {
+        self.system.tick(self.rt);
     }
 }
 
@@ -96,7 +119,6 @@ pub fn accept_loop<N: Name, R: Wait + Clock>(
 ) -> Cpu<N> {
     let tally = door.counts.at(cpu.number() as usize);
     let worker = Counted::new(SystemWorker::new(rt, system, cpu), tally);
-    worker_loop(rt, alloc, door, worker)
-        .into_worker()
-        .into_cpu()
+    let (_, worker) = worker_loop(rt, TcpEntrance::new(rt, alloc, door), worker);
+    worker.into_worker().into_cpu()
 }

@@ -10,7 +10,7 @@ use crate::counts::Counted;
 use crate::doors::Door;
 use crate::houses::House;
 use crate::links::{Link, let_go};
-use crate::loops::{pause, serve_stream};
+use crate::loops::{pause, serve_begun};
 use crate::replying::ClientLines;
 use crate::rolls::{NotEntered, SharedStream};
 use crate::shared_workers::SharedWorker;
@@ -124,6 +124,7 @@ fn admit<'s, E, N: Name + Send + Sync, R: Threads + Wait + Clock + Sync + AllocG
     stream: TcpStream,
 ) {
     let Ok(stream) = Arc::new(rt.alloc(), stream) else {
+        house.door.roll.fail(rt);
         return;
     };
     match house.door.roll.enter(rt, &stream) {
@@ -133,6 +134,7 @@ fn admit<'s, E, N: Name + Send + Sync, R: Threads + Wait + Clock + Sync + AllocG
                 .spawn_scoped(scope, move || talk(rt, house, stream, key));
             if started.is_err() {
                 house.door.roll.leave(rt, key);
+                house.door.roll.fail(rt);
                 overseer.lacks(Shortage::Thread);
             }
         }
@@ -171,7 +173,7 @@ fn talk<N: Name, R: Wait + Clock + AllocGlobal>(
     let tally = house.door.counts.at(key);
     let worker = SharedWorker::new(rt, &house.cpus, key, tally);
     let mut lines = ClientLines::new(Counted::new(worker, tally));
-    serve_stream(rt, rt.alloc(), &stream, &mut lines, house.door.pace);
+    serve_begun(rt, rt.alloc(), &stream, &mut lines, house.door);
     drop(lines.into_worker());
     house.door.roll.leave(rt, key);
 }

@@ -15,6 +15,7 @@ name_of family.Leases = codes "vmemd_leases"
 name_of family.Connections = codes "vmemd_connections"
 name_of family.ConnectionsTotal = codes "vmemd_connections_total"
 name_of family.ConnectionsRefused = codes "vmemd_connections_refused_total"
+name_of family.ConnectionsFailed = codes "vmemd_connections_failed_total"
 name_of family.CpuWaits = codes "vmemd_cpu_waits_total"
 name_of family.Lines = codes "vmemd_lines_total"
 name_of family.Replies = codes "vmemd_replies_total"
@@ -30,6 +31,7 @@ kind_of family.Leases = codes "gauge"
 kind_of family.Connections = codes "gauge"
 kind_of family.ConnectionsTotal = codes "counter"
 kind_of family.ConnectionsRefused = codes "counter"
+kind_of family.ConnectionsFailed = codes "counter"
 kind_of family.CpuWaits = codes "counter"
 kind_of family.Lines = codes "counter"
 kind_of family.Replies = codes "counter"
@@ -45,6 +47,8 @@ help_of family.Leases = codes "Leases that are held."
 help_of family.Connections = codes "Connections that are served."
 help_of family.ConnectionsTotal = codes "Connections that were ever served."
 help_of family.ConnectionsRefused = codes "Connections that were turned away."
+help_of family.ConnectionsFailed =
+    codes "Connections that ended for want of memory or a thread."
 help_of family.CpuWaits = codes "Lines that waited for a CPU."
 help_of family.Lines = codes "Lines of clients, by first word."
 help_of family.Replies = codes "Replies, by first word."
@@ -57,7 +61,7 @@ abbrev pub words_of : Family → List Word
 words_of family.Lines = word.Hello ∷ word.Lease ∷ word.Release ∷ []
 words_of family.Replies =
     word.Welcome ∷ word.Granted ∷ word.Released ∷ word.Refused ∷ word.Old ∷ word.Stale
-    ∷ word.Gap ∷ word.Again ∷ []
+    ∷ word.Gap ∷ word.Again ∷ word.Error ∷ []
 words_of family.Refusals =
     word.NoFit ∷ word.BadRequest ∷ word.NoArena ∷ word.NotYours ∷ word.Leases ∷ []
 words_of f = []

@@ -1,11 +1,10 @@
 -- The samples of a server.
-use Rattle.std.specs.Prelude.{ℕ, List, ◌++◌, codes, decimal, Option, Some, None}
+use Rattle.std.specs.Prelude.{ℕ, List, [], ◌∷◌, ◌++◌, codes, decimal, Option, Some, None}
 use Rattle.std.specs.List.{flat_map}
 use Rattle.lease_watch.specs.declared.families.Family.TheVariants as family
 use Rattle.lease_watch.specs.declared.families.Family.{Family}
 use Rattle.lease_watch.specs.declared.families.Home.{Home}
 use Rattle.lease_watch.specs.declared.seen.ArenaSeen.{ArenaSeen}
-use Rattle.lease_watch.specs.declared.seen.ConnectionCounts.{ConnectionCounts}
 use Rattle.lease_watch.specs.declared.seen.Seen.{Seen}
 use Rattle.lease_watch.specs.declared.seen.Version.{Version}
 use Rattle.lease_watch.specs.declared.words.Word.{Word}
@@ -24,11 +23,19 @@ build_text v =
     head family.Build ++ opening family.Build ++ label (codes "version") (version_text v)
     ++ closing 1
 
-unfoldable pub connections_text : ConnectionCounts → List ℕ
-connections_text c =
-    plain family.Connections c.served
-    ++ plain family.ConnectionsTotal c.total
-    ++ plain family.ConnectionsRefused c.refused
+-- the families of one sample each, with their values
+unfoldable pub plain_values : Seen → List (Family × ℕ)
+plain_values s =
+    (family.Uptime, s.uptime) ∷ (family.Clients, s.clients) ∷ (family.Leases, s.leases)
+    ∷ (family.Connections, s.connections.served)
+    ∷ (family.ConnectionsTotal, s.connections.total)
+    ∷ (family.ConnectionsRefused, s.connections.refused)
+    ∷ (family.ConnectionsFailed, s.connections.failed)
+    ∷ (family.CpuWaits, s.cpu_waits) ∷ []
+
+-- such a family
+abbrev pub plain_of : Family × ℕ → List ℕ
+plain_of one = plain one.0 one.1
 
 -- how often a word was counted
 abbrev pub counted_sample : Family → List ℕ → Word → List ℕ
@@ -68,19 +75,14 @@ arenas_text arenas =
     head family.Setups ++ flat_map setup_text arenas
     ++ head family.Units ++ flat_map units_text arenas
 
--- what the server is and has
-unfoldable pub state_text : Seen → List ℕ
-state_text s =
-    build_text s.version ++ plain family.Uptime s.uptime ++ plain family.Clients s.clients
-    ++ plain family.Leases s.leases
-
--- what the server did
-unfoldable pub work_text : Seen → List ℕ
-work_text s =
-    connections_text s.connections ++ plain family.CpuWaits s.cpu_waits
-    ++ words_text family.Lines s.counts ++ words_text family.Replies s.counts
-    ++ words_text family.Refusals s.counts
+-- what was asked and answered
+unfoldable pub counts_text : List ℕ → List ℕ
+counts_text counts =
+    words_text family.Lines counts ++ words_text family.Replies counts
+    ++ words_text family.Refusals counts
 
 -- all samples of a server
 abbrev pub metrics_text : Seen → List ℕ
-metrics_text s = state_text s ++ work_text s ++ arenas_text s.arenas.items
+metrics_text s =
+    build_text s.version ++ flat_map plain_of (plain_values s) ++ counts_text s.counts
+    ++ arenas_text s.arenas.items

@@ -9,7 +9,6 @@ use Rattle.lease_watch.specs.declared.families.Home.{Home}
 use Rattle.lease_watch.specs.declared.families.Home.TheVariants as home
 use Rattle.lease_watch.specs.declared.markup.Markup.TheVariants as markup
 use Rattle.lease_watch.specs.declared.seen.ArenaSeen.{ArenaSeen}
-use Rattle.lease_watch.specs.declared.seen.ConnectionCounts.{ConnectionCounts}
 use Rattle.lease_watch.specs.declared.seen.Work.{Work}
 use Rattle.lease_watch.specs.declared.seen.Seen.{Seen}
 use Rattle.lease_watch.specs.declared.seen.UnitsSeen.{UnitsSeen}
@@ -17,7 +16,7 @@ use Rattle.lease_watch.specs.declared.seen.Version.{Version}
 use Rattle.lease_watch.specs.declared.words.Word.{Word}
 use Rattle.lease_watch.specs.Families.{name_of, help_of, words_of, home_of, homes}
 use Rattle.lease_watch.specs.Markup.{markup_of}
-use Rattle.lease_watch.specs.Metrics.{version_text}
+use Rattle.lease_watch.specs.Metrics.{plain_values, version_text}
 use Rattle.lease_watch.specs.Samples.{word_key, home_key}
 use Rattle.lease_watch.specs.Units.{units_at}
 use Rattle.lease_watch.specs.Words.{count_of, text_of}
@@ -53,20 +52,13 @@ unfoldable pub words_table : Family → List ℕ → List ℕ
 words_table f counts =
     caption (help_of f) ++ flat_map (counted_row f counts) (words_of f) ++ markup_of markup.TableEnd
 
-unfoldable pub connections_rows : ConnectionCounts → List ℕ
-connections_rows c =
-    plain_row family.Connections c.served
-    ++ plain_row family.ConnectionsTotal c.total
-    ++ plain_row family.ConnectionsRefused c.refused
+-- a family of one sample, with its value
+abbrev pub value_row : Family × ℕ → List ℕ
+value_row one = plain_row one.0 one.1
 
 unfoldable pub state_table : Seen → List ℕ
 state_table s =
-    caption (markup_of markup.StateTitle)
-    ++ plain_row family.Uptime s.uptime
-    ++ plain_row family.Clients s.clients
-    ++ plain_row family.Leases s.leases
-    ++ connections_rows s.connections
-    ++ plain_row family.CpuWaits s.cpu_waits
+    caption (markup_of markup.StateTitle) ++ flat_map value_row (plain_values s)
     ++ markup_of markup.TableEnd
 
 -- a sum, which stays at the greatest number
@@ -139,8 +131,8 @@ rate l = if l.seconds == 0 then 0 else l.lines / l.seconds
 
 unfoldable pub lately_text : Work → List ℕ
 lately_text l =
-    markup_of markup.LatelyStart ++ decimal l.lines ++ markup_of markup.LatelyLines
-    ++ decimal l.seconds ++ markup_of markup.LatelySeconds ++ decimal (rate l)
+    markup_of markup.LatelyStart ++ decimal l.seconds ++ markup_of markup.LatelySeconds
+    ++ decimal l.lines ++ markup_of markup.LatelyLines ++ decimal (rate l)
     ++ markup_of markup.LatelyRate ++ decimal l.refused ++ markup_of markup.LatelyEnd
 
 unfoldable pub page_head : Version → Work → List ℕ

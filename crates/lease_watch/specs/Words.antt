@@ -23,11 +23,12 @@ place_of word.Old = 7
 place_of word.Stale = 8
 place_of word.Gap = 9
 place_of word.Again = 10
-place_of word.NoFit = 11
-place_of word.BadRequest = 12
-place_of word.NoArena = 13
-place_of word.NotYours = 14
-place_of word.Leases = 15
+place_of word.Error = 11
+place_of word.NoFit = 12
+place_of word.BadRequest = 13
+place_of word.NoArena = 14
+place_of word.NotYours = 15
+place_of word.Leases = 16
 
 -- how often a word was counted
 abbrev pub count_of : List ℕ → Word → ℕ
@@ -39,17 +40,17 @@ line_word (line.Hello hello) = word.Hello
 line_word (line.Request id (op.Lease lease)) = word.Lease
 line_word (line.Request id (op.Release release)) = word.Release
 
--- and so is a reply, if it is no error line
-abbrev pub reply_word : Reply → Option Word
-reply_word (reply.Welcome welcome) = Some word.Welcome
-reply_word (reply.Granted granted) = Some word.Granted
-reply_word (reply.Released released) = Some word.Released
-reply_word (reply.Refused refused) = Some word.Refused
-reply_word (reply.Old old) = Some word.Old
-reply_word (reply.Stale stale) = Some word.Stale
-reply_word (reply.Gap gap) = Some word.Gap
-reply_word (reply.Again again) = Some word.Again
-reply_word (reply.Error error) = None
+-- and so is a reply
+abbrev pub reply_word : Reply → Word
+reply_word (reply.Welcome welcome) = word.Welcome
+reply_word (reply.Granted granted) = word.Granted
+reply_word (reply.Released released) = word.Released
+reply_word (reply.Refused refused) = word.Refused
+reply_word (reply.Old old) = word.Old
+reply_word (reply.Stale stale) = word.Stale
+reply_word (reply.Gap gap) = word.Gap
+reply_word (reply.Again again) = word.Again
+reply_word (reply.Error error) = word.Error
 
 abbrev pub refusal_word : Refusal → Word
 refusal_word refusal.NoFit = word.NoFit
@@ -75,6 +76,7 @@ text_of word.Old = codes "old"
 text_of word.Stale = codes "stale"
 text_of word.Gap = codes "gap"
 text_of word.Again = codes "again"
+text_of word.Error = codes "error"
 text_of word.NoFit = codes "nofit"
 text_of word.BadRequest = codes "badrequest"
 text_of word.NoArena = codes "noarena"

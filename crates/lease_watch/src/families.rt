@@ -14,6 +14,7 @@ pub(crate) enum Family {
     Connections,
     ConnectionsTotal,
     ConnectionsRefused,
+    ConnectionsFailed,
     CpuWaits,
     Lines,
     Replies,
@@ -36,6 +37,7 @@ impl Family {
             Family::Connections => b"vmemd_connections",
             Family::ConnectionsTotal => b"vmemd_connections_total",
             Family::ConnectionsRefused => b"vmemd_connections_refused_total",
+            Family::ConnectionsFailed => b"vmemd_connections_failed_total",
             Family::CpuWaits => b"vmemd_cpu_waits_total",
             Family::Lines => b"vmemd_lines_total",
             Family::Replies => b"vmemd_replies_total",
@@ -60,6 +62,7 @@ impl Family {
             | Family::Units => b"gauge",
             Family::ConnectionsTotal
             | Family::ConnectionsRefused
+            | Family::ConnectionsFailed
             | Family::CpuWaits
             | Family::Lines
             | Family::Replies
@@ -80,6 +83,7 @@ impl Family {
             Family::Connections => b"Connections that are served.",
             Family::ConnectionsTotal => b"Connections that were ever served.",
             Family::ConnectionsRefused => b"Connections that were turned away.",
+            Family::ConnectionsFailed => b"Connections that ended for want of memory or a thread.",
             Family::CpuWaits => b"Lines that waited for a CPU.",
             Family::Lines => b"Lines of clients, by first word.",
             Family::Replies => b"Replies, by first word.",
@@ -104,6 +108,7 @@ impl Family {
                 Word::Stale,
                 Word::Gap,
                 Word::Again,
+                Word::Error,
             ],
             Family::Refusals => &[
                 Word::NoFit,

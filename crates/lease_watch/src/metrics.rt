@@ -9,31 +9,51 @@ use crate::samples::{
     push_closing, push_head, push_home, push_label, push_number, push_number_label, push_opening,
     push_plain, push_word,
 };
-use crate::seen::{ArenaSeen, ConnectionCounts, Seen, Version};
+use crate::seen::{ArenaSeen, Seen, Version};
 use crate::words::{Word, WordCounts, count_of};
 use lease_terms::ArenaName;
 use std::alloc::{AllocError, Global};
+
+/// How many families of one sample there are.
+const PLAIN_FAMILIES: usize = 8;
 
 /// All samples of a server, in the text format of Prometheus.
 pub fn metrics_text(alloc: Global, seen: &Seen) -> Result<Vec<u8>, AllocError>
     ensures { IfOk result (λ text. text.items ≡ spec.metrics_text seen.now) }
 {
     let mut out = Vec::new(alloc);
-    push_state(&mut out, seen)?;
-    push_work(&mut out, seen)?;
+    push_build(&mut out, &seen.version)?;
+    push_values(&mut out, &plain_values(seen))?;
+    push_counts(&mut out, &seen.counts)?;
     push_arenas(&mut out, seen.arenas.as_slice())?;
     Ok(out)
 }
 
-/// What the server is and has.
-#[tactic(auto, unfolding(crate::specs::Metrics::state_text))]
-fn push_state(out: &mut Vec<u8>, seen: &Seen) -> Result<(), AllocError>
-    ensures { OnOk result (out.new.items ≡ out.old.items ++ spec.state_text seen.now) }
+/// The families of one sample each, with their values.
+#[tactic(auto, unfolding(crate::specs::Metrics::plain_values))]
+pub(crate) fn plain_values(seen: &Seen) -> [(Family, u64); PLAIN_FAMILIES]
+    ensures { result ≡ spec.plain_values seen.now }
 {
-    push_build(out, &seen.version)?;
-    push_plain(out, Family::Uptime, seen.uptime)?;
-    push_plain(out, Family::Clients, seen.clients)?;
-    push_plain(out, Family::Leases, seen.leases)
+    [
+        (Family::Uptime, seen.uptime),
+        (Family::Clients, seen.clients),
+        (Family::Leases, seen.leases),
+        (Family::Connections, seen.connections.served),
+        (Family::ConnectionsTotal, seen.connections.total),
+        (Family::ConnectionsRefused, seen.connections.refused),
+        (Family::ConnectionsFailed, seen.connections.failed),
+        (Family::CpuWaits, seen.cpu_waits),
+    ]
+}
+
+/// These families.
+fn push_values(out: &mut Vec<u8>, values: &[(Family, u64)]) -> Result<(), AllocError>
+    ensures { OnOk result (out.new.items ≡ out.old.items ++ flat_map spec.plain_of values.now) }
+{
+    for value in values {
+        push_plain(out, value.0, value.1)?;
+    }
+    Ok(())
 }
 
 #[tactic(auto, unfolding(crate::specs::Metrics::build_text))]
@@ -67,25 +87,14 @@ pub(crate) fn push_version(out: &mut Vec<u8>, version: &Version) -> Result<(), A
     push_number(out, u128::from(version.patch))
 }
 
-/// What the server did.
-#[tactic(auto, unfolding(crate::specs::Metrics::work_text))]
-fn push_work(out: &mut Vec<u8>, seen: &Seen) -> Result<(), AllocError>
-    ensures { OnOk result (out.new.items ≡ out.old.items ++ spec.work_text seen.now) }
+/// What was asked and answered.
+#[tactic(auto, unfolding(crate::specs::Metrics::counts_text))]
+fn push_counts(out: &mut Vec<u8>, counts: &WordCounts) -> Result<(), AllocError>
+    ensures { OnOk result (out.new.items ≡ out.old.items ++ spec.counts_text counts.now) }
 {
-    push_connections(out, &seen.connections)?;
-    push_plain(out, Family::CpuWaits, seen.cpu_waits)?;
-    push_words(out, Family::Lines, &seen.counts)?;
-    push_words(out, Family::Replies, &seen.counts)?;
-    push_words(out, Family::Refusals, &seen.counts)
-}
-
-#[tactic(auto, unfolding(crate::specs::Metrics::connections_text))]
-fn push_connections(out: &mut Vec<u8>, counts: &ConnectionCounts) -> Result<(), AllocError>
-    ensures { OnOk result (out.new.items ≡ out.old.items ++ spec.connections_text counts.now) }
-{
-    push_plain(out, Family::Connections, counts.served)?;
-    push_plain(out, Family::ConnectionsTotal, counts.total)?;
-    push_plain(out, Family::ConnectionsRefused, counts.refused)
+    push_words(out, Family::Lines, counts)?;
+    push_words(out, Family::Replies, counts)?;
+    push_words(out, Family::Refusals, counts)
 }
 
 /// The samples of a family whose samples have a word each.

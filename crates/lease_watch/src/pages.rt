@@ -54,10 +54,10 @@ fn push_lately(out: &mut Vec<u8>, lately: &Work) -> Result<(), AllocError>
     ensures { OnOk result (out.new.items ≡ out.old.items ++ spec.lately_text lately.now) }
 {
     put(out, Markup::LatelyStart)?;
-    push_number(out, u128::from(lately.lines))?;
-    put(out, Markup::LatelyLines)?;
     push_number(out, u128::from(lately.seconds))?;
     put(out, Markup::LatelySeconds)?;
+    push_number(out, u128::from(lately.lines))?;
+    put(out, Markup::LatelyLines)?;
     push_number(out, u128::from(rate(lately)))?;
     put(out, Markup::LatelyRate)?;
     push_number(out, u128::from(lately.refused))?;

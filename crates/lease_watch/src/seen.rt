@@ -60,6 +60,8 @@ pub struct ConnectionCounts {
     pub total: u64,
     /// That were turned away.
     pub refused: u64,
+    /// That ended, begun or not, for want of memory or a thread.
+    pub failed: u64,
 }
 
 /// What was done in some time.

@@ -8,8 +8,9 @@ ghost use Rattle.lease_watch.specs.Samples.{word_key, home_key};
 
 use crate::families::{Family, Home};
 use crate::markup::Markup;
+use crate::metrics::plain_values;
 use crate::samples::{push_home_key, push_number, push_word_key};
-use crate::seen::{ConnectionCounts, Seen};
+use crate::seen::Seen;
 use crate::words::{Word, WordCounts, count_of};
 use lease_terms::ArenaName;
 use std::alloc::AllocError;
@@ -108,7 +109,11 @@ fn push_caption(out: &mut Vec<u8>, title: &[u8]) -> Result<(), AllocError>
 
 /// A table of a family whose samples have a word each.
 #[tactic(auto, unfolding(crate::specs::Pages::words_table))]
-fn push_words(out: &mut Vec<u8>, family: Family, counts: &WordCounts) -> Result<(), AllocError>
+fn push_words_table(
+    out: &mut Vec<u8>,
+    family: Family,
+    counts: &WordCounts,
+) -> Result<(), AllocError>
     ensures { OnOk result (out.new.items ≡ out.old.items ++ spec.words_table family counts.now) }
 {
     push_caption(out, family.help())?;
@@ -131,13 +136,14 @@ fn push_word_rows(
     Ok(())
 }
 
-#[tactic(auto, unfolding(crate::specs::Pages::connections_rows))]
-fn push_connections(out: &mut Vec<u8>, counts: &ConnectionCounts) -> Result<(), AllocError>
-    ensures { OnOk result (out.new.items ≡ out.old.items ++ spec.connections_rows counts.now) }
+/// The rows of families of one sample.
+fn push_value_rows(out: &mut Vec<u8>, values: &[(Family, u64)]) -> Result<(), AllocError>
+    ensures { OnOk result (out.new.items ≡ out.old.items ++ flat_map spec.value_row values.now) }
 {
-    push_plain_row(out, Family::Connections, counts.served)?;
-    push_plain_row(out, Family::ConnectionsTotal, counts.total)?;
-    push_plain_row(out, Family::ConnectionsRefused, counts.refused)
+    for value in values {
+        push_plain_row(out, value.0, value.1)?;
+    }
+    Ok(())
 }
 
 #[tactic(auto, unfolding(crate::specs::Pages::state_table))]
@@ -145,11 +151,7 @@ fn push_state(out: &mut Vec<u8>, seen: &Seen) -> Result<(), AllocError>
     ensures { OnOk result (out.new.items ≡ out.old.items ++ spec.state_table seen.now) }
 {
     push_caption(out, Markup::StateTitle.text())?;
-    push_plain_row(out, Family::Uptime, seen.uptime)?;
-    push_plain_row(out, Family::Clients, seen.clients)?;
-    push_plain_row(out, Family::Leases, seen.leases)?;
-    push_connections(out, &seen.connections)?;
-    push_plain_row(out, Family::CpuWaits, seen.cpu_waits)?;
+    push_value_rows(out, &plain_values(seen))?;
     put(out, Markup::TableEnd)
 }
 
@@ -159,7 +161,7 @@ pub(crate) fn push_tables(out: &mut Vec<u8>, seen: &Seen) -> Result<(), AllocErr
     ensures { OnOk result (out.new.items ≡ out.old.items ++ spec.tables seen.now) }
 {
     push_state(out, seen)?;
-    push_words(out, Family::Lines, &seen.counts)?;
-    push_words(out, Family::Replies, &seen.counts)?;
-    push_words(out, Family::Refusals, &seen.counts)
+    push_words_table(out, Family::Lines, &seen.counts)?;
+    push_words_table(out, Family::Replies, &seen.counts)?;
+    push_words_table(out, Family::Refusals, &seen.counts)
 }

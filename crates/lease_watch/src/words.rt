@@ -20,6 +20,7 @@ pub enum Word {
     Stale,
     Gap,
     Again,
+    Error,
     NoFit,
     BadRequest,
     NoArena,
@@ -28,7 +29,7 @@ pub enum Word {
 }
 
 /// How many words there are.
-pub const WORDS: usize = 16;
+pub const WORDS: usize = 17;
 
 /// How often each word was counted, at its place.
 pub type WordCounts = [u64; WORDS];
@@ -53,20 +54,20 @@ impl Word {
         }
     }
 
-    /// The word that a reply is counted by; None for an `error` line, which answers no request.
-    pub fn of_reply(reply: &Reply) -> Option<Word>
+    /// The word that a reply is counted by.
+    pub fn of_reply(reply: &Reply) -> Word
         ensures { result ≡ spec.reply_word reply.now }
     {
         match reply {
-            Reply::Welcome(_) => Some(Word::Welcome),
-            Reply::Granted(_) => Some(Word::Granted),
-            Reply::Released(_) => Some(Word::Released),
-            Reply::Refused(_) => Some(Word::Refused),
-            Reply::Old(_) => Some(Word::Old),
-            Reply::Stale(_) => Some(Word::Stale),
-            Reply::Gap(_) => Some(Word::Gap),
-            Reply::Again(_) => Some(Word::Again),
-            Reply::Error(_) => None,
+            Reply::Welcome(_) => Word::Welcome,
+            Reply::Granted(_) => Word::Granted,
+            Reply::Released(_) => Word::Released,
+            Reply::Refused(_) => Word::Refused,
+            Reply::Old(_) => Word::Old,
+            Reply::Stale(_) => Word::Stale,
+            Reply::Gap(_) => Word::Gap,
+            Reply::Again(_) => Word::Again,
+            Reply::Error(_) => Word::Error,
         }
     }
 
@@ -97,6 +98,7 @@ impl Word {
             Word::Stale => b"stale",
             Word::Gap => b"gap",
             Word::Again => b"again",
+            Word::Error => b"error",
             Word::NoFit => b"nofit",
             Word::BadRequest => b"badrequest",
             Word::NoArena => b"noarena",

@@ -20,10 +20,10 @@ pub returns-clause-ok : goal.returns-clause-ok
 returns-clause-ok g c =
     let old = streams_of g.R.Read.remaining g.W.Write.contents c.args.reader.now c.args.writer.now in
     let new = streams_of g.R.Read.remaining g.W.Write.contents c.serve-served.new.reader c.serve-served.new.writer in
-    let served = λ (i : IntakeState). ServesAll (WorkerMayAnswer g.K.Worker.may_reply g.K.Worker.may_tidy) i.hand old new c.args.lines.now c.serve-served.new.responder in
+    let served = λ (i : IntakeState). ServesAll (WorkerMayAnswer g.K.Worker.may_reply g.K.Worker.may_pass g.K.Worker.may_tidy) i.hand old new c.args.lines.now c.serve-served.new.responder in
     at_ok c.serve-served.result
     (served c.new-input.result)
-    (ServesConnection g.K.Worker.may_reply g.K.Worker.may_tidy old new c.args.lines.now c.tidy.new.self)
+    (ServesConnection g.K.Worker.may_reply g.K.Worker.may_pass g.K.Worker.may_tidy old new c.args.lines.now c.tidy.new.self)
     (λ all. (c.serve-served.new.responder, subst served c.new-input.ensures all, c.tidy.ensures))
     c.serve-served.ensures.ok
 
@@ -31,9 +31,9 @@ pub returns-clause-err : goal.returns-clause-err
 returns-clause-err g c =
     let old = streams_of g.R.Read.remaining g.W.Write.contents c.args.reader.now c.args.writer.now in
     let new = streams_of g.R.Read.remaining g.W.Write.contents c.serve-served.new.reader c.serve-served.new.writer in
-    let fails = λ (i : IntakeState) (fault : ServeFault). ServeFails (WorkerMayAnswer g.K.Worker.may_reply g.K.Worker.may_tidy) i old new c.args.lines.now c.serve-served.new.responder fault in
+    let fails = λ (i : IntakeState) (fault : ServeFault). ServeFails (WorkerMayAnswer g.K.Worker.may_reply g.K.Worker.may_pass g.K.Worker.may_tidy) i old new c.args.lines.now c.serve-served.new.responder fault in
     at_err c.serve-served.result
     (fails c.new-input.result)
-    (BreaksOff g.K.Worker.may_reply g.K.Worker.may_tidy old new c.args.lines.now c.tidy.new.self)
+    (BreaksOff g.K.Worker.may_reply g.K.Worker.may_pass g.K.Worker.may_tidy old new c.args.lines.now c.tidy.new.self)
     (λ fault broken. (c.serve-served.new.responder, subst (λ i. fails i fault) c.new-input.ensures broken, c.tidy.ensures))
     c.serve-served.ensures.err

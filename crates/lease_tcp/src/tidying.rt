@@ -1,0 +1,53 @@
+//! How a system is tidied, by whatever does each part of it.
+ghost use Rattle.lease_tcp.specs.Tidying.{ReapsBelow, Tidies};
+
+/// What can tidy a system, part by part.
+pub trait Upkeep {
+    ghost use Rattle.std.specs.Prelude.{◌≡◌, ℕ};
+
+    // how many arenas it has
+    ghost arenas: { Self → ℕ };
+
+    // before and after, what may come of a drain
+    ghost may_drain: { Self → Self → Type 0 };
+
+    // and of reaping the arena of this number
+    ghost may_reap: { Self → ℕ → Self → Type 0 };
+
+    // and of a tick
+    ghost may_tick: { Self → Self → Type 0 };
+
+    /// How many arenas there are.
+    fn arenas(&self) -> u32
+        ensures { result ≡ arenas self.now };
+
+    /// Gives back what a CPU holds, as far as that goes.
+    fn drain(&mut self)
+        ensures { may_drain self.old self.new };
+
+    /// Gives back what an arena's caches hold in excess, by a bounded number of steps.
+    fn reap(&mut self, arena: u32)
+        ensures { may_reap self.old arena self.new };
+
+    /// Begins an interval in each depot.
+    fn tick(&mut self)
+        ensures { may_tick self.old self.new };
+}
+
+/// Drains, then reaps each arena, then ticks.
+pub fn tidy_by<U: Upkeep>(upkeep: &mut U)
+    ensures { Tidies U.arenas U.may_drain U.may_reap U.may_tick upkeep.old upkeep.new }
+{
+    upkeep.drain();
+    reap_each(upkeep);
+    upkeep.tick();
+}
+
+/// Reaps each arena. Children come before their sources: what they hand back can be reaped there.
+fn reap_each<U: Upkeep>(upkeep: &mut U)
+    ensures { ReapsBelow U.may_reap (U.arenas upkeep.old) upkeep.old upkeep.new }
+{
+    for arena in (0..upkeep.arenas()).rev() {
+        upkeep.reap(arena);
+    }
+}
