@@ -13,16 +13,17 @@ use Rattle.lease_machine.specs.Picture.{Picture, IsPicture}
 use Rattle.lease_machine.specs.Laws.{Runs, GrowsAlone}
 use Rattle.lease_machine.specs.RoomLaws.{NothingIsKept}
 use Rattle.lease_machine.proofs.LawProofs.{pictures_stay, grows_then, units_have_one_home, leases_are_apart, audit_is_told, audit_tells_leases, audit_is_whole}
-use Rattle.lease_machine.proofs.LawProofs.{lines_repeat, answers_agree, grants_fit, repeats_fit, first_lease_is_served, freed_is_whole, tick_and_reap_empty, grown_is_served, grows_keep_nothing}
+use Rattle.lease_machine.proofs.LawProofs.{lines_repeat, recent_repeat, answers_agree, grants_fit, repeats_fit, first_lease_is_served, freed_is_whole, tick_and_reap_empty, grown_is_served, grows_keep_nothing}
 use Rattle.stock_desk.proofs.LawProofs.{opened_unused}
+use Rattle.vmemd.proofs.MadeLemmas.{script_begins}
 use Rattle.vmemd.proofs.SpanLemmas.{given_owned, owns_on, range_serves, range_there, script_tree, span_there}
 use Rattle.vmemd.proofs.UncachedLemmas.{nothing_kept}
 use Rattle.vmemd.specs.Laws.{Script, ScriptsSplit, ScriptLeasesStayApart, ScriptUnitsHaveOneHome, ScriptAuditIsTold, ScriptAuditIsWhole}
-use Rattle.vmemd.specs.Laws.{ScriptLinesRepeat, ScriptAnswersAgree, ScriptGrantsFit, ScriptRepeatsFit, ScriptFirstLeaseIsServed, ScriptGrownIsServed, ScriptFreedIsWhole, ScriptReturnedIsWhole, ScriptEmptiedIsWhole}
+use Rattle.vmemd.specs.Laws.{ScriptLinesRepeat, ScriptRecentRepeat, ScriptAnswersAgree, ScriptGrantsFit, ScriptRepeatsFit, ScriptFirstLeaseIsServed, ScriptGrownIsServed, ScriptFreedIsWhole, ScriptReturnedIsWhole, ScriptEmptiedIsWhole}
 
 -- what a script leaves is a picture
 script_picture : (last : Picture) → Script last → IsPicture last
-script_picture last s = pictures_stay s.desk last s.frames s.text s.opened.picture s.serves
+script_picture last s = pictures_stay s.desk last s.frames s.text (script_begins last s) s.serves
 
 -- a run of frames is one of the first of them, and then one of the others
 run_splits : (old last : Picture) (front rest : List Frame) (text : List ℕ) → Runs old (front ++ rest) text last
@@ -59,6 +60,11 @@ script_lines_repeat id op first second frames a others =
     lines_repeat a.old a.mid a.late a.new id op a.again a.line first a.between a.repeat second frames (script_picture a.old a.answers.script)
     a.asks a.answers.step others a.goes_on a.asks_again a.answers_again
 
+pub script_recent_repeat : ScriptRecentRepeat
+script_recent_repeat id op first second frames a recent =
+    recent_repeat a.old a.mid a.late a.new id op a.again a.line first a.between a.repeat second frames (script_picture a.old a.answers.script)
+    a.asks a.answers.step a.goes_on recent a.asks_again a.answers_again
+
 pub script_answers_agree : ScriptAnswersAgree
 script_answers_agree id op first second frames a =
     answers_agree a.old a.mid a.late a.new id op a.again a.line first a.between a.repeat second frames (script_picture a.old a.answers.script)
@@ -83,9 +89,9 @@ only_grows (Err fault ∷ frames) old new text (others, same, run) alone kept = 
 
 pub script_first_lease : ScriptFirstLeaseIsServed
 script_first_lease start mid new s hello greeting lease text h id l alone is_hello greets asks answers fits =
-    let begun = only_grows s.frames s.desk start s.text s.serves alone (opened_unused s.made s.desk s.opened.opened) in
+    let begun = only_grows s.frames s.desk start s.text s.serves alone (opened_unused s.made s.desk s.opened) in
     let there = span_there start s l fits in
-    first_lease_is_served start mid new hello greeting lease text h id l fits.3.arena there.space (script_picture start s) begun.0 (ap (λ (b : BookState). b.accounts) begun.1 ∙ s.opened.opened.book.accounts)
+    first_lease_is_served start mid new hello greeting lease text h id l fits.3.arena there.space (script_picture start s) begun.0 (ap (λ (b : BookState). b.accounts) begun.1 ∙ s.opened.book.accounts)
     there.names is_hello greets asks answers there.span fits.3.base there.owns there.serves
 
 pub script_grown_served : ScriptGrownIsServed

@@ -1,6 +1,7 @@
 pub mod OpeningLemmas
 pub mod SetupLemmas
 pub mod RunLemmas
+pub mod MadeLemmas
 pub mod SpanLemmas
 pub mod UncachedLemmas
 pub mod LawLemmas

@@ -20,8 +20,10 @@ use Rattle.lease_machine.proofs.LawProofs.{runs_keep_rules, grants_stay_apart, c
 use Rattle.vmemd.specs.declared.faults.ScriptFault.TheVariants.{Setup, Read, Write, Memory}
 use Rattle.vmemd.specs.Scripts.{Makes, OpensDesk}
 use Rattle.vmemd.specs.Settings.{TakesSetupLine}
-use Rattle.vmemd.specs.Desks.{IsDeskOf, no_arenas}
+use Rattle.stock_desk.specs.Openings.{IsOpenedFrom}
+use Rattle.vmemd.specs.Desks.{no_arenas}
 use Rattle.vmemd.specs.Laws.{Script}
+use Rattle.vmemd.proofs.MadeLemmas.{script_begins}
 use Rattle.vmemd.specs.RuleLaws.{EndsAreScripts, FailsAreScripts, IsWrittenInPart, ScriptKeepsRules, ScriptClientsGetReplies, ScriptGrantsStayApart}
 
 pub ends_are_scripts : EndsAreScripts
@@ -51,7 +53,7 @@ frames_on lines more =
 
 -- a desk that was opened answered the first frames of all lines
 in_part : (part lines input all : List ℕ) (desk last : Picture) (frames later : List Frame) (front unwritten : List ℕ) (before after : Option (List ℕ))
-    → (opens : OpensDesk TakesSetupLine IsDeskOf no_arenas part lines desk) → input ≡ flat_map with_line_feed opens.setup.lines ++ all → frames_of all ≡ frames ++ later
+    → (opens : OpensDesk TakesSetupLine IsOpenedFrom no_arenas part lines desk) → input ≡ flat_map with_line_feed opens.setup.lines ++ all → frames_of all ≡ frames ++ later
     → Runs desk frames (front ++ unwritten) last → Appends before after front → IsWrittenInPart input before after
 in_part part lines input all desk last frames later front unwritten before after opens split is serves written = record {
   last = last;
@@ -94,7 +96,7 @@ fails_are_scripts input left before after Memory (inr (lines, desk, opens, (serv
     inr (in_part input lines input lines desk last served later writes.0 [] before after opens opens.setup.split split (whole desk last served writes.0 writes.1) writes.2)
 
 pub script_keeps_rules : ScriptKeepsRules
-script_keeps_rules last s = runs_keep_rules s.desk last s.frames s.text s.opened.picture s.serves
+script_keeps_rules last s = runs_keep_rules s.desk last s.frames s.text (script_begins last s) s.serves
 
 -- the arenas of a setup have names, as setup lines have them
 taken_named : (old new : SetupState) (setting : SetupLine) → IsSetupLine setting → TakesSetupLine old setting new → AreNamed old.arenas → AreNamed new.arenas
@@ -114,16 +116,16 @@ made_named (line ∷ lines) old new (setting, mid, read, takes, rest) named =
 desk_named : (last : Picture) (s : Script last) → AreNamed s.desk.tree
 desk_named last s =
     let none : AreNamed [] = (λ k d lt. absurd (omega (arith, lt))) in
-    subst AreNamed (sym s.opened.opened.tree) (made_named s.setup no_arenas s.made s.makes none)
+    subst AreNamed (sym s.opened.tree) (made_named s.setup no_arenas s.made s.makes none)
 
 pub script_clients_replies : ScriptClientsGetReplies
 script_clients_replies old new l line text a read =
     let s = a.script in
-    let is = pictures_stay s.desk old s.frames s.text s.opened.picture s.serves in
+    let is = pictures_stay s.desk old s.frames s.text (script_begins old s) s.serves in
     let tree = (setup_only_grows s.desk old s.frames s.text s.serves).tree in
     clients_get_replies old new l line text is (subst AreNamed (sym tree) (desk_named old s)) read a.step
 
 pub script_grants_apart : ScriptGrantsStayApart
 script_grants_apart old s g h two other =
-    subst (λ (xs : List TreeArena). GrantsApart xs g h) s.opened.opened.tree
-    (grants_stay_apart s.desk old s.frames s.text g h s.opened.picture s.opened.opened.book.accounts (desk_named old s) s.serves two other)
+    subst (λ (xs : List TreeArena). GrantsApart xs g h) s.opened.tree
+    (grants_stay_apart s.desk old s.frames s.text g h (script_begins old s) s.opened.book.accounts (desk_named old s) s.serves two other)

@@ -21,7 +21,7 @@ use Rattle.lease_proto.specs.Requests.{demand_of}
 use Rattle.lease_machine.specs.Picture.{Picture, SetupGrows}
 use Rattle.lease_machine.specs.RoomLaws.{NamesArena}
 use Rattle.lease_machine.proofs.LawProofs.{setup_only_grows, grown_stays}
-use Rattle.vmemd.specs.Desks.{IsDeskOf}
+use Rattle.stock_desk.specs.Openings.{IsOpenedFrom}
 use Rattle.vmemd.specs.Laws.{Script, IsGiven, FitsInRange, FitsInSpan}
 
 -- a span that stands somewhere is among those of its arena
@@ -60,20 +60,20 @@ owns_on old new index range on is =
     }
 
 -- a desk's arenas own the spans of its setup
-setup_owned : (made : SetupState) (desk : Picture) → IsDeskOf made desk → (arena : TreeArena) (span : OwnedSpan) → Contains made.spans span → slice_get made.arenas span.arena ≡ Some arena → OwnsRange desk span.arena span.range
+setup_owned : (made : SetupState) (desk : Picture) → IsOpenedFrom made desk → (arena : TreeArena) (span : OwnedSpan) → Contains made.spans span → slice_get made.arenas span.arena ≡ Some arena → OwnsRange desk span.arena span.range
 setup_owned made desk is arena span has here =
     let k : ℕ = span.arena in
     let planned : slice_get (plans_of desk.spaces) k ≡ Some (plan_for arena) =
-    ap (λ (ps : List SpacePlan). slice_get ps k) is.opened.stock.plans ∙ slice_get_mapped plan_for made.arenas k arena here in
+    ap (λ (ps : List SpacePlan). slice_get ps k) is.stock.plans ∙ slice_get_mapped plan_for made.arenas k arena here in
     let first = mapped plan_of desk.spaces k (plan_for arena) planned in
-    let owns_first : first.0.arena.owned ≡ deeds_owned k made.spans (numbered_deeds made.spans) = ap (λ (a : ArenaState). a.owned) (is.opened.stock.unused k first.0 first.1).arena in
+    let owns_first : first.0.arena.owned ≡ deeds_owned k made.spans (numbered_deeds made.spans) = ap (λ (a : ArenaState). a.owned) (is.stock.unused k first.0 first.1).arena in
     let at : slice_get made.spans has.0 ≡ Some span = slice_get-get_or made.spans has.0 span has.1 ∙ ap Some has.2 in
     let own = span_owned k [] made.spans has.0 span at refl in
     let stands : slice_get first.0.arena.owned own.0 ≡ Some own.1 = ap (λ (os : List Holding). slice_get os own.0) owns_first ∙ own.2 in
     record { space = first.0; here = first.1; span = own.1; owns = contains_at first.0.arena.owned own.0 own.1 stands; units = own.3 }
 
 pub script_tree : (last : Picture) (s : Script last) → last.tree ≡ s.made.arenas
-script_tree last s = (setup_only_grows s.desk last s.frames s.text s.serves).tree ∙ s.opened.opened.tree
+script_tree last s = (setup_only_grows s.desk last s.frames s.text s.serves).tree ∙ s.opened.tree
 
 -- what an arena was given it owns
 pub given_owned : (last : Picture) (s : Script last) (index : ℕ) (range : Extent) (arena : TreeArena) → slice_get s.made.arenas index ≡ Some arena → IsGiven last s index range → OwnsRange last index range

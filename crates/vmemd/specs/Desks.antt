@@ -1,7 +1,6 @@
 -- What a script writes that begins with no arena, and is answered by a lease desk.
 use Rattle.std.specs.Prelude.{ℕ, List, [], Option}
 use Rattle.arena_tree.specs.Settings.{SetupState}
-use Rattle.lease_machine.specs.Picture.{Picture, IsPicture}
 use Rattle.lease_machine.specs.Machine.{LeaseStep}
 use Rattle.stock_desk.specs.Openings.{IsOpenedFrom}
 use Rattle.vmemd.specs.Scripts.{RunsWhole, RunFails}
@@ -12,19 +11,14 @@ use Rattle.vmemd.specs.declared.faults.ScriptFault.{ScriptFault}
 abbrev pub no_arenas : SetupState
 no_arenas = record { arenas = []; spans = [] }
 
--- the desk that a setup opens, on which no line was answered yet
-pub record IsDeskOf (setup : SetupState) (desk : Picture) : Type 0 where
-  pub opened : IsOpenedFrom setup desk
-  pub picture : IsPicture desk
-
 -- A script is answered to its end.
 abbrev pub ScriptEnds : List ℕ → Option (List ℕ) → Option (List ℕ) → Type 0
 ScriptEnds input before after =
-    RunsWhole TakesSetupLine IsDeskOf LeaseStep no_arenas input before after
+    RunsWhole TakesSetupLine IsOpenedFrom LeaseStep no_arenas input before after
 
 -- A script ends early.
 abbrev pub ScriptFails : Option (List ℕ) → Option (List ℕ) → Option (List ℕ) → Option (List ℕ)
     → ScriptFault → Type 0
 ScriptFails unread left before after fault =
-    RunFails TakesSetupLine RefusesSetupLine CanTakeSetupLine IsDeskOf LeaseStep no_arenas unread
-    left before after fault
+    RunFails TakesSetupLine RefusesSetupLine CanTakeSetupLine IsOpenedFrom LeaseStep no_arenas
+    unread left before after fault

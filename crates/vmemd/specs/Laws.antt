@@ -33,18 +33,19 @@ use Rattle.lease_proto.specs.Operators.{served_of}
 use Rattle.lease_proto.specs.Reports.{ok_text}
 use Rattle.lease_proto.specs.Requests.{demand_of}
 use Rattle.lease_call.specs.Growing.{range_asked}
-use Rattle.lease_machine.specs.Picture.{Picture}
+use Rattle.lease_machine.specs.Picture.{Picture, IsPicture}
 use Rattle.lease_machine.specs.Operators.{sums_in, audit_texts_of}
 use Rattle.lease_machine.specs.Machine.{LeaseStep}
 use Rattle.lease_machine.specs.Laws.{Runs, UnitsAtHome, GrowsAlone}
 use Rattle.lease_machine.specs.AnswerLaws.{reply_bytes, IsUnkept, IsRequestLine, AreOfOthers}
-use Rattle.lease_machine.specs.AnswerLaws.{NamesRequest, FitsLine}
+use Rattle.lease_machine.specs.AnswerLaws.{IsRecent, NamesRequest, FitsLine}
 use Rattle.lease_machine.specs.RoomLaws.{NothingIsKept, refusal_to}
 use Rattle.lease_machine.specs.GrowLaws.{Grew}
 use Rattle.lease_machine.specs.EmptyingLaws.{CpuHasNoRound}
+use Rattle.stock_desk.specs.Openings.{IsOpenedFrom}
 use Rattle.vmemd.specs.Scripts.{Makes}
 use Rattle.vmemd.specs.Settings.{TakesSetupLine}
-use Rattle.vmemd.specs.Desks.{IsDeskOf, no_arenas}
+use Rattle.vmemd.specs.Desks.{no_arenas}
 
 -- setup lines that are taken, the desk that what they make opens, and then the frames of lines with
 -- what is written for them
@@ -55,8 +56,13 @@ pub record Script (last : Picture) : Type 0 where
   pub frames : List Frame
   pub text : List ℕ
   pub makes : Makes TakesSetupLine no_arenas setup made
-  pub opened : IsDeskOf made desk
+  pub opened : IsOpenedFrom made desk
   pub serves : Runs desk frames text last
+
+-- the desk that setup lines open, on which no line was answered yet, is a picture
+abbrev pub SetupsOpenPictures : Type 0
+SetupsOpenPictures = (lines : List (List ℕ)) (made : SetupState) (desk : Picture)
+    → Makes TakesSetupLine no_arenas lines made → IsOpenedFrom made desk → IsPicture desk
 
 -- a script as far as a line, and then that line with what is written for it
 pub record AnswersNext (old : Picture) (line text : List ℕ) (new : Picture) : Type 0 where
@@ -117,6 +123,12 @@ pub record AsksTwice (id : RequestId) (op : Op) (first : List ℕ) (frames : Lis
 abbrev pub ScriptLinesRepeat : Type 0
 ScriptLinesRepeat = (id : RequestId) (op : Op) (first second : List ℕ) (frames : List Frame)
     → (a : AsksTwice id op first frames second) → AreOfOthers id.client frames
+    → ((second ≡ first) × (a.new ≡ a.late)) ⊎ IsUnkept first
+
+-- So it is after any lines, its own client's among them, while its number is recent.
+abbrev pub ScriptRecentRepeat : Type 0
+ScriptRecentRepeat = (id : RequestId) (op : Op) (first second : List ℕ) (frames : List Frame)
+    → (a : AsksTwice id op first frames second) → IsRecent a.late id
     → ((second ≡ first) × (a.new ≡ a.late)) ⊎ IsUnkept first
 
 -- After any lines, its own client's among them, both answers are the same bytes where both settle

@@ -65,8 +65,8 @@ ScriptClientsGetReplies = (old new : Picture) (l : Line) (line text : List ℕ)
 
 -- After any lines of a script, one is answered `granted`; then come lines of which none ends that
 -- lease, and then a line of another request is answered `granted`. Each of the two is new, or its
--- client asks by the first protocol. What they were granted doesn't overlap, where the arenas that
--- they name have one top in the setup.
+-- client asks by the first protocol or while its lease stands. What they were granted doesn't
+-- overlap, where the arenas that they name have one top in the setup.
 abbrev pub ScriptGrantsStayApart : Type 0
 ScriptGrantsStayApart = (old : Picture) (s : Script old) (g h : Granted) → GrantsTwice old g h
     → h.id ≢ g.id → GrantsApart s.made.arenas g h

@@ -4,7 +4,7 @@ ghost use Rattle.vmemd.specs.Laws.{ScriptAuditIsTold, ScriptAuditIsWhole};
 ghost use Rattle.vmemd.specs.Laws.{ScriptLinesRepeat, ScriptAnswersAgree, ScriptGrantsFit};
 ghost use Rattle.vmemd.specs.Laws.{ScriptRepeatsFit, ScriptFirstLeaseIsServed, ScriptFreedIsWhole};
 ghost use Rattle.vmemd.specs.Laws.{ScriptGrownIsServed, ScriptReturnedIsWhole};
-ghost use Rattle.vmemd.specs.Laws.{ScriptEmptiedIsWhole};
+ghost use Rattle.vmemd.specs.Laws.{ScriptEmptiedIsWhole, SetupsOpenPictures, ScriptRecentRepeat};
 ghost use Rattle.vmemd.specs.RuleLaws.{EndsAreScripts, FailsAreScripts, ScriptKeepsRules};
 ghost use Rattle.vmemd.specs.RuleLaws.{ScriptGrantsStayApart, ScriptClientsGetReplies};
 
@@ -20,10 +20,11 @@ pub fn rule_laws()
     ensures apart { ScriptGrantsStayApart }
 {}
 
-/// Whatever setup lines are taken, and whatever lines the desk that they open answers then: after
-/// each of them no two leases overlap whose arenas have one top, each unit is in one home, and an
-/// audit tells all of them.
+/// Whatever setup lines are taken, the desk that they open is a picture; and whatever lines it
+/// answers then: after each of them no two leases overlap whose arenas have one top, each unit is
+/// in one home, and an audit tells all of them.
 pub fn script_laws()
+    ensures opened { SetupsOpenPictures }
     ensures split { ScriptsSplit }
     ensures apart { ScriptLeasesStayApart }
     ensures homes { ScriptUnitsHaveOneHome }
@@ -34,6 +35,7 @@ pub fn script_laws()
 /// What a script answers to requests, in bytes: to one that comes again, and to leases.
 pub fn answer_laws()
     ensures repeats { ScriptLinesRepeat }
+    ensures recent { ScriptRecentRepeat }
     ensures agree { ScriptAnswersAgree }
     ensures fit { ScriptGrantsFit }
     ensures repeats_fit { ScriptRepeatsFit }

@@ -91,7 +91,10 @@ impl<N: Name, R: Wait> Grower for RunningRoots<'_, N, R> {
     }
 
     fn grow(&mut self, arena: u32, range: Range) -> Result<(), GrowFault> {
-        self.system.grow(self.rt, arena, range)
+        match self.system.grow(self.rt, arena, range) {
+            Ok(_) => Ok(()),
+            Err(fault) => Err(fault),
+        }
     }
 }
 

@@ -228,6 +228,22 @@ fn a_setup_line_may_be_so_long(rt: HostRuntime) -> Result<(), Fail> {
     Ok(())
 }
 
+/// A setup line of 300 bytes comes in pieces of eight, so that the 32nd read brings its 256th byte.
+/// It is refused then, and a read behind that, which would fail, isn't made.
+#[test]
+fn a_long_setup_line_ends_before_a_later_fault(rt: HostRuntime) {
+    let mut input = [b'a'; 300];
+    input[..5].copy_from_slice(b"root ");
+    let word = ConfigFault::Line(LineFault::TooLong);
+    let long = ScriptFault::Setup { line: 1, word };
+    for at in 1..=40 {
+        let (ran, output) = run(rt.alloc(), &input, 8, Mishap::Fails { at }, Mishap::None);
+        let wanted = if at <= 32 { ScriptFault::Read } else { long };
+        assert_eq!(rt; ran, Err(wanted), "at {at}");
+        assert_eq!(rt; output.len(), 0, "at {at}");
+    }
+}
+
 /// So many lines that each make an arena.
 fn arenas(alloc: Global, count: u64) -> Result<Vec<u8>, AllocError> {
     let mut input = Vec::new(alloc);

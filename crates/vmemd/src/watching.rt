@@ -1,7 +1,9 @@
 //! A server as who watches it over HTTP sees it.
-ghost use Rattle.std.specs.Prelude.{◌≤◌};
+ghost use Rattle.std.specs.Prelude.{◌≡◌, ◌≤◌};
+ghost use Rattle.lease_watch.specs.Metrics.{version_text};
 ghost use Rattle.vmemd.specs.Running.{Attends, BothWork, console_streams};
-ghost use Rattle.vmemd.specs.declared.commands.TheConstants.{MOST_WORKERS};
+ghost use Rattle.vmemd.specs.declared.commands.TheConstants.{MOST_WORKERS, VERSION};
+ghost use Rattle.vmemd.specs.declared.watching.TheConstants.{NUMBERS};
 
 use crate::attending::Attended;
 use crate::hosts::Host;
@@ -22,12 +24,17 @@ use std::sync::atomic::{AtomicBool, Ordering};
 use std::thread;
 use std::time::{Clock, Instant};
 
-/// The version, as `VERSION` has it.
+/// The version's numbers.
 pub(crate) const NUMBERS: Version = Version {
     major: 0,
     minor: 1,
     patch: 0,
 };
+
+/// What `--version` tells is what who watches is told.
+pub fn version_law()
+    ensures { VERSION.now ≡ version_text NUMBERS }
+{}
 
 /// Where a server is watched, and the keys of the names of what asks.
 #[derive(Drop)]

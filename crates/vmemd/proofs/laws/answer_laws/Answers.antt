@@ -1,4 +1,4 @@
-use Rattle.vmemd.proofs.LawLemmas.{script_lines_repeat, script_answers_agree, script_grants_fit, script_repeats_fit, script_first_lease, script_grown_served, script_freed_whole, script_returned_whole}
+use Rattle.vmemd.proofs.LawLemmas.{script_lines_repeat, script_recent_repeat, script_answers_agree, script_grants_fit, script_repeats_fit, script_first_lease, script_grown_served, script_freed_whole, script_returned_whole}
 use Rattle.vmemd.proofs.laws.answer_laws.Goals as goal
 
 pub returns-clause-repeats : goal.returns-clause-repeats
@@ -24,3 +24,6 @@ returns-clause-returned c = script_returned_whole
 
 pub returns-clause-grown : goal.returns-clause-grown
 returns-clause-grown c = script_grown_served
+
+pub returns-clause-recent : goal.returns-clause-recent
+returns-clause-recent c = script_recent_repeat

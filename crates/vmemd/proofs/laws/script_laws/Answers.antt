@@ -1,5 +1,9 @@
 use Rattle.vmemd.proofs.LawLemmas.{scripts_split, script_leases_apart, script_units_one_home, script_audit_told, script_audit_whole}
+use Rattle.vmemd.proofs.MadeLemmas.{setups_open_pictures}
 use Rattle.vmemd.proofs.laws.script_laws.Goals as goal
+
+pub returns-clause-opened : goal.returns-clause-opened
+returns-clause-opened c = setups_open_pictures
 
 pub returns-clause-split : goal.returns-clause-split
 returns-clause-split c = scripts_split

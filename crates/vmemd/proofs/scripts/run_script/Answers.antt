@@ -3,7 +3,8 @@ use Rattle.std.proofs.lemmas.Result.{err_from_is_err_and}
 use Rattle.arena_tree.specs.Settings.{SetupState}
 use Rattle.lease_machine.specs.Machine.{LeaseStep}
 use Rattle.lease_server.specs.Watching.{inner_of, streams_of}
-use Rattle.vmemd.specs.Desks.{IsDeskOf, no_arenas}
+use Rattle.stock_desk.specs.Openings.{IsOpenedFrom}
+use Rattle.vmemd.specs.Desks.{no_arenas}
 use Rattle.vmemd.specs.Settings.{TakesSetupLine, RefusesSetupLine, CanTakeSetupLine}
 use Rattle.vmemd.specs.Setups.{SetupFails, TakesSetup}
 use Rattle.vmemd.proofs.RunLemmas.{setup_fails, open_fails, run_whole, serving_fails}
@@ -15,7 +16,7 @@ returns-in_err-input-clause-err g c =
     let unread = g.R.Read.remaining (inner_of c.args.reader.now) in
     let left = g.R.Read.remaining (inner_of c.take_setup.new.reader) in
     let fails = subst (λ (s : SetupState). SetupFails TakesSetupLine RefusesSetupLine CanTakeSetupLine s unread left c.take_setup.new.setup c.in_err-input.field-0.0) c.new-setup.ensures c.in_err-input.ensures.err in
-    rw (p.1, p.2) (setup_fails TakesSetupLine RefusesSetupLine CanTakeSetupLine IsDeskOf LeaseStep no_arenas c.take_setup.new.setup unread left
+    rw (p.1, p.2) (setup_fails TakesSetupLine RefusesSetupLine CanTakeSetupLine IsOpenedFrom LeaseStep no_arenas c.take_setup.new.setup unread left
     (g.W.Write.contents (inner_of c.args.writer.now)) c.in_err-input.field-0.0 fails)
 
 pub returns-in_err-desk-clause-err : goal.returns-in_err-desk-clause-err
@@ -24,17 +25,17 @@ returns-in_err-desk-clause-err g c =
     let unread = g.R.Read.remaining (inner_of c.args.reader.now) in
     let mid = g.R.Read.remaining (inner_of c.take_setup.new.reader) in
     let taken = subst (λ (s : SetupState). TakesSetup TakesSetupLine s unread mid c.take_setup.new.setup c.in_ok-input.input) c.new-setup.ensures c.in_ok-input.ensures.ok in
-    rw (p.1, p.2) (open_fails TakesSetupLine RefusesSetupLine CanTakeSetupLine IsDeskOf LeaseStep no_arenas c.take_setup.new.setup unread mid
+    rw (p.1, p.2) (open_fails TakesSetupLine RefusesSetupLine CanTakeSetupLine IsOpenedFrom LeaseStep no_arenas c.take_setup.new.setup unread mid
     (g.W.Write.contents (inner_of c.args.writer.now)) c.in_ok-input.input taken)
 
 pub returns-in_err-served-clause-err : goal.returns-in_err-served-clause-err
 returns-in_err-served-clause-err g c =
-    let opened : IsDeskOf c.take_setup.new.setup c.in_ok-desk.desk = record { opened = c.in_ok-desk.ensures.opened; picture = c.in_ok-desk.ensures.picture } in
+    let opened : IsOpenedFrom c.take_setup.new.setup c.in_ok-desk.desk = c.in_ok-desk.ensures.opened in
     let p = err_from_is_err_and c.from_residual-in_err-served.result c.from_residual-in_err-served.ensures.1 in
     let unread = g.R.Read.remaining (inner_of c.args.reader.now) in
     let mid = g.R.Read.remaining (inner_of c.take_setup.new.reader) in
     let taken = subst (λ (s : SetupState). TakesSetup TakesSetupLine s unread mid c.take_setup.new.setup c.in_ok-input.input) c.new-setup.ensures c.in_ok-input.ensures.ok in
-    rw (p.1, p.2) (serving_fails TakesSetupLine RefusesSetupLine CanTakeSetupLine IsDeskOf LeaseStep no_arenas c.take_setup.new.setup c.in_ok-desk.desk c.serve-served.new.responder
+    rw (p.1, p.2) (serving_fails TakesSetupLine RefusesSetupLine CanTakeSetupLine IsOpenedFrom LeaseStep no_arenas c.take_setup.new.setup c.in_ok-desk.desk c.serve-served.new.responder
     unread c.in_ok-input.input
     (streams_of g.R.Read.remaining g.W.Write.contents c.take_setup.new.reader c.args.writer.now)
     (streams_of g.R.Read.remaining g.W.Write.contents c.serve-served.new.reader c.serve-served.new.writer)
@@ -42,10 +43,10 @@ returns-in_err-served-clause-err g c =
 
 pub returns-clause-ok : goal.returns-clause-ok
 returns-clause-ok g c =
-    let opened : IsDeskOf c.take_setup.new.setup c.in_ok-desk.desk = record { opened = c.in_ok-desk.ensures.opened; picture = c.in_ok-desk.ensures.picture } in
+    let opened : IsOpenedFrom c.take_setup.new.setup c.in_ok-desk.desk = c.in_ok-desk.ensures.opened in
     let unread = g.R.Read.remaining (inner_of c.args.reader.now) in
     let mid = g.R.Read.remaining (inner_of c.take_setup.new.reader) in
     let taken = subst (λ (s : SetupState). TakesSetup TakesSetupLine s unread mid c.take_setup.new.setup c.in_ok-input.input) c.new-setup.ensures c.in_ok-input.ensures.ok in
-    run_whole TakesSetupLine RefusesSetupLine CanTakeSetupLine IsDeskOf LeaseStep no_arenas c.take_setup.new.setup c.in_ok-desk.desk unread mid c.in_ok-input.input taken opened
+    run_whole TakesSetupLine RefusesSetupLine CanTakeSetupLine IsOpenedFrom LeaseStep no_arenas c.take_setup.new.setup c.in_ok-desk.desk unread mid c.in_ok-input.input taken opened
     c.serve-served.new.responder (g.W.Write.contents (inner_of c.args.writer.now)) (g.W.Write.contents (inner_of c.serve-served.new.writer))
     c.in_ok-served.ensures.ok.0
