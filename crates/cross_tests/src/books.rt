@@ -93,7 +93,10 @@ fn kept(rt: &impl Abort, reply: KeptReply) -> Told {
             assert_eq!(rt; arena, ARENA);
             Told::KeptGrant(base.get(), len.get())
         }
-        KeptReply::Released => Told::KeptRelease,
+        KeptReply::Released { arena, .. } => {
+            assert_eq!(rt; arena, ARENA);
+            Told::KeptRelease
+        }
         KeptReply::Refused(refusal) => Told::KeptRefusal(refusal),
     }
 }
@@ -191,9 +194,10 @@ fn lease_once(rt: &impl Abort, book: &mut Book<PlainDeed>, id: Id, bounds: Bound
 }
 
 fn release(rt: &impl Abort, book: &mut Book<PlainDeed>, id: Id, base: u64) -> Told {
-    match book.release(request_of(rt, id), ARENA, units_of(rt, base)) {
+    let (arena, at) = (ARENA, units_of(rt, base));
+    match book.release(request_of(rt, id), arena, at) {
         Ok((receipt, segment)) => {
-            assert_eq!(rt; receipt.reply(), KeptReply::Released);
+            assert_eq!(rt; receipt.reply(), KeptReply::Released { arena, base: at });
             assert_eq!(rt; close(segment).0, base);
             Told::Released
         }

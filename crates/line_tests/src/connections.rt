@@ -23,6 +23,8 @@ struct Counted {
 impl Worker for Counted {
     ghost may_reply = { λ old _ _ new. new.tidies ≡ old.tidies };
 
+    ghost may_pass = { λ old new. new ≡ old };
+
     ghost may_tidy = { λ old new. new.replies ≡ old.replies };
 
     fn reply(&mut self, line: &Line) -> Reply {
@@ -36,6 +38,8 @@ impl Worker for Counted {
             Line::Request(id, _) => Reply::Released(*id),
         }
     }
+
+    fn pass_over(&mut self) {}
 
     fn tidy(&mut self) {
         self.tidies = self.tidies.saturating_add(1);
@@ -161,11 +165,15 @@ struct Late<'a> {
 impl Worker for Late<'_> {
     ghost may_reply = { λ _ _ _ _. ⊤ };
 
+    ghost may_pass = { λ _ _. ⊤ };
+
     ghost may_tidy = { λ _ _. ⊤ };
 
     fn reply(&mut self, _line: &Line) -> Reply {
         Reply::Error(ErrorWord::NoArena)
     }
+
+    fn pass_over(&mut self) {}
 
     fn tidy(&mut self) {
         self.was_told = self.end.get();

@@ -18,8 +18,8 @@ fn leases_and_releases(rt: HostRuntime) {
     desk.close();
 }
 
-/// A root gets further ranges, which lie beside the others and don't merge with them. Each refusal in
-/// its order changes nothing.
+/// A root gets further ranges, which lie beside the others and don't merge with them. Each refusal
+/// in its order changes nothing.
 #[test]
 fn grows(rt: HostRuntime) {
     let mut desk = desk_of(&rt, "m", 0, 8, 4, Policy::Best);

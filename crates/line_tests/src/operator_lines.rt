@@ -56,7 +56,8 @@ fn a_resize_has_a_name_and_a_size(rt: HostRuntime) {
     refuses(&rt, b"cpu 64", LineFault::Number);
 }
 
-/// Whether the numbers are a range that a root may get is not for the line: it is read all the same.
+/// Whether the numbers are a range that a root may get is not for the line: it is read all the
+/// same.
 #[test]
 fn a_grow_has_a_name_a_base_and_a_length(rt: HostRuntime) {
     let last = 4611686018427387904;

@@ -20,7 +20,7 @@ use deed_core::Range;
 use deed_table::{Ground, Name};
 use lease_proto::{Line, Reply};
 use lease_terms::ArenaName;
-use lease_threads::{Cpu, OpenGate, RequestStopped, System};
+use lease_threads::{Cpu, OpenGate, RequestStopped, System, SystemSums};
 use std::alloc::AllocGlobal;
 use std::process::Abort;
 use std::sync::Wait;
@@ -120,7 +120,7 @@ fn made<N: Name, R: Abort + AllocGlobal>(rt: &R, ground: Ground, setup: Setup) -
 fn grow<N: Name, R: Abort + Wait>(rt: &R, system: &System<N>, arena: u32, base: u64, len: u64) {
     let range = Range::new(base, len).expect(rt, "a range");
     match system.grow(rt, arena, range) {
-        Ok(()) => {}
+        Ok(_) => {}
         Err(_) => panic!(rt; "no growth"),
     }
 }
@@ -140,10 +140,54 @@ fn shut<N: Name, R: Abort + Wait>(rt: &R, system: System<N>, wanted: &[(u64, u64
     }
 }
 
+// Reaps the arena with enough looks, by this CPU: so many units of slabs.
+fn reaps<N: Name, R: Abort + Wait>(
+    rt: &R,
+    system: &System<N>,
+    cpu: &mut Cpu<N>,
+    arena: u32,
+    units: u128,
+) {
+    assert!(rt; system.reap(rt, cpu, arena, 1024).units == units);
+}
+
+// Shuts the system, and gives its ranges.
+fn shut_into<N: Name, R: Abort + Wait>(rt: &R, system: System<N>) -> Vec<Range> {
+    match system.shut(rt) {
+        Ok(ranges) => ranges,
+        Err(halted) => stuck(rt, halted),
+    }
+}
+
 fn have(rt: &impl Abort, ranges: &[Range], wanted: &[(u64, u64)]) {
     assert!(rt; ranges.len() == wanted.len());
     for (range, (base, len)) in ranges.iter().zip(wanted) {
         assert!(rt; range.base() == *base && range.len() == *len);
+    }
+}
+
+// The arena's units: free, allocated, in slabs, in magazines of depots, and leased.
+fn are<N: Name, R: Abort + Wait>(rt: &R, system: &System<N>, arena: u32, wanted: [u128; 5]) {
+    let [free, allocated, slab, magazine, leased] = wanted;
+    let wanted = SystemSums {
+        free,
+        allocated,
+        slab,
+        magazine,
+        leased,
+    };
+    assert!(rt; system.sums(rt, arena) == Some(wanted), "other sums");
+}
+
+// Asks each line of one Cpu, and looks at its answer.
+fn ask_each<N: Name, R: Abort + Wait + AllocGlobal>(
+    rt: &R,
+    system: &System<N>,
+    cpu: &mut Cpu<N>,
+    rows: &[(&str, &str)],
+) {
+    for (text, wanted) in rows {
+        ask(rt, system, cpu, text, wanted);
     }
 }
 

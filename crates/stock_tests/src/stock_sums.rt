@@ -1,5 +1,6 @@
 //! The audits of two arenas, of which the second imports from the first, after a few events, with
-//! numbers counted by hand: without caches, and with slabs, a gap and tails, and a CPU's magazines.
+//! numbers counted by hand: without caches, and with slabs, a gap and tails, and a CPU's magazines;
+//! and what one thread's parts tell of the first.
 ghost use Rattle.std.specs.Prelude.{[], ◌∷◌};
 ghost use Rattle.std.specs.Option.{option_to_list};
 ghost use Rattle.stock.specs.Accounts.{Accounts, Frames};
@@ -7,8 +8,9 @@ ghost use Rattle.stock.specs.OwnCaches.{own_rounds};
 ghost use Rattle.stock_audit.specs.Outside.{outside, segments_out};
 
 use crate::stocks::{name, stock_of, two_arenas};
-use arena_tree::{NewChild, NewRoot, Setting, Setup};
+use arena_tree::{NewChild, NewRoot, Setting, Setup, Tree};
 use deed_core::{Deed, PlainDeed, Request, Route, Segment};
+use local_parts::{CpuCaches, Local};
 use std::alloc::Global;
 use std::process::Abort;
 use std::slice::from_ref;
@@ -298,6 +300,51 @@ fn sums_with_caches(rt: HostRuntime) {
     match cpu.close() {
         Ok(()) => {}
         Err(_) => panic!(rt; "a round of a CPU"),
+    }
+    end_reaped(&rt, stock);
+}
+
+/// One thread's parts tell these sums of the first arena, by counts and by parts. What is out
+/// counts as leased.
+fn parts_tell(
+    rt: &impl Abort,
+    stock: &mut Stock<PlainDeed>,
+    tree: &Tree,
+    alloc: Global,
+    out: &Segment<PlainDeed>,
+    free: u128,
+)
+    requires balances { Accounts stock.old (out.now ∷ []) }
+{
+    let Ok(mut cpu) = CpuCaches::new(alloc, stock, 3) else {
+        panic!(rt; "a CPU")
+    };
+    assert!(rt; stock.count() == 2);
+    let leased = u128::from(out.range().len());
+    let parts = Local {
+        stock,
+        cpu: &mut cpu,
+        tree,
+        alloc,
+        steps: 0,
+    };
+    assert_eq!(rt; parts.sums(0), sums(free, 0, leased, 0));
+    assert_eq!(rt; parts.audit_by_parts(0), sums(free, 0, leased, 0));
+    match cpu.close() {
+        Ok(()) => {}
+        Err(_) => panic!(rt; "a round"),
+    }
+}
+
+#[test]
+fn sums_of_one_threads_parts(rt: HostRuntime) {
+    let setup = two_arenas(&rt, rt.alloc());
+    let mut stock = stock_of(&rt, rt.alloc(), &setup);
+    let span = carve(&rt, &mut stock, 16);
+    parts_tell(&rt, &mut stock, setup.tree(), rt.alloc(), &span, 112);
+    match free(&rt, &mut stock, span) {
+        None => {}
+        Some(_) => panic!(rt; "a span"),
     }
     end_reaped(&rt, stock);
 }

@@ -1,11 +1,10 @@
 //! Worlds whose arenas get further spans while segments are out.
 use crate::worlds::{
-    all_summed, carves, child, ends, grows, hears, holds, lease, plain_root, release, replied,
-    restarts, root, same_sums, tells, world_of,
+    all_summed, carves, child, ends, greeted, grows, hears, holds, lease, no_fit, plain_root,
+    release, replied, root, said, tells, world_of,
 };
 use arena_tree::Setup;
 use deed_core::PlainDeed;
-use lease_proto::Op;
 use std::alloc::AllocGlobal;
 use std::process::Abort;
 use tag_arena::Policy;
@@ -58,28 +57,10 @@ const REPLIES: [&str; 5] = [
     "released 1 1 4",
 ];
 
-fn greeted<R: Abort + AllocGlobal>(rt: &R, world: &mut World<PlainDeed>) {
-    let looks = WorldEvent::Looks { cpu: 0, which: 0 };
-    all_summed(rt, world, &[restarts(0, 1), looks, hears(0, 0)]);
-}
-
-/// A line comes to the CPU, at the index of its request's number.
-fn said<R: Abort + AllocGlobal>(rt: &R, world: &mut World<PlainDeed>, which: usize, op: Op) {
-    let says = WorldEvent::Says { client: 0, op };
-    all_summed(rt, world, &[says, WorldEvent::Looks { cpu: 0, which }]);
-}
-
 /// The client asks for eight units of the child, which has none free.
 fn asked<R: Abort + AllocGlobal>(rt: &R, world: &mut World<PlainDeed>, which: usize) {
     said(rt, world, which, lease(rt, "c", 8));
     no_fit(rt, world, CHILD, 8);
-}
-
-/// So many units in one piece aren't free in the arena.
-fn no_fit(rt: &impl Abort, world: &mut World<PlainDeed>, arena: usize, size: u64) {
-    let refused = Outcome::Refused(EventFault::NoFit);
-    ends(rt, world, carves(0, arena, size), refused);
-    same_sums(rt, world);
 }
 
 /// The CPU imports eight units and leases them.

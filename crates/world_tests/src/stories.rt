@@ -1,6 +1,6 @@
 //! Worlds to which each event of a list happens.
 use crate::worlds::{
-    all_done, all_summed, carves, client, ends, hears, holds, lease, release, replied, restarts,
+    all_summed, carves, client, ends, greeted, hears, holds, lease, release, replied, restarts,
     root, tells, world_of,
 };
 use arena_tree::Setup;
@@ -174,13 +174,13 @@ fn race<R: Abort + AllocGlobal>(rt: &R, world: &mut World<PlainDeed>, op: Op) {
 
 /// Seven chunks are leased and released, more than the CPU's two magazines of three have room for:
 /// one goes to the depot. The CPU is drained, the depot and the slab are reaped, and all units are
-/// leased at once.
+/// leased at once. After each event all sums agree.
 #[test]
 fn rounds_story(rt: HostRuntime) {
     let mut setup = Setup::new(rt.alloc());
     root(&rt, &mut setup, "d", 0, 64, Policy::Instant, 5);
     let mut world = world_of(&rt, rt.alloc(), &setup, 1, 1);
-    greet(&rt, &mut world);
+    greeted(&rt, &mut world);
     for index in 0..7 {
         lease_chunk(&rt, &mut world, index);
     }
@@ -199,18 +199,6 @@ fn rounds_story(rt: HostRuntime) {
     world.end();
 }
 
-fn greet<R: Abort + AllocGlobal>(rt: &R, world: &mut World<PlainDeed>) {
-    let events = [
-        restarts(0, 1),
-        WorldEvent::Looks { cpu: 0, which: 0 },
-        WorldEvent::Hears {
-            client: 0,
-            which: 0,
-        },
-    ];
-    all_done(rt, world, &events);
-}
-
 /// The lease with this index is of the unit with this number: of the first chunk of a new slab, or
 /// the next chunk of it.
 fn lease_chunk<R: Abort + AllocGlobal>(rt: &R, world: &mut World<PlainDeed>, index: usize) {
@@ -221,7 +209,7 @@ fn lease_chunk<R: Abort + AllocGlobal>(rt: &R, world: &mut World<PlainDeed>, ind
         WorldEvent::Says { client: 0, op },
         WorldEvent::Looks { cpu, which },
     ];
-    all_done(rt, world, &asked);
+    all_summed(rt, world, &asked);
     let none = Outcome::NotEnabled;
     ends(rt, world, WorldEvent::Pops { cpu, arena, cache }, none);
     let refused = Outcome::Refused(EventFault::NoneFull);
@@ -231,11 +219,11 @@ fn lease_chunk<R: Abort + AllocGlobal>(rt: &R, world: &mut World<PlainDeed>, ind
     if index == 0 {
         ends(rt, world, takes, none);
         let adds = WorldEvent::SlabAdds { cpu, arena, cache };
-        all_done(rt, world, &[carves(cpu, arena, 16), adds]);
+        all_summed(rt, world, &[carves(cpu, arena, 16), adds]);
     } else {
-        all_done(rt, world, &[takes]);
+        all_summed(rt, world, &[takes]);
     }
-    all_done(rt, world, &[WorldEvent::Settles { cpu }, hears(0, which)]);
+    all_summed(rt, world, &[WorldEvent::Settles { cpu }, hears(0, which)]);
 }
 
 /// The unit with this number becomes a round, the last in a magazine of its own: the two that the
@@ -249,7 +237,7 @@ fn release_chunk<R: Abort + AllocGlobal>(rt: &R, world: &mut World<PlainDeed>, i
         WorldEvent::Looks { cpu, which },
         WorldEvent::Releases { cpu },
     ];
-    all_done(rt, world, &events);
+    all_summed(rt, world, &events);
     if index == 6 {
         ends(rt, world, WorldEvent::Pushes { cpu }, Outcome::NotEnabled);
         let refused = Outcome::Refused(EventFault::NoneEmpty);
@@ -259,14 +247,9 @@ fn release_chunk<R: Abort + AllocGlobal>(rt: &R, world: &mut World<PlainDeed>, i
             WorldEvent::SwapsEmpty { cpu, arena, cache },
             refused,
         );
-        ends(
-            rt,
-            world,
-            WorldEvent::SwapsFresh { cpu, arena, cache },
-            Outcome::Done,
-        );
+        all_summed(rt, world, &[WorldEvent::SwapsFresh { cpu, arena, cache }]);
     }
-    all_done(
+    all_summed(
         rt,
         world,
         &[
@@ -284,7 +267,7 @@ fn drained<R: Abort + AllocGlobal>(rt: &R, world: &mut World<PlainDeed>) {
             WorldEvent::Pops { cpu, arena, cache },
             WorldEvent::SlabPuts { cpu },
         ];
-        all_done(rt, world, &events);
+        all_summed(rt, world, &events);
     }
     ends(
         rt,
@@ -305,13 +288,13 @@ fn reaped<R: Abort + AllocGlobal>(rt: &R, world: &mut World<PlainDeed>) {
         none,
     );
     ends(rt, world, WorldEvent::SlabReaps { cpu, arena, cache }, none);
-    ends(rt, world, WorldEvent::Ticks { arena, cache }, Outcome::Done);
+    all_summed(rt, world, &[WorldEvent::Ticks { arena, cache }]);
     for _ in 0..3 {
         let events = [
             WorldEvent::DepotReaps { cpu, arena, cache },
             WorldEvent::SlabPuts { cpu },
         ];
-        all_done(rt, world, &events);
+        all_summed(rt, world, &events);
     }
     ends(
         rt,
@@ -323,7 +306,7 @@ fn reaped<R: Abort + AllocGlobal>(rt: &R, world: &mut World<PlainDeed>) {
         WorldEvent::SlabReaps { cpu, arena, cache },
         WorldEvent::Frees { cpu },
     ];
-    all_done(rt, world, &events);
+    all_summed(rt, world, &events);
 }
 
 fn all_leased<R: Abort + AllocGlobal>(rt: &R, world: &mut World<PlainDeed>) {
@@ -342,5 +325,5 @@ fn all_leased<R: Abort + AllocGlobal>(rt: &R, world: &mut World<PlainDeed>) {
             which: 15,
         },
     ];
-    all_done(rt, world, &events);
+    all_summed(rt, world, &events);
 }

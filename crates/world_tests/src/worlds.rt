@@ -10,7 +10,7 @@ use std::alloc::{AllocGlobal, Global};
 use std::process::Abort;
 use stock_audit::ArenaSums;
 use tag_arena::Policy;
-use world_core::{Outcome, World, WorldEvent};
+use world_core::{EventFault, Outcome, World, WorldEvent};
 
 /// The units of one arena: free, in slabs, in magazines, exported, leased, in hands.
 pub(crate) type Counts = [u128; 6];
@@ -219,6 +219,30 @@ pub(crate) fn all_summed<R: Abort + AllocGlobal>(
         all_done(rt, world, &[*event]);
         same_sums(rt, world);
     }
+}
+
+/// The first client's first hello is answered by the first CPU.
+pub(crate) fn greeted<R: Abort + AllocGlobal>(rt: &R, world: &mut World<PlainDeed>) {
+    let looks = WorldEvent::Looks { cpu: 0, which: 0 };
+    all_summed(rt, world, &[restarts(0, 1), looks, hears(0, 0)]);
+}
+
+/// The first client's line comes to the first CPU, at the index of its request's number.
+pub(crate) fn said<R: Abort + AllocGlobal>(
+    rt: &R,
+    world: &mut World<PlainDeed>,
+    which: usize,
+    op: Op,
+) {
+    let says = WorldEvent::Says { client: 0, op };
+    all_summed(rt, world, &[says, WorldEvent::Looks { cpu: 0, which }]);
+}
+
+/// So many units in one piece aren't free in the arena.
+pub(crate) fn no_fit(rt: &impl Abort, world: &mut World<PlainDeed>, arena: usize, size: u64) {
+    let refused = Outcome::Refused(EventFault::NoFit);
+    ends(rt, world, carves(0, arena, size), refused);
+    same_sums(rt, world);
 }
 
 /// The sums of the arena at the index are these.

@@ -36,8 +36,8 @@ fn judge(rt: &impl Abort, arena: &Arena<PlainDeed>, rows: &[(u64, u64, Result<()
     }
 }
 
-/// A range beside the spans, in whole quanta, is admitted. Of one that is neither it is told that it
-/// overlaps.
+/// A range beside the spans, in whole quanta, is admitted. Of one that is neither it is told that
+/// it overlaps.
 #[test]
 fn ranges_admitted(rt: HostRuntime) {
     let rows = [
@@ -79,8 +79,8 @@ fn ranges_beside_an_import(rt: HostRuntime) {
     close(&rt, source);
 }
 
-/// What comes while a segment is out is a span of its own: it serves at once, nothing is carved from
-/// two, and it ends as the root that it was opened as.
+/// What comes while a segment is out is a span of its own: it serves at once, nothing is carved
+/// from two, and it ends as the root that it was opened as.
 fn grow_in_use(rt: &(impl Abort + AllocGlobal), policy: Policy) {
     let (eight, twelve) = (Request::plain(8), Request::plain(12));
     let mut arena = Arena::new(rt.alloc(), 1, 1, policy);

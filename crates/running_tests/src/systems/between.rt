@@ -28,6 +28,8 @@ struct Between<'a, N: Name, R: Abort + Wait + AllocGlobal> {
 impl<N: Name, R: Abort + Wait + AllocGlobal> Gate for Between<'_, N, R> {
     ghost may_stop = { λ _ _. ⊥ };
 
+    ghost passed = { λ _ _. Unit {0} };
+
     fn pass(&self, _step: &NextStep) -> Pass {
         let mut other = self.other.lock(self.rt);
         let asked = self.asked.load(Ordering::SeqCst);

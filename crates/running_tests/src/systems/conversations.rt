@@ -2,7 +2,7 @@
 //! they are answered, the same as of a script.
 ghost use Rattle.std.specs.Prelude.{◌≡◌};
 
-use super::{ask, cpu, made, retire, stuck};
+use super::{ask, ask_each, cpu, made, retire, stuck};
 use arena_tree::{NewChild, NewRoot, Setting, Setup};
 use deed_table::{Ground, Name};
 use lease_proto::{
@@ -373,9 +373,7 @@ fn talked<N: Name, R: Abort + Wait + AllocGlobal>(
 {
     let system: System<N> = made(rt, ground, setup);
     let mut one = cpu(rt, &system, 0);
-    for (text, wanted) in rows {
-        ask(rt, &system, &mut one, text, wanted);
-    }
+    ask_each(rt, &system, &mut one, rows);
     end(rt, system, one);
 }
 

@@ -1,7 +1,7 @@
 //! Requests that a gate holds or stops.
 ghost use Rattle.std.specs.Prelude.{◌≡◌};
 
-use super::{ask, child, cpu, line, made, retire, root, same, shut, stuck};
+use super::{ask, ask_each, child, cpu, line, made, reaps, retire, root, same, shut, stuck};
 use arena_tree::Setup;
 use deed_table::{Ground, Name};
 use lease_threads::{Cpu, EventName, Gate, NextStep, Pass, RequestStopped, System};
@@ -30,6 +30,8 @@ impl<R: Clock> Gate for Hold<'_, R> {
     ghost use Rattle.locked_parts.specs.declared.gates.EventName.TheVariants.{Settle};
 
     ghost may_stop = { λ _ step. step.event ≡ Settle };
+
+    ghost passed = { λ _ _. Unit {0} };
 
     fn pass(&self, step: &NextStep) -> Pass {
         if step.event != EventName::Settle {
@@ -152,9 +154,11 @@ fn second<N: Name, R: Abort + Wait + Clock + AllocGlobal>(
 struct StopAt(u64);
 
 impl Gate for StopAt {
-    ghost use Rattle.std.specs.Prelude.{◌≡◌};
+    ghost use Rattle.std.specs.Prelude.{◌≡◌, ◌≢◌};
 
     ghost may_stop = { λ g step. step.turn ≡ g.0 };
+
+    ghost passed = { λ g step. step.turn ≢ g.0 };
 
     fn pass(&self, step: &NextStep) -> Pass {
         if step.turn == self.0 {
@@ -321,9 +325,7 @@ fn stop_at<N: Name, R: Abort + Wait + AllocGlobal>(
 {
     let system: System<N> = made(rt, ground, setup);
     let mut one = cpu(rt, &system, 0);
-    for (text, wanted) in row.before {
-        ask(rt, &system, &mut one, text, wanted);
-    }
+    ask_each(rt, &system, &mut one, row.before);
     let held = row.held.get(turn).expect(rt, "a step");
     stop(rt, &system, &mut one, row.text, turn as u64, *held);
     let (text, wanted) = row.then;
@@ -357,7 +359,7 @@ fn placed_first<N: Name, R: Abort + Wait + AllocGlobal>(rt: &R, ground: Ground, 
     ask(rt, &system, &mut one, "hello 1 2", "welcome 1 2");
     assert_eq!(rt; one.units(), 0);
     stop(rt, &system, &mut one, "lease 1 2 1 d 48", 2, 48);
-    assert_eq!(rt; system.reap(rt, &mut one, 0, 1024).units, 16);
+    reaps(rt, &system, &mut one, 0, 16);
     assert_eq!(rt; one.units(), 0);
     ask(
         rt,
@@ -378,8 +380,6 @@ fn leave_slab<N: Name, R: Abort + Wait + AllocGlobal>(rt: &R, system: &System<N>
         ("lease 2 1 1 d 1", "granted 2 1 1 d 0 1"),
         ("release 2 1 2 d 0", "released 2 1 2"),
     ];
-    for (text, wanted) in &rows {
-        ask(rt, system, &mut two, text, wanted);
-    }
+    ask_each(rt, system, &mut two, &rows);
     retire(rt, system, two);
 }

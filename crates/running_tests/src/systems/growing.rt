@@ -1,13 +1,15 @@
 //! Arenas that get further spans while a system runs.
 ghost use Rattle.std.specs.Prelude.{◌≡◌};
 
-use super::{ask, child, cpu, grow, line, made, retire, root, shut, span, stuck};
+use super::{
+    are, ask, ask_each, child, cpu, grow, line, made, retire, root, shut, shut_into, span,
+};
 use arena_tree::{GrowFault, NewRoot, Setting, Setup};
 use deed_core::Range;
 use deed_table::{Ground, Name};
 use lease_proto::Reply;
 use lease_terms::ArenaName;
-use lease_threads::{Cpu, OpenGate, RequestStopped, System, SystemSums};
+use lease_threads::{Cpu, OpenGate, RequestStopped, System};
 use std::alloc::AllocGlobal;
 use std::marker::Brand;
 use std::process::Abort;
@@ -33,9 +35,22 @@ fn refused<N: Name, R: Abort + Wait>(
 ) -> GrowFault {
     let range = Range::new(base, len).expect(rt, "a range");
     match system.grow(rt, arena, range) {
-        Ok(()) => panic!(rt; "it grew"),
+        Ok(_) => panic!(rt; "it grew"),
         Err(fault) => fault,
     }
+}
+
+// A root in quanta of so many units.
+fn coarse(rt: &impl Abort, setup: &mut Setup, name: &str, base: u64, len: u64, quantum: u64) {
+    let root = NewRoot {
+        name: ArenaName::new(name.as_bytes()).expect(rt, "a name"),
+        base,
+        len,
+        quantum,
+        policy: Policy::Best,
+        qcache_max: 0,
+    };
+    setup.add(&Setting::Root(root)).expect(rt, "a root");
 }
 
 /// A worker leases a unit and releases it while another thread adds [4, 8) to [0, 4): then two
@@ -71,9 +86,7 @@ fn grown<N: Name + Send + Sync, R: Abort + Wait + Threads + AllocGlobal + Sync>(
         ("release 2 1 4 m 0", "released 2 1 4"),
         ("release 2 1 5 m 4", "released 2 1 5"),
     ];
-    for (text, wanted) in &rows {
-        ask(rt, &system, &mut one, text, wanted);
-    }
+    ask_each(rt, &system, &mut one, &rows);
     assert!(rt; refused(rt, &system, 0, 6, 4) == GrowFault::Overlaps);
     retire(rt, &system, one);
     shut(rt, system, &[(0, 4), (4, 4)]);
@@ -153,10 +166,7 @@ fn beside_four<N: Name + Send + Sync, R: Abort + Wait + Threads + AllocGlobal + 
     );
     let sums = system.sums(rt, 0).expect(rt, "an arena");
     assert!(rt; sums.free == 4 + u128::from(GROWS) && sums.allocated == 0 && sums.leased == 0);
-    let ranges = match system.shut(rt) {
-        Ok(ranges) => ranges,
-        Err(halted) => stuck(rt, halted),
-    };
+    let ranges = shut_into(rt, system);
     assert!(rt; ranges.len() == 1 + GROWS as usize);
     for (index, range) in ranges.iter().enumerate() {
         let wanted = if index == 0 {
@@ -199,15 +209,7 @@ fn grow_is_refused(rt: HostRuntime) -> Result<(), Fail> {
     let mut setup = Setup::new(rt.alloc());
     root(&rt, &mut setup, "a", 0, 64, Policy::Best, 0);
     child(&rt, &mut setup, "b", "a");
-    let fours = NewRoot {
-        name: ArenaName::new(b"q").expect(&rt, "a name"),
-        base: 0,
-        len: 64,
-        quantum: 4,
-        policy: Policy::Best,
-        qcache_max: 0,
-    };
-    setup.add(&Setting::Root(fours)).expect(&rt, "a root");
+    coarse(&rt, &mut setup, "q", 0, 64, 4);
     refused_each::<Brand, _>(&rt, Ground::new(rt.alloc())?, setup);
     Ok(())
 }
@@ -239,15 +241,7 @@ const MOST: u64 = 65_536;
 #[test]
 fn spans_are_at_most_65536(rt: HostRuntime) -> Result<(), Fail> {
     let mut setup = Setup::new(rt.alloc());
-    let twos = NewRoot {
-        name: ArenaName::new(b"m").expect(&rt, "a name"),
-        base: pair_at(0),
-        len: 2,
-        quantum: 2,
-        policy: Policy::Best,
-        qcache_max: 0,
-    };
-    setup.add(&Setting::Root(twos)).expect(&rt, "a root");
+    coarse(&rt, &mut setup, "m", pair_at(0), 2, 2);
     span(&rt, &mut setup, "m", pair_at(1), 2);
     filled::<Brand, _>(&rt, Ground::new(rt.alloc())?, setup);
     Ok(())
@@ -268,10 +262,7 @@ fn filled<N: Name, R: Abort + Wait + AllocGlobal>(rt: &R, ground: Ground, setup:
     assert!(rt; refused(rt, &system, 0, 0, 2) == GrowFault::TooMany);
     assert!(rt; refused(rt, &system, 0, 0, 1) == GrowFault::NotAligned);
     assert!(rt; refused(rt, &system, 0, 1, 2) == GrowFault::Overlaps);
-    let ranges = match system.shut(rt) {
-        Ok(ranges) => ranges,
-        Err(halted) => stuck(rt, halted),
-    };
+    let ranges = shut_into(rt, system);
     assert!(rt; ranges.len() as u64 == MOST);
     for (place, range) in ranges.iter().enumerate() {
         assert!(rt; range.base() == pair_at(place as u64) && range.len() == 2);
@@ -292,48 +283,21 @@ fn grown_and_leased<N: Name, R: Abort + Wait + AllocGlobal>(rt: &R, ground: Grou
 {
     let system: System<N> = made(rt, ground, setup);
     let mut one = cpu(rt, &system, 0);
-    ask(rt, &system, &mut one, "hello 1 1", "welcome 1 1");
-    ask(
-        rt,
-        &system,
-        &mut one,
-        "lease 1 1 1 m 12",
-        "refused 1 1 1 nofit",
-    );
+    let before = [
+        ("hello 1 1", "welcome 1 1"),
+        ("lease 1 1 1 m 12", "refused 1 1 1 nofit"),
+    ];
+    let after = [
+        ("lease 1 1 2 m 12", "refused 1 1 2 nofit"),
+        ("lease 1 1 3 m 8", "granted 1 1 3 m 0 8"),
+        ("lease 1 1 4 m 8", "granted 1 1 4 m 8 8"),
+    ];
+    ask_each(rt, &system, &mut one, &before);
     grow(rt, &system, 0, 8, 8);
-    ask(
-        rt,
-        &system,
-        &mut one,
-        "lease 1 1 2 m 12",
-        "refused 1 1 2 nofit",
-    );
-    ask(
-        rt,
-        &system,
-        &mut one,
-        "lease 1 1 3 m 8",
-        "granted 1 1 3 m 0 8",
-    );
-    ask(
-        rt,
-        &system,
-        &mut one,
-        "lease 1 1 4 m 8",
-        "granted 1 1 4 m 8 8",
-    );
+    ask_each(rt, &system, &mut one, &after);
     assert!(rt; refused(rt, &system, 0, 12, 8) == GrowFault::Overlaps);
     assert!(rt; refused(rt, &system, 1, 0, 8) == GrowFault::NoArena);
-    let sums = system.sums(rt, 0).expect(rt, "an arena");
-    assert!(rt;
-        sums == SystemSums {
-            free: 0,
-            allocated: 16,
-            slab: 0,
-            magazine: 0,
-            leased: 16
-        }
-    );
+    are(rt, &system, 0, [0, 16, 0, 0, 16]);
     retire(rt, &system, one);
     shut(rt, system, &[(0, 8), (8, 8)]);
 }
@@ -353,24 +317,12 @@ fn in_one_span<N: Name, R: Abort + Wait + AllocGlobal>(rt: &R, ground: Ground, s
 {
     let system: System<N> = made(rt, ground, setup);
     let mut one = cpu(rt, &system, 0);
-    ask(rt, &system, &mut one, "hello 1 1", "welcome 1 1");
-    ask(
-        rt,
-        &system,
-        &mut one,
-        "lease 1 1 1 r 12",
-        "refused 1 1 1 nofit",
-    );
-    let sums = system.sums(rt, 0).expect(rt, "an arena");
-    assert!(rt;
-        sums == SystemSums {
-            free: 16,
-            allocated: 0,
-            slab: 0,
-            magazine: 0,
-            leased: 0
-        }
-    );
+    let rows = [
+        ("hello 1 1", "welcome 1 1"),
+        ("lease 1 1 1 r 12", "refused 1 1 1 nofit"),
+    ];
+    ask_each(rt, &system, &mut one, &rows);
+    are(rt, &system, 0, [16, 0, 0, 0, 0]);
     retire(rt, &system, one);
     shut(rt, system, &[(0, 8), (8, 8)]);
 }

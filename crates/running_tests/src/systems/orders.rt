@@ -1,7 +1,7 @@
 //! The order of a request's steps, of which each takes one lock or none.
 ghost use Rattle.std.specs.Prelude.{◌≡◌};
 
-use super::{ask, child, cpu, line, made, retire, root, same, shut};
+use super::{ask, ask_each, child, cpu, line, made, retire, root, same, shut};
 use arena_tree::Setup;
 use deed_table::{Ground, Name};
 use lease_threads::{Cpu, EventName, Gate, NextStep, Pass, RequestStopped, System};
@@ -25,6 +25,8 @@ struct InOrder<'a> {
 
 impl Gate for InOrder<'_> {
     ghost may_stop = { λ _ _. ⊥ };
+
+    ghost passed = { λ _ _. Unit {0} };
 
     fn pass(&self, step: &NextStep) -> Pass {
         match self.wanted.get(step.turn as usize) {
@@ -97,9 +99,7 @@ fn in_order<N: Name, R: Abort + Wait + AllocGlobal>(
 {
     let system: System<N> = made(rt, ground, setup);
     let mut one = cpu(rt, &system, 5);
-    for (text, reply) in asked.before {
-        ask(rt, &system, &mut one, text, reply);
-    }
+    ask_each(rt, &system, &mut one, asked.before);
     if let Some(arena) = asked.resized {
         assert!(rt; system.resize(rt, arena, 15));
     }
@@ -288,4 +288,121 @@ fn changes_at_a_release(rt: HostRuntime) {
         rows: &rows,
     };
     by_steps(&rt, setup, &asked, &[(0, 64)]);
+}
+
+/// For each size that magazines rise to, a CPU changes to it at its first lease, and both of its
+/// magazines take as many rounds. For one round more the depot gets the first of them, and a fresh
+/// one is made, of that size too.
+#[test]
+fn fills_each_size(rt: HostRuntime) {
+    for size in [7, 15, 31] {
+        fill(&rt, size);
+    }
+}
+
+// In a system of its own.
+fn fill<R: Abort + Wait + AllocGlobal>(rt: &R, size: u64) {
+    let mut setup = Setup::new(rt.alloc());
+    root(rt, &mut setup, "d", 0, 64, Policy::Instant, 5);
+    let ground = Ground::new(rt.alloc()).expect(rt, "a table");
+    filled::<Brand, _>(rt, ground, setup, size);
+}
+
+fn filled<N: Name, R: Abort + Wait + AllocGlobal>(rt: &R, ground: Ground, setup: Setup, size: u64)
+    requires { ground ≡ N.table }
+{
+    let system: System<N> = made(rt, ground, setup);
+    resized(rt, &system, size);
+    let mut one = cpu(rt, &system, 5);
+    let last = size.saturating_mul(2);
+    changes(rt, &system, &mut one);
+    for unit in 1..last.saturating_add(1) {
+        leased(rt, &system, &mut one, unit, &TAKEN);
+    }
+    for unit in 0..last {
+        released(rt, &system, &mut one, unit, last, &KEPT);
+    }
+    assert!(rt; one.units() == u128::from(last));
+    released(rt, &system, &mut one, last, last, &FRESH);
+    assert!(rt; one.units() == u128::from(size).saturating_add(1));
+    let sums = system.sums(rt, 0).expect(rt, "an arena");
+    assert!(rt; sums.magazine == u128::from(size) && sums.leased == 0);
+    retire(rt, &system, one);
+    shut(rt, system, &[(0, 64)]);
+}
+
+// Magazines rise to this size.
+fn resized<N: Name, R: Abort + Wait>(rt: &R, system: &System<N>, size: u64) {
+    let rose = match size {
+        7 => system.resize(rt, 0, 7),
+        15 => system.resize(rt, 0, 15),
+        _ => system.resize(rt, 0, 31),
+    };
+    assert!(rt; rose, "no greater size");
+}
+
+/// A chunk comes out of a slab while the depot has no round.
+const TAKEN: [EventName; 5] = [
+    EventName::Look,
+    EventName::Pop,
+    EventName::SwapFull,
+    EventName::SlabTake,
+    EventName::Settle,
+];
+
+/// A magazine of the CPU has room for the round.
+const KEPT: [EventName; 2] = [EventName::Release, EventName::Push];
+
+/// None has, the depot has no empty one, and one is made.
+const FRESH: [EventName; 5] = [
+    EventName::Release,
+    EventName::Push,
+    EventName::SwapEmpty,
+    EventName::SwapEmpty,
+    EventName::Push,
+];
+
+// The CPU changes its magazines at the first lease.
+fn changes<N: Name, R: Abort + Wait + AllocGlobal>(rt: &R, system: &System<N>, cpu: &mut Cpu<N>) {
+    use EventName::{Carve, Change, Look, Pop, Settle, SlabAdd, SlabTake, SwapFull};
+    ask(rt, system, cpu, "hello 1 1", "welcome 1 1");
+    let changed = [
+        Look, Pop, SwapFull, Change, SlabTake, Carve, SlabAdd, Settle,
+    ];
+    leased(rt, system, cpu, 0, &changed);
+}
+
+// Leases the unit with this number by the request of the next one, by these steps; a new slab takes
+// two more.
+fn leased<N: Name, R: Abort + Wait + AllocGlobal>(
+    rt: &R,
+    system: &System<N>,
+    cpu: &mut Cpu<N>,
+    unit: u64,
+    steps: &[EventName],
+) {
+    let number = unit.saturating_add(1);
+    let lease = format!(in rt.alloc(); "lease 1 1 {number} d 1").expect(rt, "room");
+    let granted = format!(in rt.alloc(); "granted 1 1 {number} d {unit} 1").expect(rt, "room");
+    if unit > 0 && unit % 16 == 0 {
+        ask(rt, system, cpu, &lease, &granted);
+    } else {
+        ask_by(rt, system, cpu, &lease, &granted, steps);
+    }
+}
+
+// Releases the unit with this number by these steps, by the request of that number behind those of
+// the leases, of which the last one was this.
+fn released<N: Name, R: Abort + Wait + AllocGlobal>(
+    rt: &R,
+    system: &System<N>,
+    cpu: &mut Cpu<N>,
+    unit: u64,
+    last: u64,
+    steps: &[EventName],
+) {
+    let number = last.saturating_add(2).saturating_add(unit);
+    let release = format!(in rt.alloc(); "release 1 1 {number} d {unit}").expect(rt, "room");
+    let released = format!(in rt.alloc(); "released 1 1 {number}").expect(rt, "room");
+    ask_by(rt, system, cpu, &release, &released, steps);
 }

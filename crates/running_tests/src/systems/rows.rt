@@ -1,7 +1,9 @@
 //! Lines and their answers, the lines asked of two CPUs in turn.
 ghost use Rattle.std.specs.Prelude.{◌≡◌};
 
-use super::{ask, ask_all, child, cpu, grow, have, made, retire, root, shut, span, stuck};
+use super::{
+    ask, ask_all, ask_each, child, cpu, grow, have, made, reaps, retire, root, shut, span, stuck,
+};
 use arena_tree::Setup;
 use deed_table::{Ground, Name};
 use lease_threads::{Halted, StoppedAt, System};
@@ -53,38 +55,40 @@ fn reap_running(rt: HostRuntime) -> Result<(), Fail> {
     Ok(())
 }
 
+/// Seven units of an arena are leased and released.
+const SEVEN_UNITS: [(&str, &str); 15] = [
+    ("hello 1 1", "welcome 1 1"),
+    ("lease 1 1 1 d 1", "granted 1 1 1 d 0 1"),
+    ("lease 1 1 2 d 1", "granted 1 1 2 d 1 1"),
+    ("lease 1 1 3 d 1", "granted 1 1 3 d 2 1"),
+    ("lease 1 1 4 d 1", "granted 1 1 4 d 3 1"),
+    ("lease 1 1 5 d 1", "granted 1 1 5 d 4 1"),
+    ("lease 1 1 6 d 1", "granted 1 1 6 d 5 1"),
+    ("lease 1 1 7 d 1", "granted 1 1 7 d 6 1"),
+    ("release 1 1 8 d 0", "released 1 1 8"),
+    ("release 1 1 9 d 1", "released 1 1 9"),
+    ("release 1 1 10 d 2", "released 1 1 10"),
+    ("release 1 1 11 d 3", "released 1 1 11"),
+    ("release 1 1 12 d 4", "released 1 1 12"),
+    ("release 1 1 13 d 5", "released 1 1 13"),
+    ("release 1 1 14 d 6", "released 1 1 14"),
+];
+
 fn reaped<N: Name, R: Abort + Wait + AllocGlobal>(rt: &R, ground: Ground, setup: Setup)
     requires { ground ≡ N.table }
 {
     let system: System<N> = made(rt, ground, setup);
     let mut one = cpu(rt, &system, 0);
     let mut two = cpu(rt, &system, 1);
-    let rows = [
-        ("hello 1 1", "welcome 1 1"),
-        ("lease 1 1 1 d 1", "granted 1 1 1 d 0 1"),
-        ("lease 1 1 2 d 1", "granted 1 1 2 d 1 1"),
-        ("lease 1 1 3 d 1", "granted 1 1 3 d 2 1"),
-        ("lease 1 1 4 d 1", "granted 1 1 4 d 3 1"),
-        ("lease 1 1 5 d 1", "granted 1 1 5 d 4 1"),
-        ("lease 1 1 6 d 1", "granted 1 1 6 d 5 1"),
-        ("lease 1 1 7 d 1", "granted 1 1 7 d 6 1"),
-        ("release 1 1 8 d 0", "released 1 1 8"),
-        ("release 1 1 9 d 1", "released 1 1 9"),
-        ("release 1 1 10 d 2", "released 1 1 10"),
-        ("release 1 1 11 d 3", "released 1 1 11"),
-        ("release 1 1 12 d 4", "released 1 1 12"),
-        ("release 1 1 13 d 5", "released 1 1 13"),
-        ("release 1 1 14 d 6", "released 1 1 14"),
-    ];
-    for (text, wanted) in &rows {
+    for (text, wanted) in &SEVEN_UNITS {
         ask(rt, &system, &mut one, text, wanted);
         system.tick(rt);
-        assert!(rt; system.reap(rt, &mut two, 0, 1024).units == 0);
+        reaps(rt, &system, &mut two, 0, 0);
     }
     assert!(rt; one.units() > 0);
     retire(rt, &system, one);
     system.tick(rt);
-    assert!(rt; system.reap(rt, &mut two, 0, 1024).units == 16);
+    reaps(rt, &system, &mut two, 0, 16);
     assert!(rt; two.units() == 0);
     ask(
         rt,
@@ -131,6 +135,25 @@ fn reap_second(rt: HostRuntime) -> Result<(), Fail> {
     Ok(())
 }
 
+/// Seven times two units of the second of two arenas are leased and released.
+const SEVEN_PAIRS: [(&str, &str); 15] = [
+    ("hello 1 1", "welcome 1 1"),
+    ("lease 1 1 1 d 2", "granted 1 1 1 d 64 2"),
+    ("lease 1 1 2 d 2", "granted 1 1 2 d 66 2"),
+    ("lease 1 1 3 d 2", "granted 1 1 3 d 68 2"),
+    ("lease 1 1 4 d 2", "granted 1 1 4 d 70 2"),
+    ("lease 1 1 5 d 2", "granted 1 1 5 d 72 2"),
+    ("lease 1 1 6 d 2", "granted 1 1 6 d 74 2"),
+    ("lease 1 1 7 d 2", "granted 1 1 7 d 76 2"),
+    ("release 1 1 8 d 64", "released 1 1 8"),
+    ("release 1 1 9 d 66", "released 1 1 9"),
+    ("release 1 1 10 d 68", "released 1 1 10"),
+    ("release 1 1 11 d 70", "released 1 1 11"),
+    ("release 1 1 12 d 72", "released 1 1 12"),
+    ("release 1 1 13 d 74", "released 1 1 13"),
+    ("release 1 1 14 d 76", "released 1 1 14"),
+];
+
 // Of the seven rounds that come back, the depot gets three for the last one's sake.
 fn second_reaped<N: Name, R: Abort + Wait + AllocGlobal>(rt: &R, ground: Ground, setup: Setup)
     requires { ground ≡ N.table }
@@ -138,33 +161,14 @@ fn second_reaped<N: Name, R: Abort + Wait + AllocGlobal>(rt: &R, ground: Ground,
     let system: System<N> = made(rt, ground, setup);
     let mut one = cpu(rt, &system, 0);
     let mut two = cpu(rt, &system, 1);
-    let rows = [
-        ("hello 1 1", "welcome 1 1"),
-        ("lease 1 1 1 d 2", "granted 1 1 1 d 64 2"),
-        ("lease 1 1 2 d 2", "granted 1 1 2 d 66 2"),
-        ("lease 1 1 3 d 2", "granted 1 1 3 d 68 2"),
-        ("lease 1 1 4 d 2", "granted 1 1 4 d 70 2"),
-        ("lease 1 1 5 d 2", "granted 1 1 5 d 72 2"),
-        ("lease 1 1 6 d 2", "granted 1 1 6 d 74 2"),
-        ("lease 1 1 7 d 2", "granted 1 1 7 d 76 2"),
-        ("release 1 1 8 d 64", "released 1 1 8"),
-        ("release 1 1 9 d 66", "released 1 1 9"),
-        ("release 1 1 10 d 68", "released 1 1 10"),
-        ("release 1 1 11 d 70", "released 1 1 11"),
-        ("release 1 1 12 d 72", "released 1 1 12"),
-        ("release 1 1 13 d 74", "released 1 1 13"),
-        ("release 1 1 14 d 76", "released 1 1 14"),
-    ];
-    for (text, wanted) in &rows {
-        ask(rt, &system, &mut one, text, wanted);
-    }
+    ask_each(rt, &system, &mut one, &SEVEN_PAIRS);
     assert!(rt; one.units() == 8);
     retire(rt, &system, one);
-    assert!(rt; system.reap(rt, &mut two, 1, 1024).units == 0);
-    assert!(rt; system.reap(rt, &mut two, 1, 1024).units == 0);
+    reaps(rt, &system, &mut two, 1, 0);
+    reaps(rt, &system, &mut two, 1, 0);
     system.tick(rt);
-    assert!(rt; system.reap(rt, &mut two, 0, 1024).units == 0);
-    assert!(rt; system.reap(rt, &mut two, 1, 1024).units == 16);
+    reaps(rt, &system, &mut two, 0, 0);
+    reaps(rt, &system, &mut two, 1, 16);
     ask(
         rt,
         &system,
@@ -251,9 +255,7 @@ fn goes_on<N: Name, R: Abort + Wait + AllocGlobal>(rt: &R, ground: Ground, setup
         ("lease 1 1 2 d 1", "granted 1 1 2 d 64 1"),
         ("release 1 1 3 d 64", "released 1 1 3"),
     ];
-    for (text, wanted) in &rows {
-        ask(rt, &system, &mut one, text, wanted);
-    }
+    ask_each(rt, &system, &mut one, &rows);
     assert!(rt; one.units() == 1);
     grow(rt, &system, 1, 0, 64);
     grow(rt, &system, 0, 8, 8);

@@ -1,7 +1,7 @@
 //! Another CPU is asked lines just before a step of a request.
 ghost use Rattle.std.specs.Prelude.{◌≡◌};
 
-use super::{ask, cpu, line, made, retire, root, same, shut};
+use super::{ask, ask_each, cpu, line, made, retire, root, same, shut};
 use arena_tree::Setup;
 use deed_table::{Ground, Name};
 use lease_threads::{Cpu, EventName, Gate, NextStep, Pass, RequestStopped, System};
@@ -39,12 +39,12 @@ struct Before<'a, N: Name, R: Abort + Wait + AllocGlobal> {
 impl<N: Name, R: Abort + Wait + AllocGlobal> Gate for Before<'_, N, R> {
     ghost may_stop = { λ _ _. ⊥ };
 
+    ghost passed = { λ _ _. Unit {0} };
+
     fn pass(&self, step: &NextStep) -> Pass {
         if step.event == self.event {
             let mut other = self.other.lock(self.rt);
-            for (text, wanted) in self.rows {
-                ask(self.rt, self.system, &mut other, text, wanted);
-            }
+            ask_each(self.rt, self.system, &mut other, self.rows);
         }
         Pass::Go
     }
@@ -160,9 +160,7 @@ fn told_in<N: Name, R: Abort + Wait + AllocGlobal>(
     let system: System<N> = made(rt, ground, setup);
     let mut one = cpu(rt, &system, 0);
     let other = Mutex::new(cpu(rt, &system, 1));
-    for (text, wanted) in story.first {
-        ask(rt, &system, &mut one, text, wanted);
-    }
+    ask_each(rt, &system, &mut one, story.first);
     let gate = Before {
         rt,
         system: &system,

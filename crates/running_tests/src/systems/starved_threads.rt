@@ -218,7 +218,7 @@ fn grow<N: Name, R: Abort + Wait>(rt: &R, system: &System<N>, arena: u32, base: 
     let before = free(rt, system, arena);
     for _ in 0..2 {
         match system.grow(rt, arena, range) {
-            Ok(()) => {
+            Ok(_) => {
                 assert!(rt; free(rt, system, arena) == before.saturating_add(u128::from(len)));
                 assert!(rt; system.grow(rt, arena, range) == Err(GrowFault::Overlaps));
                 return;
@@ -286,7 +286,7 @@ fn grown_and_ended<N: Name, R: Abort + Wait + AllocGlobal>(rt: &R, ground: Groun
     for turn in 0..GROWS {
         let range = Range::new(turn * 8 + 8, 8).expect(rt, "a range");
         match system.grow(rt, 0, range) {
-            Ok(()) => grown = grown.saturating_add(1),
+            Ok(_) => grown = grown.saturating_add(1),
             Err(fault) => assert!(rt; fault == GrowFault::NoMemory),
         }
     }

@@ -1,11 +1,11 @@
 //! What is told of a running system: sums of an arena, of the book, and who holds what.
 ghost use Rattle.std.specs.Prelude.{◌≡◌};
 
-use super::{ask, ask_all, cpu, made, retire, root, shut};
+use super::{are, ask, ask_all, ask_each, cpu, made, retire, root, shut};
 use arena_tree::Setup;
 use deed_table::{Ground, Name};
 use lease_book::MOST_LEASES;
-use lease_threads::{BookSums, System, SystemSums};
+use lease_threads::{BookSums, System};
 use std::alloc::AllocGlobal;
 use std::marker::Brand;
 use std::process::Abort;
@@ -63,19 +63,6 @@ fn told<N: Name, R: Abort + Wait + AllocGlobal>(rt: &R, ground: Ground, setup: S
     shut(rt, system, &[(0, 64), (64, 64)]);
 }
 
-// The arena's units: free, allocated, in slabs, in magazines of depots, and leased.
-fn are<N: Name, R: Abort + Wait>(rt: &R, system: &System<N>, arena: u32, wanted: [u128; 5]) {
-    let [free, allocated, slab, magazine, leased] = wanted;
-    let wanted = SystemSums {
-        free,
-        allocated,
-        slab,
-        magazine,
-        leased,
-    };
-    assert!(rt; system.sums(rt, arena) == Some(wanted), "other sums");
-}
-
 /// Clients in order of first hello, and the leases of each in order of grant, by the requests that
 /// they were granted to.
 #[test]
@@ -107,9 +94,7 @@ fn holders<N: Name, R: Abort + Wait + AllocGlobal>(rt: &R, ground: Ground, setup
         ("lease 7 1 4 m 2", "granted 7 1 4 m 13 2"),
         ("release 7 1 5 m 0", "released 7 1 5"),
     ];
-    for (text, wanted) in &rows {
-        ask(rt, &system, &mut one, text, wanted);
-    }
+    ask_each(rt, &system, &mut one, &rows);
     let three = BookSums {
         clients: 2,
         leases: 3,
