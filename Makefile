@@ -63,6 +63,7 @@ bench-serve:
 	bench/serve $(BENCH) bin/vmemd
 
 page:
+	tools/page --browser
 	test -x bin/vmemd || $(MAKE) all
 	tools/page bin/vmemd bin
 

@@ -3,6 +3,7 @@ import html.parser
 import http.client
 import json
 import os
+import resource
 import shutil
 import socket
 import subprocess
@@ -12,16 +13,11 @@ import urllib.parse
 import urllib.request
 
 import vmemd_top
+from ports import free_port
 from served import HAS_SERVE, PROGRAM, SECONDS, Served, help_of
 
 HAS_METRICS = HAS_SERVE and "--metrics" in help_of("serve")
 HOMES = ("free", "slab", "magazine", "exported", "leased")
-
-
-def free_port():
-    """A port that no one listens at."""
-    with socket.create_server(("127.0.0.1", 0)) as server:
-        return server.getsockname()[1]
 
 
 class Cells(html.parser.HTMLParser):
@@ -224,7 +220,8 @@ class Watched(Watching):
             word("lines", "lease"): 3, word("lines", "release"): 3,
             word("replies", "welcome"): 1, word("replies", "granted"): 1,
             word("replies", "refused"): 2, word("replies", "released"): 2,
-            word("replies", "stale"): 1, word("refusals", "noarena"): 1,
+            word("replies", "stale"): 1, word("replies", "error"): 1,
+            word("refusals", "noarena"): 1,
             word("refusals", "nofit"): 1})
         self.assertEqual((now["vmemd_connections", ()], now["vmemd_clients", ()]), (1, 1))
 
@@ -343,6 +340,14 @@ class Watched(Watching):
         self.assertTrue(told[:12] in (b"", b"HTTP/1.1 431"), told[:40])
         self.assertLess(seconds, 7)
 
+    def test_one_host_is_named(self):
+        # (an empty one will do, and HTTP/1.0 needs none)
+        for version, hosts, status in ((b"1.1", b"", b"400"), (b"1.1", b"Host: x\r\n", b"200"),
+                                       (b"1.1", b"Host:\r\n", b"200"), (b"1.0", b"", b"200"),
+                                       (b"1.1", b"Host: x\r\nHost: x\r\n", b"400")):
+            told, _ = self.sent(b"GET /healthz HTTP/" + version + b"\r\n" + hosts + b"\r\n")
+            self.assertEqual(told.split()[1], status, (version, hosts))
+
     def test_lines_are_no_requests(self):
         told, _ = self.sent(b"hello 1 1\n")
         self.assertIn(told[:12], (b"", b"HTTP/1.1 400"))
@@ -369,6 +374,19 @@ class WatchedTalks(Watched):
         now = self.samples()
         self.assertEqual([now[f"vmemd_connections{it}", ()] for it in ("", "_total", "_refused_total")],
                          [16, 16, 1])
+
+    def test_a_connection_without_a_thread_is_counted(self):
+        self.faults = ("vmemd: threads",)
+        self.opened(1)
+        # (there is no address left for a thread's stack, and none that a thread has left)
+        limits = resource.prlimit(self.server.pid, resource.RLIMIT_AS)
+        resource.prlimit(self.server.pid, resource.RLIMIT_AS, (1, limits[1]))
+        with self.connected() as link:
+            self.assertEqual(link.recv(100), b"")
+        resource.prlimit(self.server.pid, resource.RLIMIT_AS, limits)
+        now = self.samples()
+        self.assertEqual([now[f"vmemd_connections{it}", ()] for it in ("", "_total", "_failed_total")],
+                         [1, 1, 1])
 
 
 class WatchedTree(Watching):

@@ -93,7 +93,8 @@ def lines_of(before, now, width):
     yield (f"vmemd {version}  up {value('vmemd_uptime_seconds')} s  "
            f"{value('vmemd_clients')} clients  {value('vmemd_leases')} leases")
     yield (f"{value('vmemd_connections')} connections, {value('vmemd_connections_total')} in all, "
-           f"{value('vmemd_connections_refused_total')} refused; "
+           f"{value('vmemd_connections_refused_total')} refused, "
+           f"{value('vmemd_connections_failed_total')} failed; "
            f"{value('vmemd_cpu_waits_total')} waits for a CPU")
     told = [f"{total(now, name)} {what}" + ("" if grown is None else f" ({grown:.0f}/s)")
             for name, what in (("vmemd_lines_total", "requests"),
