@@ -1,5 +1,5 @@
 -- From what was told and read to how a server ran.
-use Rattle.std.proofs.Common.{◌≡◌, ◌∙◌, ◌++◌, ◌-◌, ◌<◌, ℕ, All, length, Option, Some, None, List, [], ◌∷◌, Result, Ok, Err, Bool, true, false, refl, sym, ap, subst, inl, inr, append_assoc, arith}
+use Rattle.std.proofs.Common.{IfOk, IfErr, ◌≡◌, ◌∙◌, ◌++◌, ◌-◌, ◌<◌, ℕ, All, length, Option, Some, None, List, [], ◌∷◌, Result, Ok, Err, Bool, true, false, refl, sym, ap, subst, inl, inr, append_assoc, arith}
 use Rattle.std.proofs.lemmas.List.{append-nil}
 use Rattle.std.proofs.lemmas.List.Elements.{All-append}
 use Rattle.std.proofs.lemmas.List.Sorted.{IsPermutation-append, IsPermutation-refl, IsPermutation-trans}
@@ -23,6 +23,7 @@ use Rattle.lease_threads.specs.Systems.{SystemState}
 use Rattle.vmemd.specs.Operators.{may_tell, Tells}
 use Rattle.vmemd.specs.declared.running.RunFault.{RunFault}
 use Rattle.vmemd.specs.declared.running.RunFault.TheVariants.{Read, Write, Listen, Memory, Shut}
+use Rattle.vmemd.specs.Retrying.{Retries}
 use Rattle.vmemd.specs.Running.{AnswersBehind, Attends, BothWork, Closes, ServesToItsEnd, TellsSome, TellsToEnd, closed_line, listening_line, run_text}
 
 -- before anything is read
@@ -92,16 +93,13 @@ addressed arenas address old new (Err Listen) a = absurd a
 addressed arenas address old new (Err Shut) a = absurd a
 
 -- where the address itself can't be written
-pub untold : (arenas : List TreeArena) (address : List ℕ) (old new : Streams) → WritesFront (listening_line address) old.written new.written
-    → new.writer_failed ≡ true → Attends arenas old new (Err Write)
-untold arenas address old new (written, unwritten, split, appends) failed = (
-  address,
-  (
-    [],
-    ([], old.unread, Consumes-nil old.unread, ([], frames_of [], refl, (arenas, (refl, refl)))),
-    (written, unwritten, append-nil (listening_line address) ∙ split, appends),
-    failed,
-  ),
+pub unanswered : (arenas : List TreeArena) (line : List ℕ) (old new : Streams) → WritesFront line old.written new.written
+    → new.writer_failed ≡ true → AnswersBehind arenas line old new (Err Write)
+unanswered arenas line old new (written, unwritten, split, appends) failed = (
+  [],
+  ([], old.unread, Consumes-nil old.unread, ([], frames_of [], refl, (arenas, (refl, refl)))),
+  (written, unwritten, append-nil line ∙ split, appends),
+  failed,
 )
 
 -- a fault before the end is the run's
@@ -176,3 +174,17 @@ left_before old None system ranges (none, roots) arenas is =
 
 pub rest_left : (old new : HaltedState) (ranges : List Extent) → IsRestOf old new → AreRangesLeft new ranges → AreRangesLeft old ranges
 rest_left old new ranges rest left = left_before old new.told new.system ranges rest.roots rest.arenas left
+
+-- what comes of a try, by its ranges, or by what is left
+abbrev TriesFrom : {V : Type 0} → (V → List Extent) → HaltedState → Result V HaltedState → Type 0
+TriesFrom items h tried = IfOk tried (λ ranges. AreRangesLeft h (items ranges)) × IfErr tried (IsRestOf h)
+
+-- however often it is tried, the ranges are in the end those that were left at first
+pub ranges_at_last : {V A : Type 0} (items : V → List Extent) (may_note : A → Bool → A → Type 0) (may_tell : A → A → Type 0)
+    (tries : List (Result V HaltedState)) (h : HaltedState) (tried : Result V HaltedState) (old new : A) (done : V)
+    → IfOk tried (λ ranges. AreRangesLeft h (items ranges)) × IfErr tried (IsRestOf h)
+    → Retries (λ (rest : HaltedState) (ended : Result V HaltedState). IfOk ended (λ ranges. AreRangesLeft rest (items ranges)) × IfErr ended (IsRestOf rest)) may_note may_tell tried old tries done new
+    → AreRangesLeft h (items done)
+ranges_at_last items may_note may_tell [] h tried old new done comes (is, same) = (subst (TriesFrom items h) is comes).0
+ranges_at_last items may_note may_tell (next ∷ more) h tried old new done comes (rest, told, is, tells, again, retries) =
+    rest_left h rest (items done) (subst (TriesFrom items h) is comes).1 (ranges_at_last items may_note may_tell more rest next told new done again retries)

@@ -10,3 +10,5 @@ pub mod Inputs
 pub mod Operators
 pub mod Running
 pub mod Watching
+pub mod Retrying
+pub mod Musters

@@ -1,6 +1,8 @@
 -- What a server writes, and how it ends.
 use Rattle.std.specs.Prelude.{◌≡◌, ◌⊎◌, ℕ, Bool, List, [], ◌∷◌, ◌++◌, Option, Result, Ok, Err}
 use Rattle.std.specs.Prelude.{codes, true, false}
+use Rattle.std.specs.Net.Text.{socket_text}
+use Rattle.std.specs.declared.net.socket_addr.SocketAddr.{SocketAddr}
 use Rattle.std.specs.Io.KnownBytes.{Appends, Consumes, IsAtEnd}
 use Rattle.deed_core.specs.Extent.{Extent}
 use Rattle.arena_tree.specs.Settings.{SetupState}
@@ -33,6 +35,11 @@ closed_line = codes "closed" ++ 10 ∷ []
 -- it tells some address
 abbrev pub TellsAddress : List ℕ → Type 0
 TellsAddress line = (address : List ℕ) × (line ≡ listening_line address)
+
+-- it tells the address of what is listened at, as that gives it
+abbrev pub TellsAddressOf : {B : Type 0} → (B → SocketAddr → Type 0) → B → List ℕ → Type 0
+TellsAddressOf may_have bound line = (address : SocketAddr) × may_have bound address
+    × (line ≡ listening_line (socket_text address))
 
 -- neither the reader nor the writer has failed
 abbrev pub BothWork : Streams → Type 0

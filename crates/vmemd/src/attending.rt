@@ -38,7 +38,11 @@ pub(crate) fn attend<N: Name, R: Wait, I: Read, W: Write>(
     console: Console<I, W>,
 ) -> Attended<I, W>
     requires works { BothWork (console_streams I.remaining W.contents console) }
-    ensures { Attends site.now.system.now.arenas (console_streams I.remaining W.contents console)
+    ensures attends { Attends site.now.system.now.arenas
+        (console_streams I.remaining W.contents console)
+        (console_streams I.remaining W.contents result.console) result.ended }
+    ensures told { AnswersBehind site.now.system.now.arenas site.now.listener.now
+        (console_streams I.remaining W.contents console)
         (console_streams I.remaining W.contents result.console) result.ended }
 {
     let Console { mut input, mut out } = console;

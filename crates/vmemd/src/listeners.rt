@@ -1,12 +1,52 @@
 //! Where a server listens, and how that ends.
-ghost use Rattle.std.specs.Prelude.{◌≡◌, ◌⊎◌, IfErr};
-ghost use Rattle.vmemd.specs.Running.{TellsAddress};
+ghost use Rattle.std.specs.Prelude.{◌≡◌, ◌⊎◌, IfErr, IfOk};
+ghost use Rattle.vmemd.specs.Running.{TellsAddress, TellsAddressOf};
 
 use crate::running::RunFault;
+use std::alloc::Global;
 use std::io;
 use std::marker::Model;
-use std::net::{Net, Shutdown, TcpListener, TcpStream};
+use std::net::{Net, Shutdown, SocketAddr, TcpListener, TcpStream};
 use std::os::fd::OwnedFd;
+
+/// What is listened at.
+pub trait Bound {
+    ghost use Rattle.std.specs.Prelude.{IfOk};
+    ghost use Rattle.std.specs.declared.net.socket_addr.SocketAddr.{SocketAddr};
+
+    // which address it may have
+    ghost may_have: { Self → SocketAddr → Type 0 };
+
+    /// Its address.
+    fn address(&self) -> io::Result<SocketAddr>
+        ensures { IfOk result (may_have self.now) };
+}
+
+impl Bound for TcpListener {
+    ghost use Rattle.std.specs.Prelude.{⊤};
+
+    // (of a socket no contract can say which it has)
+    ghost may_have = { λ _ _. ⊤ };
+
+    fn address(&self) -> io::Result<SocketAddr> {
+        self.local_addr()
+    }
+}
+
+/// The line that tells the address of what is listened at.
+pub fn line_of<B: Bound>(alloc: Global, bound: &B) -> Result<String, RunFault>
+    ensures address { IfOk result (λ line. TellsAddressOf B.may_have bound.now line.bytes.items) }
+    ensures told { IfOk result (λ line. TellsAddress line.bytes.items) }
+    ensures err { IfErr result (λ fault. (fault ≡ RunFault.Listen) ⊎ (fault ≡ RunFault.Memory)) }
+{
+    let Ok(address) = bound.address() else {
+        return Err(RunFault::Listen);
+    };
+    match format!(in alloc; "listening {address}\n") {
+        Ok(line) => Ok(line),
+        Err(_) => Err(RunFault::Memory),
+    }
+}
 
 /// A listening socket, and the line that tells its address. A contract sees the line.
 #[derive(Drop)]
@@ -42,17 +82,12 @@ impl Listener {
         let Ok(closing) = same_socket(&socket) else {
             return Err(RunFault::Listen);
         };
-        let Ok(real) = socket.local_addr() else {
-            return Err(RunFault::Listen);
-        };
-        match format!(in rt.alloc(); "listening {real}\n") {
-            Ok(line) => Ok(Listener {
-                socket,
-                closing,
-                line,
-            }),
-            Err(_) => Err(RunFault::Memory),
-        }
+        let line = line_of(rt.alloc(), &socket)?;
+        Ok(Listener {
+            socket,
+            closing,
+            line,
+        })
     }
 
     /// The socket.

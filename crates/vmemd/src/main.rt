@@ -9,8 +9,9 @@
 //! its own (workers). With `--connections` each connection has a thread, and they share the CPUs
 //! (sharing); with `--metrics` it is watched over HTTP (watching). Meanwhile the lines of standard
 //! input are answered (attending), those of an operator that grow roots (operators), until it ends
-//! and the system is shut (stopping). listeners has its socket, signals tell the workers, inputs
-//! waits for an input that doesn't block, hosts names what a server runs by.
+//! and the system is shut (stopping), what can't be put back at once for as long as it takes
+//! (retrying). listeners has its socket, signals tell the workers, which are waited for (musters),
+//! inputs waits for an input that doesn't block, hosts names what a server runs by.
 //!
 //! The words of the command line and the help are in commands, why a run ends early in faults, the
 //! exit statuses in endings.
@@ -20,8 +21,8 @@
 //! specs/Settings.antt; what holds after each script, in specs/Laws.antt; the rules of leases over
 //! a script, in specs/RuleLaws.antt; which bytes are a setup line, in the crate `lease_proto`. What
 //! CONFIG makes is stated in specs/Configs.antt, what a server tells its operator in
-//! specs/Operators.antt, and what it writes and how it ends in specs/Running.antt; what it answers,
-//! in `lease_tcp`.
+//! specs/Operators.antt, what it writes and how it ends in specs/Running.antt, and what is tried
+//! again at its end in specs/Retrying.antt; what it answers, in `lease_tcp`.
 //!
 //! A script costs what its setup and its desk do for each line, and a read for each 16,384 bytes or
 //! less. A server has a thread for each worker, at most `MOST_WORKERS`, or for each connection, at
@@ -41,7 +42,9 @@ pub mod inputs;
 pub mod laws;
 pub mod listeners;
 pub mod looking;
+pub mod musters;
 pub mod operators;
+pub mod retrying;
 pub mod running;
 pub mod scripts;
 pub mod setting_up;

@@ -1,12 +1,14 @@
 //! A server by workers, each of which serves one connection after another over a CPU of its own.
-ghost use Rattle.std.specs.Prelude.{◌<◌, ◌≤◌};
+ghost use Rattle.std.specs.Prelude.{◌≡◌, ◌⊎◌, ◌<◌, ◌≤◌, Err};
 ghost use Rattle.lease_proto.specs.declared.limits.TheConstants.{MOST_CPUS};
+ghost use Rattle.vmemd.specs.Musters.{AreReady};
 ghost use Rattle.vmemd.specs.Running.{Attends, BothWork, console_streams};
 ghost use Rattle.vmemd.specs.declared.commands.TheConstants.{MOST_WORKERS};
 
 use crate::attending::{Attended, attend};
 use crate::hosts::Host;
-use crate::running::{Console, Site};
+use crate::musters::{Muster, are_ready};
+use crate::running::{Console, RunFault, Site};
 use crate::signals::Signals;
 use crate::stopping::{retire, stop};
 use deed_table::Name;
@@ -17,6 +19,34 @@ use std::net::{Net, TcpListener, TcpStream};
 use std::sync::Wait;
 use std::thread;
 use std::time::{Clock, Duration};
+
+/// The workers of a server, as they tell that they have their CPUs.
+#[derive(Drop)]
+struct Workers<'a, R> {
+    rt: &'a R,
+    signals: &'a Signals,
+}
+
+impl<R: Clock> Muster for Workers<'_, R> {
+    ghost use Rattle.std.specs.Prelude.{⊤};
+
+    // (of a flag and a count no contract can say what threads make them)
+    ghost may_starve = { λ _ _. ⊤ };
+
+    ghost may_count = { λ _ _. ⊤ };
+
+    fn is_starved(&self) -> bool {
+        self.signals.is_starved()
+    }
+
+    fn ready(&self) -> u64 {
+        self.signals.ready()
+    }
+
+    fn pause(&mut self) {
+        thread::sleep(self.rt, Duration::from_millis(1));
+    }
+}
 
 /// Starts the workers, waits for the end of the input, and stops them.
 pub(crate) fn serve_all<N: Name + Send + Sync, R: Host, I: Read + Drop, W: Write + Drop>(
@@ -47,8 +77,9 @@ pub(crate) fn serve_all<N: Name + Send + Sync, R: Host, I: Read + Drop, W: Write
                     break;
                 }
             }
-            let ran = if all && are_ready(rt, site.signals, workers) {
-                attend(rt, site, console)
+            let signals = site.signals;
+            let ran = if all {
+                attend_when_ready(rt, site, &mut Workers { rt, signals }, console)
             } else {
                 Attended::unserved(console)
             };
@@ -58,18 +89,26 @@ pub(crate) fn serve_all<N: Name + Send + Sync, R: Host, I: Read + Drop, W: Write
     )
 }
 
-/// Waits until each worker has its CPU, and says whether they have.
-fn are_ready<R: Wait + Clock>(rt: &R, signals: &Signals, workers: u32) -> bool {
-    for _ in rt.forever() {
-        if signals.is_starved() {
-            return false;
-        }
-        if signals.ready() >= u64::from(workers) {
-            return true;
-        }
-        thread::sleep(rt, Duration::from_millis(1));
+/// Tells the address once each worker has its CPU, and answers the lines of the input until it
+/// ends.
+fn attend_when_ready<N: Name, R: Wait, M: Muster, I: Read, W: Write>(
+    rt: &R,
+    site: &Site<'_, N>,
+    muster: &mut M,
+    console: Console<I, W>,
+) -> Attended<I, W>
+    requires works { BothWork (console_streams I.remaining W.contents console) }
+    ensures attends { Attends site.now.system.now.arenas
+        (console_streams I.remaining W.contents console)
+        (console_streams I.remaining W.contents result.console) result.ended }
+    ensures ready { (result.ended ≡ Err RunFault.Memory)
+        ⊎ AreReady M.may_count muster.new site.now.plan.workers }
+{
+    if are_ready(rt, muster, site.plan.workers) {
+        attend(rt, site, console)
+    } else {
+        Attended::unserved(console)
     }
-    unreachable!()
 }
 
 /// What one worker does.

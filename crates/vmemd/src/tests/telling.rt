@@ -5,9 +5,10 @@ use crate::commands::{GivenWords, ServeWords, WordsFault, read_words};
 use crate::configs::read_config;
 use crate::endings::{end_run, end_script, end_words};
 use crate::faults::ScriptFault;
+use crate::retrying::tell_stuck;
 use crate::running::RunFault;
 use crate::signals::Signals;
-use crate::stopping::tell_stuck;
+use crate::stopping::Stuck;
 use lease_server::Watched;
 use std::alloc::{AllocGlobal, Global};
 use std::cell::RefCell;
@@ -86,7 +87,10 @@ fn stuck_is_told_once(rt: HostRuntime) {
     let signals = Signals::new();
     assert!(rt; !signals.is_stuck());
     for _ in 0..3 {
-        tell_stuck(&told, &signals);
+        tell_stuck(&mut Stuck {
+            rt: &told,
+            signals: &signals,
+        });
         assert!(rt; signals.is_stuck());
     }
     assert_eq!(rt; told.into_text().as_slice(), b"vmemd: shut\n".as_slice());

@@ -1,6 +1,9 @@
 use Rattle.lease_threads.specs.Ends.{begun}
-use Rattle.vmemd.proofs.RunningLemmas.{rest_left}
+use Rattle.vmemd.proofs.RunningLemmas.{ranges_at_last}
 use Rattle.vmemd.proofs.stopping.shut.Goals as goal
 
-pub returns-in-Err : goal.returns-in-Err
-returns-in-Err g c = rest_left (begun c.args.system) c.in-Err.halted c.shut_rest.result.items c.in-Err.ensures.rest c.shut_rest.ensures
+pub returns : goal.returns
+returns g c =
+    let (tries, retries) = c.put_back.ensures in
+    ranges_at_last (λ v. v.items) g.A.Alarm.may_note g.A.Alarm.may_tell tries (begun c.args.system) c.begin_shut.result c.args.alarm.now c.put_back.new.alarm c.put_back.result
+    (c.begin_shut.ensures.ranges, c.begin_shut.ensures.rest) retries
