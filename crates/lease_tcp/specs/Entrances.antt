@@ -6,7 +6,7 @@ use Rattle.lease_tcp.specs.Replying.{worker_of}
 abbrev pub at : {E K : Type 0} → E → K → AtEntrance E K
 at entrance worker = record { entrance = entrance; lines = record { worker = worker } }
 
--- whatever it did before, the last that it did was to tidy, once
+-- it is as a tidying may leave it, whatever it was before that
 abbrev pub HasTidied : {K : Type 0} → (K → K → Type 0) → K → K → Type 0
 HasTidied {K} may_tidy old new = (served : K) × may_tidy served new
 
@@ -26,8 +26,8 @@ MayMissAt may_miss old fault new =
 
 module _ {E K C G : Type 0} (may_enter : E → C → Option G → E → Type 0)
     (may_talk may_leave : E → G → E → Type 0) (may_tidy : K → K → Type 0) where
-  -- who was entered was served once, the worker tidied once after it, and then the guest left;
-  -- where no one was, nothing more was done
+  -- who was entered was talked with once, the worker is as a tidying may leave it, and then the
+  -- guest left; where no one was entered, nothing more was done
   abbrev pub Hosts : E → Option G → K → E → K → Type 0
   Hosts here None old left new = (left ≡ here) × (new ≡ old)
   Hosts here (Some guest) old left new = (talked : E) × may_talk here guest talked

@@ -10,9 +10,9 @@
 //! does so for a worker, with those of an `Entrance`, where each is entered, served and left, and
 //! has the worker tidy after each: over a `Door` (doors, loops) each is served through a reader and
 //! a writer that wait for its peer no longer than a `Pace` allows (pacing, deadlines), and while it
-//! stands on a `Roll` (rolls), by which all can be ended. A `Counted` worker (counts) has each line and reply counted
-//! once, by the words of specs/Counting.antt, in a `Tally` (tallies): a server has some, so that
-//! threads seldom count in the same.
+//! stands on a `Roll` (rolls), by which all can be ended. A `Counted` worker (counts) has each line
+//! and reply counted once, by the words of specs/Counting.antt, in a `Tally` (tallies): a server has
+//! some, so that threads seldom count in the same.
 //! `SystemWorker` (system_workers) is a worker of a running system, which tidies by `tidy_by`
 //! (tidying), and `accept_loop` its loop.
 //!
@@ -26,8 +26,8 @@
 //!
 //! What a line may be answered is stated in specs/Replying.antt, what a connection leaves in
 //! specs/Connections.antt, and what becomes of connections one after another in
-//! specs/Arrivals.antt and Entrances.antt, how a system is tidied in Tidying.antt. Of a socket no contract can say what it gives or takes, and of a clock none
-//! what it tells.
+//! specs/Arrivals.antt and Entrances.antt, how a system is tidied in Tidying.antt. Of a socket no
+//! contract can say what it gives or takes, and of a clock none what it tells.
 //!
 //! Each byte is looked at a few times, and a line costs what its worker does. A `SystemWorker` does
 //! a request of its system for each; after a connection it drains its CPU, reaps each arena, by at

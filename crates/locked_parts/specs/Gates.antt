@@ -34,8 +34,7 @@ step_after s event = record { cpu = s.cpu; turn = s.turn; event = event }
 abbrev pub CountsStep : (old new : StepCount) → Type 0
 CountsStep old new = (new.cpu ≡ old.cpu) × (new.turn ≡ min (old.turn + 1) (2 ^ 64 - 1))
 
--- the gate was asked about the next step, of this name, and no other; it is counted, and the gate
--- let it come or said Stop to it
+-- the gate let the next step come, of this name, or said Stop to it, and the step is counted
 abbrev pub AsksGate : {X : Type 0} → (may passed : X → NextStep → Type 0) → X → EventName
     → (stopped : Bool) → (old new : StepCount) → Type 0
 AsksGate may passed gate event stopped old new = CountsStep old new
