@@ -11,8 +11,8 @@
 //! has the worker tidy after each: over a `Door` (doors, loops) each is served through a reader and
 //! a writer that wait for its peer no longer than a `Pace` allows (pacing, deadlines), and while it
 //! stands on a `Roll` (rolls), by which all can be ended. A `Counted` worker (counts) has each line
-//! and reply counted once, by the words of specs/Counting.antt, in a `Tally` (tallies): a server has
-//! some, so that threads seldom count in the same.
+//! and reply counted once, by the words of specs/Counting.antt, in a `Tally` (tallies): a server
+//! has some, so that threads seldom count in the same.
 //! `SystemWorker` (system_workers) is a worker of a running system, which tidies by `tidy_by`
 //! (tidying), and `accept_loop` its loop.
 //!
