@@ -10,7 +10,8 @@
 # make starve refuses each growth of memory in turn, and the server's threads, files, listening and
 #             connections, in what make test left; make test tries each run's first 40 and every fifth then
 # make bench  measures bin/vmemd beside another server (bench/README.md); BENCH="--most 1000000"
-# make bench-serve  measures its server beside Redis, where that is there, and beside a bound (bench/README.md)
+# make bench-serve  measures its server beside Redis, where that is there, and beside a bound (bench/README.md), and has
+#             a Prometheus server, where that is there, look at it for a minute
 # make page   takes pictures of the page that shows a server, at two widths: it needs chromium (tools/page)
 # make install PREFIX=/usr/local DESTDIR=  puts bin/vmemd, its pages and a systemd unit in place
 # make clean  removes what was built
@@ -61,6 +62,8 @@ bench:
 bench-serve:
 	test -x bin/vmemd || $(MAKE) all
 	bench/serve $(BENCH) bin/vmemd
+	VMEMD=$(CURDIR)/bin/vmemd VMEMD_SECONDS=60 PYTHONPATH=clients/python \
+	  python3 -m unittest test_watch.Watched.test_prometheus_has_the_sums
 
 page:
 	tools/page --browser
