@@ -116,6 +116,7 @@ impl Setup {
         }
     }
 
+    /// Adds a root, and its range as the first of its spans.
     fn add_root(&mut self, root: &NewRoot) -> Result<(), SetupFault>
         ensures ok { OnOk result (TakesSetting self.old (Root root.now) self.new) }
         ensures refused { IfErr result (RefusesSetting self.old (Root root.now)) }
@@ -130,6 +131,7 @@ impl Setup {
         Ok(())
     }
 
+    /// Adds an arena that imports its spans, and so owns none.
     fn add_child(&mut self, child: &NewChild) -> Result<(), SetupFault>
         ensures ok { OnOk result (TakesSetting self.old (Child child.now) self.new) }
         ensures refused { IfErr result (RefusesSetting self.old (Child child.now)) }
@@ -138,6 +140,7 @@ impl Setup {
         self.tree.add_child(child)
     }
 
+    /// Adds a further span to a root that is there.
     fn add_span(&mut self, span: &NewSpan) -> Result<(), SetupFault>
         ensures ok { OnOk result (TakesSetting self.old (Span span.now) self.new) }
         ensures refused { IfErr result (RefusesSetting self.old (Span span.now)) }

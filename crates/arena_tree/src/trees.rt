@@ -240,6 +240,7 @@ impl Tree {
     }
 }
 
+/// The index of the arena of this name.
 fn position_of(arenas: &[TreeArena], name: &[u8]) -> Option<usize>
     ensures position { result ≡ position (λ x. bytes_eq x.name name.now) arenas.now }
     ensures within { IfSome result (λ k. k < length arenas.now) }

@@ -284,7 +284,7 @@ fn make_book(rt: &impl Abort, alloc: Global) -> Book<PlainDeed> {
     Book::new(alloc, PlainDeed::new(9, unit))
 }
 
-// A repeated request gets the same reply.
+/// A repeated request gets the same reply.
 #[test]
 fn repeats(rt: HostRuntime) {
     let rows = [
@@ -299,7 +299,7 @@ fn repeats(rt: HostRuntime) {
     run(&rt, &rows);
 }
 
-// A greater incarnation makes the requests of the older one old, and its leases can be swept.
+/// A greater incarnation makes the requests of the older one old, and its leases can be swept.
 #[test]
 fn restarts(rt: HostRuntime) {
     let rows = [
@@ -320,7 +320,7 @@ fn restarts(rt: HostRuntime) {
     run(&rt, &rows);
 }
 
-// Only the client that has a lease can release it.
+/// Only the client that has a lease can release it.
 #[test]
 fn releases(rt: HostRuntime) {
     let rows = [
@@ -340,7 +340,7 @@ fn releases(rt: HostRuntime) {
     run(&rt, &rows);
 }
 
-// Numbers come one after the other.
+/// Numbers come one after the other.
 #[test]
 fn numbers(rt: HostRuntime) {
     let rows = [
@@ -355,7 +355,7 @@ fn numbers(rt: HostRuntime) {
     run(&rt, &rows);
 }
 
-// A refusal is kept like a grant.
+/// A refusal is kept like a grant.
 #[test]
 fn refusals(rt: HostRuntime) {
     let no_fit = Refusal::NoFit;
@@ -383,7 +383,7 @@ fn lease_units(rt: &impl Abort, book: &mut Book<PlainDeed>, client: u32, count: 
     }
 }
 
-// A client has 1,024 leases at most.
+/// A client has 1,024 leases at most.
 #[test]
 fn limit(rt: HostRuntime) {
     let mut book = make_book(&rt, rt.alloc());
@@ -406,8 +406,8 @@ fn limit(rt: HostRuntime) {
     end(&rt, book);
 }
 
-// A client with more than a few leases: one of them is released and leased again, and those of an
-// older incarnation end in order of grant.
+/// A client with more than a few leases: one of them is released and leased again, and those of an
+/// older incarnation end in order of grant.
 #[test]
 fn many_leases(rt: HostRuntime) {
     let mut book = make_book(&rt, rt.alloc());
@@ -429,7 +429,7 @@ fn many_leases(rt: HostRuntime) {
     end(&rt, book);
 }
 
-// A book with a lease isn't closed.
+/// A book with a lease isn't closed.
 #[test]
 fn closes(rt: HostRuntime) {
     let mut book = make_book(&rt, rt.alloc());
@@ -446,8 +446,8 @@ fn closes(rt: HostRuntime) {
     }
 }
 
-// The lists of clients and of leases grow. Where an allocation is refused, as by
-// `rt try --test --fail-alloc N`, nothing changes.
+/// The lists of clients and of leases grow. Where an allocation is refused, as by
+/// `rt try --test --fail-alloc N`, nothing changes.
 #[test]
 fn grows(rt: HostRuntime) {
     let mut book = make_book(&rt, rt.alloc());

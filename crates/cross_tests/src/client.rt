@@ -292,8 +292,8 @@ fn held_in_order_of_acceptance(rt: HostRuntime) -> Result<(), Fail> {
     Ok(())
 }
 
-// A greater incarnation than its own ends all that a client has, also while a request is
-// outstanding; a lesser or equal one ends nothing.
+/// A greater incarnation than its own ends all that a client has, also while a request is
+/// outstanding; a lesser or equal one ends nothing.
 #[test]
 fn an_old_ends_all(rt: HostRuntime) -> Result<(), Fail> {
     let mut client = client(rt.alloc(), 2)?;

@@ -24,7 +24,7 @@ fn rounds(rt: HostRuntime) {
     run_anew(&rt, 3, 3, &steps);
 }
 
-// Magazines of each size: two of them and one round more are given, and taken again.
+/// Magazines of each size: two of them and one round more are given, and taken again.
 #[test]
 fn sizes(rt: HostRuntime) {
     for (size, units, most) in [(3, 3, 7), (7, 7, 15), (15, 15, 31), (31, 31, 63)] {
@@ -48,7 +48,7 @@ fn sizes(rt: HostRuntime) {
     }
 }
 
-// A second run meets an empty magazine in the depot, where the first had to make one.
+/// A second run meets an empty magazine in the depot, where the first had to make one.
 #[test]
 fn empty_magazines_come_back(rt: HostRuntime) {
     let steps = [
@@ -72,7 +72,7 @@ fn empty_magazines_come_back(rt: HostRuntime) {
     run_anew(&rt, 3, 3, &steps);
 }
 
-// A CPU whose magazines are of an old size changes over, with no exchange, as it needs room.
+/// A CPU whose magazines are of an old size changes over, with no exchange, as it needs room.
 #[test]
 fn a_full_cache_changes_over(rt: HostRuntime) {
     let steps = [
@@ -103,7 +103,7 @@ fn a_full_cache_changes_over(rt: HostRuntime) {
     run_anew(&rt, 3, 7, &steps);
 }
 
-// So does one that has no round to give: it gets none, and is of the depot's size from then on.
+/// So does one that has no round to give: it gets none, and is of the depot's size from then on.
 #[test]
 fn an_empty_cache_changes_over(rt: HostRuntime) {
     run_anew(&rt, 3, 15, &[Step::NoRound, Step::Size(15)]);
@@ -137,8 +137,8 @@ fn working_set(rt: HostRuntime) {
     close(&rt, cpu);
 }
 
-// After a resize the full magazines of the old size go first, the oldest of them at the start; one
-// of the new size goes once it stood over an interval.
+/// After a resize the full magazines of the old size go first, the oldest of them at the start; one
+/// of the new size goes once it stood over an interval.
 #[test]
 fn old_sizes_are_reaped_first(rt: HostRuntime) {
     let first = [
@@ -172,8 +172,8 @@ fn old_sizes_are_reaped_first(rt: HostRuntime) {
     close_depot(&rt, depot);
 }
 
-// An empty cache of size 3 asks a depot of size 7 for a full magazine, before and after it changes
-// over.
+/// An empty cache of size 3 asks a depot of size 7 for a full magazine, before and after it changes
+/// over.
 fn change_over(rt: &(impl Abort + AllocGlobal), depot: &mut Depot<PlainDeed>) {
     let mut cpu = cache_of(rt, 3);
     assert_eq!(rt; depot.swap_for_full(&mut cpu), Err(FullFault::OldSize(7)));
@@ -183,7 +183,7 @@ fn change_over(rt: &(impl Abort + AllocGlobal), depot: &mut Depot<PlainDeed>) {
     close(rt, cpu);
 }
 
-// What a cache is unloaded into is given and taken by itself.
+/// What a cache is unloaded into is given and taken by itself.
 #[test]
 fn unloads(rt: HostRuntime) {
     let alloc = rt.alloc();
@@ -210,8 +210,8 @@ fn discard(rt: &impl Abort, magazine: Magazine<PlainDeed>) {
     }
 }
 
-// Each round is kept, or comes back where it is out of memory and is then kept, and each is taken
-// again. So the cache changes over, and its full magazines are exchanged for ones that are made.
+/// Each round is kept, or comes back where it is out of memory and is then kept, and each is taken
+/// again. So the cache changes over, and its full magazines are exchanged for ones that are made.
 #[test]
 fn no_round_is_lost(rt: HostRuntime) {
     let alloc = rt.alloc();
@@ -240,7 +240,7 @@ fn no_round_is_lost(rt: HostRuntime) {
     close_depot(&rt, depot);
 }
 
-// Gives the round at this base by a run of its own, and tells whether it is kept.
+/// Gives the round at this base by a run of its own, and tells whether it is kept.
 fn gives_one(
     rt: &impl Abort,
     alloc: Global,
@@ -262,7 +262,7 @@ fn gives_one(
     }
 }
 
-// Takes a round by a run of its own, and tells whether there was one.
+/// Takes a round by a run of its own, and tells whether there was one.
 fn takes_one(
     rt: &impl Abort,
     alloc: Global,
@@ -283,7 +283,7 @@ fn takes_one(
     }
 }
 
-// Runs one operation. Where its answer is out of memory, what was given comes back.
+/// Runs one operation. Where its answer is out of memory, what was given comes back.
 fn only_one(
     rt: &impl Abort,
     alloc: Global,

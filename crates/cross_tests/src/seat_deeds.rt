@@ -9,8 +9,8 @@ use std::process::Abort;
 use std::test::*;
 use tag_arena::{Arena, Policy};
 
-// Three segments of a root of twelve units, freed in an order that leaves each a neighbor to merge
-// with: all twelve are one range again, and the deed of the whole closes its root.
+/// Three segments of a root of twelve units, freed in an order that leaves each a neighbor to merge
+/// with: all twelve are one range again, and the deed of the whole closes its root.
 #[test]
 fn frees_leave_one_range(rt: HostRuntime) -> Result<(), Fail> {
     carved_and_closed::<Brand, _>(&rt, rt.alloc(), Ground::new(rt.alloc())?)
@@ -50,7 +50,8 @@ fn carved_and_closed<N: Name, R: Abort>(rt: &R, alloc: Global, ground: Ground) -
     Ok(())
 }
 
-// Ranges that come one after another are roots of their own, and the deeds of the spans close them.
+/// Ranges that come one after another are roots of their own, and the deeds of the spans close
+/// them.
 #[test]
 fn spans_are_roots(rt: HostRuntime) -> Result<(), Fail> {
     grown_and_closed::<Brand, _>(&rt, rt.alloc(), Ground::new(rt.alloc())?)
@@ -80,7 +81,7 @@ fn grown_and_closed<N: Name, R: Abort>(rt: &R, alloc: Global, ground: Ground) ->
     }
 }
 
-// Opens the range as a root of the arena.
+/// Opens the range as a root of the arena.
 fn grown<N: Name, R: Abort>(
     rt: &R,
     arena: &mut Arena<SeatDeed<N>>,
@@ -97,8 +98,8 @@ fn grown<N: Name, R: Abort>(
     arena.grow(range, roots).expect(rt, "memory");
 }
 
-// Closes the last of the roots, which must be the one of this number, by the lowest span, which must
-// be its whole range.
+/// Closes the last of the roots, which must be the one of this number, by the lowest span, which
+/// must be its whole range.
 fn end_span<N: Name, R: Abort>(
     rt: &R,
     arena: &mut Arena<SeatDeed<N>>,

@@ -20,8 +20,8 @@ fn deeds(rt: HostRuntime) -> Result<(), Fail> {
     cut_and_closed::<Brand, _>(&rt, Ground::new(rt.alloc())?)
 }
 
-// A root is opened, its deed is cut, the parts are shown apart and made whole, and the root is
-// closed.
+/// A root is opened, its deed is cut, the parts are shown apart and made whole, and the root is
+/// closed.
 fn cut_and_closed<N: Name, R: Abort>(rt: &R, ground: Ground) -> Result<(), Fail>
     requires { ground ≡ N.table }
 {
@@ -48,7 +48,7 @@ fn borders(rt: HostRuntime) -> Result<(), Fail> {
     border_of_seats::<Brand, _>(&rt, Ground::new(rt.alloc())?)
 }
 
-// The law of deeds over the deeds of running threads.
+/// The law of deeds over the deeds of running threads.
 fn border_of_seats<N: Name, R: Abort>(rt: &R, ground: Ground) -> Result<(), Fail>
     requires { ground ≡ N.table }
 {
@@ -68,7 +68,7 @@ fn closes_no_part(rt: HostRuntime) -> Result<(), Fail> {
     part_refused::<Brand, _>(&rt, Ground::new(rt.alloc())?)
 }
 
-// A deed that was split once does not close its root, and both come back.
+/// A deed that was split once does not close its root, and both come back.
 fn part_refused<N: Name, R: Abort>(rt: &R, ground: Ground) -> Result<(), Fail>
     requires { ground ≡ N.table }
 {
@@ -94,7 +94,7 @@ fn shares_numbers(rt: HostRuntime) -> Result<(), Fail> {
     two_openers::<Brand, _>(&rt, Ground::new(rt.alloc())?)
 }
 
-// Two openers open the numbers that they have, and a deed of another root does not close a root.
+/// Two openers open the numbers that they have, and a deed of another root does not close a root.
 fn two_openers<N: Name, R: Abort>(rt: &R, ground: Ground) -> Result<(), Fail>
     requires { ground ≡ N.table }
 {
@@ -119,7 +119,7 @@ fn two_openers<N: Name, R: Abort>(rt: &R, ground: Ground) -> Result<(), Fail>
     Ok(())
 }
 
-// Where growths are refused, numbers are shared and roots opened again.
+/// Where growths are refused, numbers are shared and roots opened again.
 #[test]
 fn openers_go_on(rt: HostRuntime) {
     let ground = match Ground::new(rt.alloc()) {
@@ -141,7 +141,7 @@ fn goes_on<N: Name, R: Abort>(rt: &R, ground: Ground)
     end(rt, second, other);
 }
 
-// Gives 2^16 numbers away, again where it was out of memory: then none had moved.
+/// Gives 2^16 numbers away, again where it was out of memory: then none had moved.
 fn share_again<N: Name, R: Abort>(rt: &R, opener: &mut Opener<N>) -> Opener<N> {
     let before = (opener.first(), opener.left());
     assert!(rt; before.1 >= 1 << 16);
@@ -152,7 +152,7 @@ fn share_again<N: Name, R: Abort>(rt: &R, opener: &mut Opener<N>) -> Opener<N> {
     opener.share(1 << 16).expect(rt, "refused twice")
 }
 
-// Opens the next number, again where it was out of memory: then none was used.
+/// Opens the next number, again where it was out of memory: then none was used.
 fn open_again<N: Name, R: Abort>(rt: &R, opener: &mut Opener<N>) -> (Root<N>, SeatDeed<N>) {
     let before = (opener.first(), opener.left());
     assert!(rt; before.1 > 0);
@@ -169,7 +169,7 @@ fn pairs(rt: HostRuntime) -> Result<(), Fail> {
     paired::<Brand, _>(&rt, Ground::new(rt.alloc())?)
 }
 
-// Two deeds that stayed joined tell their ranges, and are parted later.
+/// Two deeds that stayed joined tell their ranges, and are parted later.
 fn paired<N: Name, R: Abort>(rt: &R, ground: Ground) -> Result<(), Fail>
     requires { ground ≡ N.table }
 {
@@ -193,8 +193,8 @@ fn threads(rt: HostRuntime) -> Result<(), Fail> {
     two_threads::<Brand, _>(&rt, Ground::new(rt.alloc())?)
 }
 
-// The parts of a root go to two threads, which cut them and make them whole in step: each joins its
-// parts only once the other has cut its own.
+/// The parts of a root go to two threads, which cut them and make them whole in step: each joins
+/// its parts only once the other has cut its own.
 fn two_threads<N: Name + Send + Sync, R: Abort + Threads + Sync>(
     rt: &R,
     ground: Ground,
@@ -223,7 +223,8 @@ fn two_threads<N: Name + Send + Sync, R: Abort + Threads + Sync>(
     Ok(())
 }
 
-// Takes the deed, cuts it at each of its units in turn, meets the other thread, and makes it whole.
+/// Takes the deed, cuts it at each of its units in turn, meets the other thread, and makes it
+/// whole.
 fn recut<N: Name, R: Abort>(
     rt: &R,
     slot: &mut Option<SeatDeed<N>>,
@@ -242,7 +243,7 @@ fn recut<N: Name, R: Abort>(
     deed
 }
 
-// Counts an arrival and waits until there are `wanted`, for ten million turns at most.
+/// Counts an arrival and waits until there are `wanted`, for ten million turns at most.
 fn meet<R: Abort>(rt: &R, arrivals: &AtomicU64, wanted: u64) {
     arrivals.fetch_add(1, Ordering::SeqCst);
     for _ in 0..10_000_000 {
@@ -254,7 +255,7 @@ fn meet<R: Abort>(rt: &R, arrivals: &AtomicU64, wanted: u64) {
     panic!(rt; "the other thread does not come")
 }
 
-// Ends a slot whose deed was taken.
+/// Ends a slot whose deed was taken.
 fn ended<D: Deed, R: Abort>(rt: &R, slot: Option<D>) {
     match slot {
         None => {}
@@ -262,7 +263,7 @@ fn ended<D: Deed, R: Abort>(rt: &R, slot: Option<D>) {
     }
 }
 
-// Opens the next number as a root of the units from 0 to 15.
+/// Opens the next number as a root of the units from 0 to 15.
 fn opened<N: Name, R: Abort>(rt: &R, opener: &mut Opener<N>) -> (Root<N>, SeatDeed<N>)
     requires { 0 < opener.old.left }
     ensures { result.1 ≡ result.0 }
@@ -271,7 +272,7 @@ fn opened<N: Name, R: Abort>(rt: &R, opener: &mut Opener<N>) -> (Root<N>, SeatDe
     opener.open_root(range).expect(rt, "memory")
 }
 
-// Cuts a deed that has the unit below `at` and the unit `at`.
+/// Cuts a deed that has the unit below `at` and the unit `at`.
 fn cut<N: Name, R: Abort>(rt: &R, deed: SeatDeed<N>, at: u64) -> (SeatDeed<N>, SeatDeed<N>)
     ensures { GoesOn result.0 result.1 }
 {
@@ -283,7 +284,7 @@ fn cut<N: Name, R: Abort>(rt: &R, deed: SeatDeed<N>, at: u64) -> (SeatDeed<N>, S
     }
 }
 
-// Closes a root by the deed of the whole.
+/// Closes a root by the deed of the whole.
 fn end<N: Name, R: Abort>(rt: &R, root: Root<N>, deed: SeatDeed<N>) {
     match close(root, deed) {
         Ok(range) => assert_eq!(rt; bounds(&range), (0, 16)),
@@ -291,12 +292,12 @@ fn end<N: Name, R: Abort>(rt: &R, root: Root<N>, deed: SeatDeed<N>) {
     }
 }
 
-// The base and the length.
+/// The base and the length.
 fn bounds(range: &Range) -> (u64, u64) {
     (range.base(), range.len())
 }
 
-// Ends the test, with what it held.
+/// Ends the test, with what it held.
 fn stuck<X, R: Abort>(rt: &R, held: X) -> ! {
     let _held = held;
     panic!(rt; "refused")

@@ -16,6 +16,7 @@ use atomic_table::{Seat, Table};
 use deed_core::Range;
 use std::alloc::Global;
 
+/// The table that deeds share: what a seat knows is its view, by the rule `OnceEach`.
 pub(crate) type DeedTable = Table<(), View, (), OnceEach, Global>;
 
 /// Cuts the first range of a seat, and gives the part from `at` on to a new seat.

@@ -54,8 +54,8 @@ GivesBack g old line text = (id : RequestId) × (l : ReleaseLine)
     × (l.arena ≡ g.arena) × (l.base ≡ g.base)
     × (text ≡ reply_bytes (reply.Released id))
 
--- the line is a hello of a greater incarnation of the client that it was granted to, and is welcome,
--- by whichever protocol
+-- the line is a hello of a greater incarnation of the client that it was granted to, and is
+-- welcome, by whichever protocol
 abbrev pub SweepsAway : Granted → List ℕ → List ℕ → Type 0
 SweepsAway g line text = (h : HelloLine) × (served_of line ≡ Ok (served.Client (lines.Hello h)))
     × (h.client ≡ g.id.client) × (g.id.incarnation < h.incarnation)

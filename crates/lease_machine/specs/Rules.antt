@@ -117,7 +117,8 @@ RequestRule id (ops.Lease l) old r new = LeaseRule id l old r new
 RequestRule id (ops.Release l) old r new = ReleaseRule id l old r new
 
 -- its incarnation is the client's: where it is a greater one numbers begin anew, by the protocol
--- that it asks for, with no reply kept; where it was that before its protocol stands, and they go on
+-- that it asks for, with no reply kept; where it was that before its protocol stands, and they go
+-- on
 pub record Greets (h : HelloLine) (old new : Account) : Type 0 where
   pub current : old.incarnation ≤ h.incarnation
   pub becomes : new.incarnation ≡ h.incarnation

@@ -37,8 +37,8 @@ pub fn picture_laws()
     ensures cpu { FreshCpuFits }
 {}
 
-/// After any lines each unit is in one home, and no two leases overlap whose arenas have one top; the
-/// arenas own the spans that they owned, and more only by grows.
+/// After any lines each unit is in one home, and no two leases overlap whose arenas have one top;
+/// the arenas own the spans that they owned, and more only by grows.
 pub fn home_laws()
     ensures stay { PicturesStay }
     ensures grows { SetupOnlyGrows }

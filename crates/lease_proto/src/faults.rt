@@ -76,6 +76,7 @@ impl ErrorWord {
     ghost use Rattle.std.specs.Prelude.{◌≡◌, ◌≤◌, length};
     ghost use Rattle.lease_proto.specs.Faults.{error_word, error_text, error_word_in};
 
+    /// What the word of an `error` line says. Another word makes the line a bad one.
     pub(crate) fn read(word: &[u8]) -> Result<Self, LineFault>
         ensures { result ≡ error_word_in word.now }
     {

@@ -26,7 +26,9 @@ pub type FramedLine = ArrayVec<u8, LINE_ROOM>;
 /// fed once, or twice where it keeps it.
 #[derive(Drop)]
 pub struct LineReader {
+    /// The line that has begun, cut after `LINE_ROOM` bytes.
     front: FramedLine,
+    /// Whether the line feed has come.
     ended: bool,
 }
 

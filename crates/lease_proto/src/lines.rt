@@ -54,6 +54,7 @@ impl LeaseOptions {
         }
     }
 
+    /// Each of its values is in its range. This does nothing: it is called for its clause.
     fn check(&self)
         ensures { AreOptions self.now }
     {
@@ -64,6 +65,7 @@ impl LeaseOptions {
         let _ = self.max.get();
     }
 
+    /// Appends the options that differ from no constraint, each as its keyword and its number.
     fn push(&self, out: &mut Vec<u8>)
         requires { vec_len out.old + OPTIONS_ROOM ≤ vec_capacity out.old }
         ensures text { out.new.items ≡ out.old.items ++ spaced_text (options_words self.now) }
@@ -87,6 +89,7 @@ pub struct HelloLine {
 }
 
 impl HelloLine {
+    /// The line of the words after `hello`.
     #[tactic(auto, unfolding(crate::specs::Grammar::hello_in))]
     fn read(words: &mut Words<'_>) -> Result<Line, LineFault>
         ensures { result ≡ hello_in words.old }
@@ -101,6 +104,7 @@ impl HelloLine {
         }))
     }
 
+    /// Appends the words after `hello`, a space before each; the first protocol has no word.
     fn push(&self, out: &mut Vec<u8>)
         requires { vec_len out.old + HELLO_ROOM ≤ vec_capacity out.old }
         ensures text { out.new.items ≡ out.old.items ++ spaced_text (hello_words self.now) }
@@ -136,6 +140,7 @@ impl LeaseLine {
         }
     }
 
+    /// The line of the words after `lease`.
     #[tactic(auto, unfolding(crate::specs::Grammar::lease_in))]
     fn read(words: &mut Words<'_>) -> Result<Line, LineFault>
         ensures { result ≡ lease_in words.old }
@@ -187,6 +192,7 @@ impl LeaseLine {
         Ok(Line::Request(id, Op::Lease(lease)))
     }
 
+    /// Appends the words after the id, a space before each.
     fn push(&self, out: &mut Vec<u8>)
         requires { vec_len out.old + (NAME_ROOM + NUMBER_ROOM + OPTIONS_ROOM)
             ≤ vec_capacity out.old }
@@ -208,6 +214,7 @@ pub struct ReleaseLine {
 }
 
 impl ReleaseLine {
+    /// The line of the words after `release`.
     #[tactic(auto, unfolding(crate::specs::Grammar::release_in))]
     fn read(words: &mut Words<'_>) -> Result<Line, LineFault>
         ensures { result ≡ release_in words.old }
@@ -224,6 +231,7 @@ impl ReleaseLine {
         Ok(Line::Request(id, Op::Release(release)))
     }
 
+    /// Appends the words after the id, a space before each.
     fn push(&self, out: &mut Vec<u8>)
         requires { vec_len out.old + (NAME_ROOM + NUMBER_ROOM) ≤ vec_capacity out.old }
         ensures text { out.new.items ≡ out.old.items ++ spaced_text (release_words self.now) }
@@ -260,6 +268,7 @@ impl Op {
         }
     }
 
+    /// The word that says what is asked for, before the id.
     fn keyword(&self) -> &'static [u8]
         ensures { result.now ≡ op_word self.now }
     {
@@ -291,6 +300,7 @@ impl Line {
         line
     }
 
+    /// The line of these parts, be they words or not.
     #[tactic(auto, unfolding(crate::specs::Grammar::line_in))]
     fn of_parts(mut words: Words<'_>) -> Result<Line, LineFault>
         ensures { result ≡ line_in words.entry }
@@ -343,6 +353,7 @@ impl Line {
         Ok(())
     }
 
+    /// The first word of the line.
     fn keyword(&self) -> &'static [u8]
         ensures { result.now ≡ first_word self.now }
     {

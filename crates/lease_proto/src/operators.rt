@@ -36,6 +36,7 @@ impl MagazineSize {
         }
     }
 
+    /// The size that a word names. Another word is no number that may stand there.
     fn read(word: &[u8]) -> Result<Self, LineFault>
         ensures { result ≡ size_in word.now }
     {
@@ -61,6 +62,7 @@ pub struct ResizeLine {
 }
 
 impl ResizeLine {
+    /// The line of the words after `resize`.
     #[tactic(auto, unfolding(crate::specs::Operators::resize_in))]
     fn read(words: &mut Words<'_>) -> Result<OperatorLine, LineFault>
         ensures { result ≡ resize_in words.old }
@@ -232,6 +234,7 @@ impl ServedLine {
         line
     }
 
+    /// The line of these parts, be they words or not; the first says whether it is an operator's.
     #[tactic(auto, unfolding(crate::specs::Operators::served_in))]
     fn of_words(mut words: Words<'_>) -> Result<ServedLine, LineFault>
         ensures { result ≡ served_in words.entry }

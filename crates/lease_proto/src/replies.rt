@@ -39,6 +39,7 @@ pub struct Welcome {
 }
 
 impl Welcome {
+    /// The reply of the words after `welcome`.
     #[tactic(auto, unfolding(crate::specs::Replies::welcome_in))]
     fn read(words: &mut Words<'_>) -> Result<Self, LineFault>
         ensures { result ≡ welcome_in words.old }
@@ -53,6 +54,7 @@ impl Welcome {
         })
     }
 
+    /// Appends the words after `welcome`, a space before each; the first protocol has no word.
     fn push(&self, out: &mut Vec<u8>)
         requires { vec_len out.old + HELLO_ROOM ≤ vec_capacity out.old }
         ensures text { out.new.items ≡ out.old.items ++ spaced_text (welcome_words self.now) }
@@ -75,6 +77,7 @@ pub struct Granted {
 }
 
 impl Granted {
+    /// The reply of the words after `granted`.
     #[tactic(auto, unfolding(crate::specs::Replies::granted_in))]
     fn read(words: &mut Words<'_>) -> Result<Self, LineFault>
         ensures { result ≡ granted_in words.old }
@@ -92,6 +95,7 @@ impl Granted {
         })
     }
 
+    /// Appends the words after `granted`, a space before each.
     fn push(&self, out: &mut Vec<u8>)
         requires { vec_len out.old + (ID_ROOM + NAME_ROOM + 2 * NUMBER_ROOM)
             ≤ vec_capacity out.old }
@@ -114,6 +118,7 @@ pub struct RefusedRequest {
 }
 
 impl RefusedRequest {
+    /// The reply of the words after `refused`.
     #[tactic(auto, unfolding(crate::specs::Replies::refused_in))]
     fn read(words: &mut Words<'_>) -> Result<Self, LineFault>
         ensures { result ≡ refused_in words.old }
@@ -127,6 +132,7 @@ impl RefusedRequest {
         })
     }
 
+    /// Appends the words after `refused`, a space before each.
     fn push(&self, out: &mut Vec<u8>)
         requires { vec_len out.old + (ID_ROOM + 11) ≤ vec_capacity out.old }
         ensures text { out.new.items ≡ out.old.items ++ spaced_text (refused_words self.now) }
@@ -146,6 +152,7 @@ pub struct Old {
 }
 
 impl Old {
+    /// The reply of the words after `old`.
     #[tactic(auto, unfolding(crate::specs::Replies::old_in))]
     fn read(words: &mut Words<'_>) -> Result<Self, LineFault>
         ensures { result ≡ old_in words.old }
@@ -159,6 +166,7 @@ impl Old {
         })
     }
 
+    /// Appends the words after `old`, a space before each.
     fn push(&self, out: &mut Vec<u8>)
         requires { vec_len out.old + 2 * NUMBER_ROOM ≤ vec_capacity out.old }
         ensures text { out.new.items ≡ out.old.items ++ spaced_text (old_words self.now) }
@@ -181,6 +189,7 @@ pub struct OutOfTurn {
 }
 
 impl OutOfTurn {
+    /// What the words after `stale` or `gap` say.
     #[tactic(auto, unfolding(crate::specs::Replies::out_of_turn_in))]
     fn read(words: &mut Words<'_>) -> Result<Self, LineFault>
         ensures { result ≡ out_of_turn_in words.old }
@@ -194,6 +203,7 @@ impl OutOfTurn {
         })
     }
 
+    /// Appends the words after `stale` or `gap`, a space before each.
     fn push(&self, out: &mut Vec<u8>)
         requires { vec_len out.old + (ID_ROOM + NUMBER_ROOM) ≤ vec_capacity out.old }
         ensures text { out.new.items ≡ out.old.items ++ spaced_text (out_of_turn_words self.now) }
@@ -214,6 +224,7 @@ pub struct Again {
 }
 
 impl Again {
+    /// The reply of the words after `again`.
     #[tactic(auto, unfolding(crate::specs::Replies::again_in))]
     fn read(words: &mut Words<'_>) -> Result<Self, LineFault>
         ensures { result ≡ again_in words.old }
@@ -229,6 +240,7 @@ impl Again {
         })
     }
 
+    /// Appends the words after `again`, a space before each.
     fn push(&self, out: &mut Vec<u8>)
         requires { vec_len out.old + 3 * NUMBER_ROOM ≤ vec_capacity out.old }
         ensures text { out.new.items ≡ out.old.items ++ spaced_text (again_words self.now) }
@@ -329,6 +341,7 @@ impl Reply {
         Ok(())
     }
 
+    /// The first word of the reply.
     fn keyword(&self) -> &'static [u8]
         ensures { result.now ≡ first_reply_word self.now }
     {
@@ -448,6 +461,7 @@ impl Reply {
     }
 }
 
+/// The request that the words after `released` name.
 #[tactic(auto, unfolding(crate::specs::Replies::released_in))]
 fn released(words: &mut Words<'_>) -> Result<RequestId, LineFault>
     ensures { result ≡ released_in words.old }
@@ -457,6 +471,7 @@ fn released(words: &mut Words<'_>) -> Result<RequestId, LineFault>
     id.read()
 }
 
+/// What the one word after `error` says.
 #[tactic(auto, unfolding(crate::specs::Replies::error_in))]
 fn error(words: &mut Words<'_>) -> Result<ErrorWord, LineFault>
     ensures { result ≡ error_in words.old }

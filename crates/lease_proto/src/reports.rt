@@ -39,6 +39,7 @@ impl AuditLine {
         self.write_sums(out)
     }
 
+    /// Appends what stands after the arena's name. Out of memory, a part of it may be appended.
     fn write_sums(&self, out: &mut Vec<u8>) -> Result<(), AllocError>
         ensures ok { OnOk result (out.new.items ≡ out.old.items ++ sums_text self.now) }
         ensures front { OnErr result (StartsWith out.new.items out.old.items) }

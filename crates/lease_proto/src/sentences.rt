@@ -24,6 +24,7 @@ pub(crate) fn name(word: &[u8]) -> Result<ArenaName, LineFault>
 /// is taken: what is left of the line isn't cut yet.
 #[derive(Drop)]
 pub(crate) struct Words<'a> {
+    /// The bytes from the next word on; `None` once the last is taken.
     rest: Option<&'a [u8]>,
 }
 

@@ -32,6 +32,7 @@ pub struct RootLine {
 }
 
 impl RootLine {
+    /// The line of the words after `root`.
     #[tactic(auto, unfolding(crate::specs::SetupLines::root_in))]
     fn read(words: &mut Words<'_>) -> Result<Self, LineFault>
         ensures { result ≡ root_in words.old }
@@ -67,6 +68,7 @@ pub struct ChildLine {
 }
 
 impl ChildLine {
+    /// The line of the words after `child`.
     #[tactic(auto, unfolding(crate::specs::SetupLines::child_in))]
     fn read(words: &mut Words<'_>) -> Result<Self, LineFault>
         ensures { result ≡ child_in words.old }
@@ -98,6 +100,7 @@ pub struct SpanLine {
 }
 
 impl SpanLine {
+    /// The line of the words after `span`.
     #[tactic(auto, unfolding(crate::specs::SetupLines::span_in))]
     fn read(words: &mut Words<'_>) -> Result<Self, LineFault>
         ensures { result ≡ span_in words.old }
@@ -132,6 +135,7 @@ impl SetupLine {
         SetupLine::of_words(&mut words(bytes)?)
     }
 
+    /// The setup line of these words.
     #[tactic(auto, unfolding(crate::specs::SetupLines::setup_in))]
     fn of_words(words: &mut Words<'_>) -> Result<SetupLine, LineFault>
         ensures { result ≡ setup_in words.old }

@@ -37,7 +37,9 @@ pub struct Intake {
     start: usize,
     /// .. to here.
     end: usize,
+    /// How often its stream was read.
     reads: u64,
+    /// Whether the stream has ended.
     ended: bool,
 }
 

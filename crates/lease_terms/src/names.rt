@@ -82,6 +82,7 @@ fn is_word(text: &[u8]) -> bool
     !text.is_empty()
 }
 
+/// Whether a byte is one of the letters a to z, with which a name begins.
 fn is_letter(byte: u8) -> bool
     ensures { result ≡ spec.is_letter byte }
 {

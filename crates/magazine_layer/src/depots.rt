@@ -25,13 +25,19 @@ use std::marker::Model;
 /// ("Magazines and Vmem", 2001). What is reaped first is our own choice: the oldest. It is never
 /// dropped: `close` ends it where it has no round.
 pub struct Depot<D: Deed> {
+    /// How many rounds each of its magazines may have.
     size: usize,
     full: VecDeque<FullMagazine<D>>,
+    /// How many of the full ones may be reaped.
     full_reapable: usize,
     empty: VecDeque<Magazine<D>>,
+    /// How many of the empty ones may be reaped.
     empty_reapable: usize,
+    /// Full magazines of lesser sizes, from before it was resized; all of them go back.
     old_full: VecDeque<FullMagazine<D>>,
+    /// How many rounds those have.
     old_rounds: u128,
+    /// What is left of the magazine that is being reaped.
     draining: Vec<Segment<D>>,
 }
 

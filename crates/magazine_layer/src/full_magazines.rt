@@ -25,6 +25,7 @@ impl<D: Deed> Model for FullMagazine<D> {
 }
 
 impl<D: Deed> FullMagazine<D> {
+    /// The magazine, which is full; that it is so isn't looked at.
     pub(crate) fn new(magazine: Magazine<D>) -> FullMagazine<D>
         requires { length magazine.rounds ≡ magazine.size }
         ensures { result ≡ magazine.rounds }
@@ -32,6 +33,7 @@ impl<D: Deed> FullMagazine<D> {
         FullMagazine { magazine }
     }
 
+    /// The magazine itself, still full.
     pub(crate) fn into_magazine(self) -> Magazine<D>
         ensures { result ≡ record { size = length self; rounds = self } }
     {

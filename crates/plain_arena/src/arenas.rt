@@ -45,6 +45,7 @@ pub struct PlainArena<D: Deed> {
     imported: Vec<Import>,
     free: Vec<Stored<D>>,
     tags: Tags,
+    /// The end of the last grant.
     rover: u64,
 }
 

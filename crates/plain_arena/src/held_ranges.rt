@@ -23,24 +23,28 @@ impl Model for HeldRange {
 }
 
 impl HeldRange {
+    /// This range of this root.
     pub(crate) fn new(root: u32, range: Range) -> HeldRange
         ensures { result ≡ record { root = root; range = range } }
     {
         HeldRange { root, range }
     }
 
+    /// The root that it is a range of.
     pub(crate) fn root(&self) -> u32
         ensures { result ≡ self.now.root }
     {
         self.root
     }
 
+    /// Its units, without the root.
     pub(crate) fn range(&self) -> Range
         ensures { result ≡ self.now.range }
     {
         self.range
     }
 
+    /// Its first unit.
     pub(crate) fn base(&self) -> u64
         ensures value { result ≡ self.now.range.base }
         ensures range { IsRange self.now.range }
@@ -48,6 +52,7 @@ impl HeldRange {
         self.range.base()
     }
 
+    /// How many units it has.
     pub(crate) fn len(&self) -> u64
         ensures value { result ≡ self.now.range.len }
         ensures range { IsRange self.now.range }

@@ -28,18 +28,21 @@ impl Model for Import {
 }
 
 impl Import {
+    /// The span that came from this arena.
     pub(crate) fn new(source: u32, span: HeldRange) -> Import
         ensures { result ≡ record { arena = source; route = Direct; holding = span } }
     {
         Import { source, span }
     }
 
+    /// The arena that the span goes back to.
     pub(crate) fn source(&self) -> u32
         ensures { result ≡ self.now.arena }
     {
         self.source
     }
 
+    /// The span, without the arena that it came from.
     pub(crate) fn span(&self) -> HeldRange
         ensures { result ≡ self.now.holding }
     {

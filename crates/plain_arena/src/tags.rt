@@ -32,6 +32,7 @@ impl Model for Tags {
 }
 
 impl Tags {
+    /// No range.
     pub(crate) fn new(alloc: Global) -> Tags
         ensures { result ≡ finmap.empty }
     {
@@ -41,12 +42,14 @@ impl Tags {
         }
     }
 
+    /// How many ranges are allocated.
     pub(crate) fn len(&self) -> usize
         ensures { result ≡ finmap.len self.now }
     {
         self.count
     }
 
+    /// The allocated range at a base, where one stands.
     pub(crate) fn get(&self, base: u64) -> Option<HeldRange>
         ensures { result ≡ finmap.get self.now base }
     {

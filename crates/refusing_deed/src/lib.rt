@@ -29,6 +29,7 @@ impl RefusingDeed {
         RefusingDeed::counting(root, range, Some(splits_left))
     }
 
+    /// The deed of a range of a root; with `None` no split of it is refused.
     fn counting(root: u32, range: Range, splits_left: Option<u32>) -> RefusingDeed
         ensures holding { ⟦<RefusingDeed as Deed>⟧.holding result
             ≡ record { root = root; range = range } }

@@ -47,7 +47,7 @@ fn root(
     setup.add(&Setting::Root(root)).expect(rt, "a root");
 }
 
-// An arena that imports 16 units or more of another, and caches up to 5.
+/// An arena that imports 16 units or more of another, and caches up to 5.
 fn child(rt: &impl Abort, setup: &mut Setup, name: &str, source: &str) {
     let child = NewChild {
         name: ArenaName::new(name.as_bytes()).expect(rt, "a name"),
@@ -60,7 +60,7 @@ fn child(rt: &impl Abort, setup: &mut Setup, name: &str, source: &str) {
     setup.add(&Setting::Child(child)).expect(rt, "a child");
 }
 
-// A further span of a root.
+/// A further span of a root.
 fn span(rt: &impl Abort, setup: &mut Setup, name: &str, base: u64, len: u64) {
     let span = NewSpan {
         name: ArenaName::new(name.as_bytes()).expect(rt, "a name"),
@@ -81,7 +81,7 @@ fn same(rt: &(impl Abort + AllocGlobal), reply: &Reply, text: &str) {
     assert!(rt; out.as_slice() == text.as_bytes(), "another reply");
 }
 
-// Ends the test, with what it held.
+/// Ends the test, with what it held.
 fn stuck<X, R: Abort>(rt: &R, held: X) -> ! {
     let _held = held;
     panic!(rt; "refused")
@@ -116,7 +116,7 @@ fn made<N: Name, R: Abort + AllocGlobal>(rt: &R, ground: Ground, setup: Setup) -
     }
 }
 
-// Adds a range to an arena.
+/// Adds a range to an arena.
 fn grow<N: Name, R: Abort + Wait>(rt: &R, system: &System<N>, arena: u32, base: u64, len: u64) {
     let range = Range::new(base, len).expect(rt, "a range");
     match system.grow(rt, arena, range) {
@@ -132,7 +132,7 @@ fn retire<N: Name, R: Abort + Wait>(rt: &R, system: &System<N>, cpu: Cpu<N>) {
     }
 }
 
-// Shuts the system, which has these ranges.
+/// Shuts the system, which has these ranges.
 fn shut<N: Name, R: Abort + Wait>(rt: &R, system: System<N>, wanted: &[(u64, u64)]) {
     match system.shut(rt) {
         Ok(ranges) => have(rt, &ranges, wanted),
@@ -140,7 +140,7 @@ fn shut<N: Name, R: Abort + Wait>(rt: &R, system: System<N>, wanted: &[(u64, u64
     }
 }
 
-// Reaps the arena with enough looks, by this CPU: so many units of slabs.
+/// Reaps the arena with enough looks, by this CPU: so many units of slabs.
 fn reaps<N: Name, R: Abort + Wait>(
     rt: &R,
     system: &System<N>,
@@ -151,7 +151,7 @@ fn reaps<N: Name, R: Abort + Wait>(
     assert!(rt; system.reap(rt, cpu, arena, 1024).units == units);
 }
 
-// Shuts the system, and gives its ranges.
+/// Shuts the system, and gives its ranges.
 fn shut_into<N: Name, R: Abort + Wait>(rt: &R, system: System<N>) -> Vec<Range> {
     match system.shut(rt) {
         Ok(ranges) => ranges,
@@ -166,7 +166,7 @@ fn have(rt: &impl Abort, ranges: &[Range], wanted: &[(u64, u64)]) {
     }
 }
 
-// The arena's units: free, allocated, in slabs, in magazines of depots, and leased.
+/// The arena's units: free, allocated, in slabs, in magazines of depots, and leased.
 fn are<N: Name, R: Abort + Wait>(rt: &R, system: &System<N>, arena: u32, wanted: [u128; 5]) {
     let [free, allocated, slab, magazine, leased] = wanted;
     let wanted = SystemSums {
@@ -179,7 +179,7 @@ fn are<N: Name, R: Abort + Wait>(rt: &R, system: &System<N>, arena: u32, wanted:
     assert!(rt; system.sums(rt, arena) == Some(wanted), "other sums");
 }
 
-// Asks each line of one Cpu, and looks at its answer.
+/// Asks each line of one Cpu, and looks at its answer.
 fn ask_each<N: Name, R: Abort + Wait + AllocGlobal>(
     rt: &R,
     system: &System<N>,
@@ -191,7 +191,7 @@ fn ask_each<N: Name, R: Abort + Wait + AllocGlobal>(
     }
 }
 
-// Asks each line, a line of the text and then its answer, of one Cpu or of two in turn.
+/// Asks each line, a line of the text and then its answer, of one Cpu or of two in turn.
 fn ask_all<N: Name, R: Abort + Wait + AllocGlobal>(
     rt: &R,
     system: &System<N>,

@@ -55,6 +55,7 @@ pub struct SlabCache<D: Deed> {
     quantum: u64,
     slab_size: u64,
     slabs: SlabList<D>,
+    /// Where the first chunk of the next slab begins.
     colour: u64,
 }
 

@@ -50,12 +50,14 @@ impl IdleSlabs {
         self.complete.reserve(alloc, room)
     }
 
+    /// The slabs with some chunks at home and some out.
     pub(crate) fn partial(&self) -> &Bases
         ensures { result.now.items ≡ self.now.partial }
     {
         &self.partial
     }
 
+    /// The slabs with all chunks at home.
     pub(crate) fn complete(&self) -> &Bases
         ensures { result.now.items ≡ self.now.complete }
     {

@@ -49,7 +49,9 @@ use std::marker::Model;
 /// a deque. What lies in them is counted.
 pub(crate) struct SlabList<D: Deed> {
     slabs: VecDeque<Slab<D>>,
+    /// The slabs with a chunk at home.
     idle: IdleSlabs,
+    /// What all of them have.
     sums: SlabReport,
 }
 

@@ -52,8 +52,11 @@ pub(crate) struct Slab<D: Deed> {
     span: Range,
     colour: u64,
     chunk: u64,
+    /// What is left before the first chunk.
     gap: Option<Stored<D>>,
+    /// The deed of each chunk that is at home, at the chunk's place.
     home: Vec<Option<Stored<D>>>,
+    /// What is left behind the last chunk.
     tail: Option<Stored<D>>,
     /// How many chunks are at home.
     idle_count: usize,
@@ -147,6 +150,7 @@ impl<D: Deed> Slab<D> {
         join(gap, body).unwrap()
     }
 
+    /// The whole range that it was made of: its chunks, and what is left at the ends.
     pub(crate) fn span(&self) -> Range
         ensures value { result ≡ self.now.span.range }
         ensures range { IsRange result }
@@ -185,6 +189,7 @@ impl<D: Deed> Slab<D> {
         Standing::Partial
     }
 
+    /// Whether the chunk of this index is at home.
     pub(crate) fn is_home(&self, j: usize) -> bool
         requires { j < length self.now.home }
         ensures { result ≡ slice_index_or self.now.home j false }

@@ -11,12 +11,14 @@ pub(crate) enum Standing {
 }
 
 impl Standing {
+    /// Whether a slab that stands so is listed as partial.
     pub(crate) fn is_partial(self) -> bool
         ensures { result ≡ lists_partial self }
     {
         matches!(self, Standing::Partial)
     }
 
+    /// Whether a slab that stands so is listed as complete.
     pub(crate) fn is_complete(self) -> bool
         ensures { result ≡ lists_complete self }
     {

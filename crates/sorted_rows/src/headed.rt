@@ -20,7 +20,9 @@ const PATIENCE: u8 = 8;
 /// through here. A contract sees the rows, and how many may stand here.
 #[derive(Drop)]
 pub(crate) struct HeadedRows<T: RowEntry> {
+    /// The key of the first entry of each row.
     firsts: Vec<u128>,
+    /// The top of each row.
     tops: Vec<u64>,
     rows: Vec<Row<T>>,
     /// The measure that tops are by.
@@ -46,6 +48,7 @@ impl<T: RowEntry> Model for HeadedRows<T> {
 }
 
 impl<T: RowEntry> HeadedRows<T> {
+    /// No row, and tops by the first measure.
     pub(crate) fn new(alloc: Global) -> HeadedRows<T>
         ensures { result.items ≡ [] }
     {
@@ -76,6 +79,7 @@ impl<T: RowEntry> HeadedRows<T> {
         self.rows.len()
     }
 
+    /// Whether there is no row.
     pub(crate) fn is_empty(&self) -> bool
         ensures { IsTrue result ↔ (length self.now.items ≡ 0) }
     {

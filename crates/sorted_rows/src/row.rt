@@ -33,6 +33,7 @@ impl<T: RowEntry> Model for Row<T> {
 }
 
 impl<T: RowEntry> Row<T> {
+    /// A row without entries, and with the memory for all that it may have.
     pub(crate) fn new(alloc: Global) -> Result<Row<T>, AllocError>
         ensures { IfOk result (λ row. row ≡ []) }
     {
@@ -181,6 +182,7 @@ impl<T: RowEntry> Row<T> {
         }
     }
 
+    /// Puts an entry at a place; those from there on stand one place further.
     pub(crate) fn insert(&mut self, at: usize, entry: T)
         requires at { at ≤ length self.old }
         requires room { length self.old < 64 }
@@ -189,6 +191,7 @@ impl<T: RowEntry> Row<T> {
         put_in(&mut self.items, at, entry);
     }
 
+    /// Takes out the entry at a place; those behind it close up.
     pub(crate) fn remove(&mut self, at: usize) -> T
         requires { at < length self.old }
         ensures items { self.new ≡ remove self.old at }

@@ -19,10 +19,12 @@ use std::marker::Model;
 #[derive(Drop)]
 pub struct Rows<T: RowEntry> {
     rows: HeadedRows<T>,
+    /// Rows with nothing in them, ready for entries to come.
     spare: Vec<Row<T>>,
     /// The entry that was taken out last, which lies in its row until the next change or search by
     /// weight.
     struck: Option<Spot>,
+    /// How many entries there are, the one that was taken out last not among them.
     len: usize,
     room: usize,
     /// Where it was last at, if that is still there: where a search looks first.

@@ -1,6 +1,6 @@
 -- What follows from the definitions, for the proofs of the layers above.
-use Rattle.std.specs.Prelude.{◌≡◌, ℕ, ◌+◌, ◌<◌, ◌≤◌, ◌↔◌, ◌⊎◌, List, [], Contains, Option, Some, None}
-use Rattle.std.specs.Prelude.{Result, Ok, Err, IsOk, sum_by}
+use Rattle.std.specs.Prelude.{◌≡◌, ℕ, ◌+◌, ◌<◌, ◌≤◌, ◌↔◌, ◌⊎◌, List, [], Contains, Option, Some}
+use Rattle.std.specs.Prelude.{None, Result, Ok, Err, IsOk, sum_by}
 use Rattle.deed_core.specs.Holding.{Holding}
 use Rattle.deed_core.specs.Tag.{Tag}
 use Rattle.deed_core.specs.Covering.{covering_held, units_held}

@@ -1,6 +1,7 @@
 -- What is always so of the slots.
 use Rattle.std.specs.Prelude.{◌≡◌, ◌≢◌, ℕ, ◌+◌, ◌^◌, ◌<◌, ◌≤◌, List, Option, None, Some}
-use Rattle.std.specs.Prelude.{All, AllPairs, length, count_by, sum_by, is_some, vec_len, vec_capacity}
+use Rattle.std.specs.Prelude.{All, AllPairs, length, count_by, sum_by, is_some, vec_len}
+use Rattle.std.specs.Prelude.{vec_capacity}
 use Rattle.std.specs.Global.{Vec}
 use Rattle.tag_arena.specs.FreeTags.{FreeTag, tag_at}
 

@@ -47,7 +47,9 @@ pub struct Arena<D: Deed> {
     pub(crate) imported: Spans,
     pub(crate) free: FreeIndex<D>,
     pub(crate) tags: Tags,
+    /// The end of the last grant.
     rover: u64,
+    /// The looks of the last grant.
     probes: Probes,
 }
 

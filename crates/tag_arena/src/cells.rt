@@ -83,8 +83,11 @@ pub(crate) struct Cell {
     len: u64,
     /// The root of what is allocated here, or else the slot that is told.
     number: u32,
+    /// The cell of the range that ends where this one begins.
     before: ShortIndex,
+    /// The cell of the range that begins where this one ends.
     after: ShortIndex,
+    /// The next cell of its chain.
     next: ShortIndex,
 }
 
@@ -104,6 +107,7 @@ impl Model for Cell {
 /// Cells. Free ranges may have some too, or not.
 #[derive(Drop)]
 pub(crate) struct Cells {
+    /// Whether free ranges have cells.
     linked: bool,
     cells: Vec<Cell>,
     /// The first cell that may be used again; each of these has the next one as `after`.

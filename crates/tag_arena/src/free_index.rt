@@ -38,9 +38,13 @@ use std::marker::Model;
 pub(crate) struct FreeIndex<D: Deed> {
     policy: Policy,
     slots: Slots<D>,
+    /// In order of bases, where that is kept.
     rising: OrderedIndex,
+    /// In order of lengths, where that is kept.
     sizes: OrderedIndex,
+    /// By powers of two of lengths, where that is kept.
     lists: NewestLists,
+    /// The time at which the newest range became free.
     clock: u64,
     room: usize,
 }

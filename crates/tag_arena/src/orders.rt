@@ -62,6 +62,7 @@ impl Model for OrderedIndex {
 }
 
 impl OrderedIndex {
+    /// An index with no entry, which is kept from now on or not.
     pub(crate) fn new(alloc: Global, order: Order, kept: bool) -> OrderedIndex
         ensures order { result.order ≡ order }
         ensures is_kept { result.kept ≡ kept }

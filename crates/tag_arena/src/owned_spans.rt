@@ -48,7 +48,8 @@ impl<D: Deed> Arena<D> {
         requires left { O.can_open opener.old }
 
         // What it does.
-        ensures grown { OnOk result (WasGrown O.opens self.old opener.old range self.new opener.new) }
+        ensures grown { OnOk result
+            (WasGrown O.opens self.old opener.old range self.new opener.new) }
         ensures unchanged { OnErr result (self.new ≡ self.old) }
         ensures unopened { OnErr result (opener.new ≡ opener.old) }
 

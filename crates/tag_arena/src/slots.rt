@@ -20,6 +20,7 @@ pub(crate) struct TimedDeed<D: Deed> {
     deed: Stored<D>,
     since: u64,
     power: u32,
+    /// Where the range stands among the cells; none where it has no cell.
     cell: ShortIndex,
 }
 
@@ -32,6 +33,7 @@ impl<D: Deed> Model for TimedDeed<D> {
 }
 
 impl<D: Deed> TimedDeed<D> {
+    /// The deed of a range that became free at this time; it has no cell yet.
     pub(crate) fn new(deed: Stored<D>, since: u64, power: u32) -> TimedDeed<D>
         ensures { result ≡ record { range = deed; since = since; power = power } }
     {
@@ -64,6 +66,7 @@ impl<D: Deed> TimedDeed<D> {
         deed
     }
 
+    /// The same without its deed.
     pub(crate) fn tag(&self) -> SlotTag
         ensures { result ≡ self.now }
     {
@@ -94,6 +97,7 @@ impl Model for SlotTag {
 }
 
 impl SlotTag {
+    /// The free range.
     pub(crate) fn range(&self) -> HeldRange
         ensures value { result ≡ self.now.range }
         ensures range { IsRange self.now.range.range }
@@ -102,12 +106,14 @@ impl SlotTag {
         self.range
     }
 
+    /// The time at which it became free.
     pub(crate) fn since(&self) -> u64
         ensures { result ≡ self.now.since }
     {
         self.since
     }
 
+    /// The number of its power-of-two list.
     pub(crate) fn power(&self) -> u32
         ensures { result ≡ self.now.power }
     {
@@ -118,8 +124,10 @@ impl SlotTag {
 /// Deeds in numbered slots, with room for a number of them. Their units are counted.
 pub(crate) struct Slots<D: Deed> {
     slots: Vec<Option<TimedDeed<D>>>,
+    /// The slots with no deed in them, of which the last is filled next.
     vacant: Vec<usize>,
     room: usize,
+    /// How many units all the deeds have.
     units: u128,
 }
 
@@ -134,6 +142,7 @@ impl<D: Deed> Model for Slots<D> {
 }
 
 impl<D: Deed> Slots<D> {
+    /// No slot, and no room for a deed.
     pub(crate) fn new(alloc: Global) -> Slots<D>
         ensures tags { result.tags ≡ [] }
         ensures room { result.room ≡ 0 }

@@ -70,6 +70,7 @@ impl Tags {
         }
     }
 
+    /// How many ranges are allocated.
     pub(crate) fn len(&self) -> usize
         ensures { result ≡ finmap.len self.now }
     {

@@ -280,16 +280,22 @@ itself: what was sent by then is answered, and those that haven't ended in time 
 standard input open as long as the server is to run. Where a number can't be put back at once then,
 it says vmemd: shut, tries until it can, and ends with status 1.";
 
+/// What `--line-limit` sets, for the help of `serve`.
 const LINE_LIMIT_HELP: &str = "How long a line and taking an answer may take (10 without it)";
 
+/// What `--idle-limit` sets, for the help of `serve`.
 const IDLE_LIMIT_HELP: &str = "How long a client may be silent between lines (600 without it)";
 
+/// What `--grace` does, for the help of `serve`.
 const GRACE_HELP: &str = "Ends connections at the end of the input, the last after so long";
 
+/// What `--metrics` does, for the help of `serve`.
 const METRICS_HELP: &str = "Shows the server and its leases to all who ask here, over HTTP";
 
+/// What `--connections` does, for the help of `serve`.
 const CONNECTIONS_HELP: &str = "Serves so many connections at a time, with a thread each";
 
+/// What the exit status says, for the end of each help.
 const STATUS_HELP: &str = "\
 Exit status: 0 at the end of the input, and after help or the version; 1 where reading, writing or
 listening fails, or out of memory; 2 for other words than these and for a refused setup line.";
@@ -464,6 +470,7 @@ fn option_given(of: &ArgMatches<'_>, id: &str, most: u32) -> Option<u32>
     }
 }
 
+/// What comes of words that aren't taken: the text that they ask for, or what is wrong with them.
 fn words_fault(alloc: Global, error: Error) -> WordsFault
     ensures memory { kind_of error ≡ ErrorKind.OutOfMemory → result ≡ WordsFault.Memory }
     ensures told { ShowsError error result }

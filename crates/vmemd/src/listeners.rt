@@ -52,7 +52,7 @@ pub fn line_of<B: Bound>(alloc: Global, bound: &B) -> Result<String, RunFault>
 #[derive(Drop)]
 pub struct Listener {
     socket: TcpListener,
-    // The same socket by another descriptor, for the call that a `TcpListener` lacks.
+    /// The same socket by another descriptor, for the call that a `TcpListener` lacks.
     closing: TcpStream,
     line: String,
 }

@@ -82,6 +82,7 @@ use std::sync::Wait;
 use std::thread::Threads;
 use std::time::{Clock, Duration};
 
+/// Does what the words of the command line ask for; how that ended is its exit status.
 fn main(rt: HostRuntime) -> ExitCode {
     match read_arguments(&rt) {
         Ok(texts) => answer_words(&rt, texts.as_slice()),
@@ -129,6 +130,7 @@ fn answer_words<
     }
 }
 
+/// The words as the parser takes them, the program's name before them.
 fn words_of<'a, R: AllocGlobal>(rt: &R, texts: &'a [String]) -> Result<Vec<&'a str>, WordsFault> {
     let mut words: Vec<&'a str> = Vec::new(rt.alloc());
     words.push("vmemd")?;
@@ -206,6 +208,7 @@ fn watching_at<R: Net<Listener = TcpListener, Stream = TcpStream> + RandomSource
     Ok(Some(Watching { listener, keys }))
 }
 
+/// The setup whose lines stand in the file CONFIG.
 fn setup_of<R: Files + AllocGlobal>(rt: &R, config: &str) -> Result<Setup, ScriptFault> {
     match File::open(rt, config) {
         Ok(file) => read_config(rt.alloc(), &mut Watched::new(file)),

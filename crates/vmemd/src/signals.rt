@@ -6,11 +6,17 @@ use std::sync::atomic::{AtomicBool, AtomicU64, Ordering};
 /// What tells workers to stop, and what they tell.
 #[derive(Drop)]
 pub struct Signals {
+    /// Raised once workers are to end.
     stop: AtomicBool,
+    /// How many workers have their CPU.
     ready: AtomicU64,
+    /// Raised where a worker was out of memory for its CPU.
     starved: AtomicBool,
+    /// Raised where something could not be put back at once.
     stuck: AtomicBool,
+    /// Raised where there was no descriptor for a connection.
     descriptors: AtomicBool,
+    /// Raised where there was no thread for one.
     threads: AtomicBool,
 }
 

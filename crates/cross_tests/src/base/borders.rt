@@ -19,8 +19,8 @@ fn a_border_moves_over_counting_deeds(rt: HostRuntime) {
     assert_eq!(rt; deed.close(), range(&rt, 8, 12));
 }
 
-// Twelve units from 8 on are cut at 12, the border moves to 17 and to 9, the upper part is cut
-// again, and the three parts are made whole.
+/// Twelve units from 8 on are cut at 12, the border moves to 17 and to 9, the upper part is cut
+/// again, and the three parts are made whole.
 pub fn border_moved<D: Deed, R: Abort>(rt: &R, deed: D) -> D
     requires { (D.holding deed).range ≡ record { base = 8; len = 12 } }
     ensures { D.holding result ≡ D.holding deed }
@@ -49,8 +49,8 @@ pub fn border_moved<D: Deed, R: Abort>(rt: &R, deed: D) -> D
     join_three(low, middle, high)
 }
 
-// The second split is refused, of the lower deed and then of the upper one: both come back as they
-// were, and the next try goes well.
+/// The second split is refused, of the lower deed and then of the upper one: both come back as they
+/// were, and the next try goes well.
 #[test]
 fn a_refused_border_stays(rt: HostRuntime) {
     for (at, len) in [(10, 2), (17, 9)] {
@@ -88,13 +88,13 @@ fn a_refused_split_leaves_the_deed(rt: HostRuntime) {
     }
 }
 
-// The root, the base and the length.
+/// The root, the base and the length.
 fn bounds<D: Deed>(deed: &D) -> (u32, u64, u64) {
     let range = deed.range();
     (deed.root(), range.base(), range.len())
 }
 
-// Ends the test, with what it held.
+/// Ends the test, with what it held.
 fn stuck<X, R: Abort>(rt: &R, held: X) -> ! {
     let _held = held;
     panic!(rt; "refused")

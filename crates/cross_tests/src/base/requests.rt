@@ -2,8 +2,8 @@
 use super::range;
 use deed_core::{LIMIT, Request, is_power_of_two};
 
-// Five units at 3 modulo 8 that cross no multiple of 8 end on the boundary; of six, each place
-// straddles one.
+/// Five units at 3 modulo 8 that cross no multiple of 8 end on the boundary; of six, each place
+/// straddles one.
 #[test]
 fn a_segment_may_end_on_a_boundary(rt: HostRuntime) {
     let five = Request {
@@ -21,8 +21,8 @@ fn a_segment_may_end_on_a_boundary(rt: HostRuntime) {
     }
 }
 
-// The greatest end is exclusive: [10, 15) fits a window from 10 to 15, and nothing else of five
-// units does.
+/// The greatest end is exclusive: [10, 15) fits a window from 10 to 15, and nothing else of five
+/// units does.
 #[test]
 fn the_window_is_exclusive(rt: HostRuntime) {
     let request = Request {
@@ -35,7 +35,7 @@ fn the_window_is_exclusive(rt: HostRuntime) {
     }
 }
 
-// With a quantum of 4 a size of 5 is served by 8 units.
+/// With a quantum of 4 a size of 5 is served by 8 units.
 #[test]
 fn sizes_are_rounded_up(rt: HostRuntime) {
     let five = Request::plain(5);

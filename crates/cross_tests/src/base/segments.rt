@@ -25,7 +25,7 @@ fn a_segment_is_split_and_joined(rt: HostRuntime) {
     parts.destroy_empty();
 }
 
-// What is known of a segment by its tag.
+/// What is known of a segment by its tag.
 fn known<S: Held>(segment: &S) -> (u32, Route, Range) {
     (segment.arena(), segment.route(), segment.range())
 }

@@ -2,7 +2,7 @@
 
 use super::{Row, Told, close, end, lease_once, make_book, run, take_row, take_rows};
 
-// Each client is listed once, where it first said hello.
+/// Each client is listed once, where it first said hello.
 #[test]
 fn lists(rt: HostRuntime) {
     let rows = [
@@ -21,8 +21,8 @@ fn lists(rt: HostRuntime) {
     run(&rt, &rows);
 }
 
-// All clients that there may be, the last among them, each with a lease. Ending them looks at each
-// client once.
+/// All clients that there may be, the last among them, each with a lease. Ending them looks at each
+/// client once.
 #[test]
 fn all_clients(rt: HostRuntime) {
     let mut book = make_book(&rt, rt.alloc());

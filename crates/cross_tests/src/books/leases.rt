@@ -33,7 +33,7 @@ fn check(
     }
 }
 
-// In order of grant, without those that were released, with those of the older incarnation.
+/// In order of grant, without those that were released, with those of the older incarnation.
 #[test]
 fn leases_of_each(rt: HostRuntime) {
     let rows = [
@@ -57,7 +57,7 @@ fn leases_of_each(rt: HostRuntime) {
     end(&rt, book);
 }
 
-// A hundred leases, of which each second was released.
+/// A hundred leases, of which each second was released.
 #[test]
 fn leases_of_many(rt: HostRuntime) {
     let mut book = make_book(&rt, rt.alloc());

@@ -7,8 +7,8 @@ const ONE: Protocol = Protocol::One;
 
 const TWO: Protocol = Protocol::Two;
 
-// A number more than eight above those that are all settled is a gap, and a number eight or more
-// below the greatest is stale.
+/// A number more than eight above those that are all settled is a gap, and a number eight or more
+/// below the greatest is stale.
 #[test]
 fn eight_at_once(rt: HostRuntime) {
     let rows = [
@@ -27,7 +27,7 @@ fn eight_at_once(rt: HostRuntime) {
     run(&rt, &rows);
 }
 
-// From the last to the first: each is settled once, and kept until the greatest is eight above it.
+/// From the last to the first: each is settled once, and kept until the greatest is eight above it.
 #[test]
 fn last_first(rt: HostRuntime) {
     let no_fit = Refusal::NoFit;
@@ -58,7 +58,7 @@ fn last_first(rt: HostRuntime) {
     run(&rt, &rows);
 }
 
-// The first hello of an incarnation fixes its protocol, and the next incarnation begins anew.
+/// The first hello of an incarnation fixes its protocol, and the next incarnation begins anew.
 #[test]
 fn protocols(rt: HostRuntime) {
     let rows = [
@@ -83,9 +83,9 @@ fn protocols(rt: HostRuntime) {
     run(&rt, &rows);
 }
 
-// A lease of [0, 4) by number 1; then number 2 gives it back, and number 3 asks for it or gives it
-// back too. They come in either order, and each gets one answer, by what stands when it comes, and
-// the same one again.
+/// A lease of [0, 4) by number 1; then number 2 gives it back, and number 3 asks for it or gives it
+/// back too. They come in either order, and each gets one answer, by what stands when it comes, and
+/// the same one again.
 #[test]
 fn release_and_another(rt: HostRuntime) {
     let not_yours = Refusal::NotYours;
@@ -120,8 +120,8 @@ fn release_and_another(rt: HostRuntime) {
     run(&rt, &rows);
 }
 
-// The same where number 2 asks for a lease, and number 3 gives the first one back or asks for one
-// too.
+/// The same where number 2 asks for a lease, and number 3 gives the first one back or asks for one
+/// too.
 #[test]
 fn lease_and_another(rt: HostRuntime) {
     let rows = [
@@ -157,8 +157,8 @@ fn lease_and_another(rt: HostRuntime) {
     run(&rt, &rows);
 }
 
-// Where an allocation is refused, as by `rt try --test --fail-alloc N`, a hello that begins an
-// incarnation changes nothing; a refusal takes no memory.
+/// Where an allocation is refused, as by `rt try --test --fail-alloc N`, a hello that begins an
+/// incarnation changes nothing; a refusal takes no memory.
 #[test]
 fn room_for_eight(rt: HostRuntime) {
     let no_fit = Refusal::NoFit;

@@ -37,19 +37,19 @@ pub(super) enum Step {
 
 pub(super) const NOTHING: (u64, u64) = (0, 0);
 
-// The round of one unit at `base`.
+/// The round of one unit at `base`.
 pub(super) fn round(rt: &impl Abort, base: u64) -> Segment<PlainDeed> {
     let range = Range::new(base, 1).expect(rt, "range");
     Segment::new(1, Route::Cached(1), PlainDeed::new(1, range))
 }
 
-// Where a round stands, and its end.
+/// Where a round stands, and its end.
 pub(super) fn base(round: Segment<PlainDeed>) -> u64 {
     round.into_deed().close().base()
 }
 
-// Gives the rounds of the bases from the first to below the second, and then takes as many as
-// those lie between the other two.
+/// Gives the rounds of the bases from the first to below the second, and then takes as many as
+/// those lie between the other two.
 fn ops(
     rt: &(impl Abort + AllocGlobal),
     given: (u64, u64),
@@ -72,7 +72,7 @@ fn push(rt: &impl Abort, ops: &mut Vec<RoundOp<PlainDeed>>, op: RoundOp<PlainDee
     }
 }
 
-// The answers to a run of these operations, and its exchanges.
+/// The answers to a run of these operations, and its exchanges.
 fn answers_of(
     rt: &(impl Abort + AllocGlobal),
     cpu: &mut CpuCache<PlainDeed>,
@@ -88,7 +88,7 @@ fn answers_of(
     }
 }
 
-// Each round given is kept, and these are taken. It tells the exchanges.
+/// Each round given is kept, and these are taken. It tells the exchanges.
 fn run_ops(
     rt: &(impl Abort + AllocGlobal),
     cpu: &mut CpuCache<PlainDeed>,
@@ -101,7 +101,7 @@ fn run_ops(
     exchanges
 }
 
-// Each round given is kept, and these are taken.
+/// Each round given is kept, and these are taken.
 fn keep_and_take(
     rt: &impl Abort,
     answers: Vec<RoundAnswer<PlainDeed>>,
@@ -127,7 +127,7 @@ fn keep_and_take(
     answers.destroy_empty();
 }
 
-// A taking finds no round.
+/// A taking finds no round.
 fn find_none(
     rt: &(impl Abort + AllocGlobal),
     cpu: &mut CpuCache<PlainDeed>,
@@ -141,7 +141,7 @@ fn find_none(
     }
 }
 
-// The depot gives these rounds up, and then none.
+/// The depot gives these rounds up, and then none.
 fn reap_all(rt: &impl Abort, depot: &mut Depot<PlainDeed>, bases: &[u64]) {
     for wanted in bases {
         assert_eq!(rt; depot.reap().map(base), Some(*wanted));
@@ -152,7 +152,7 @@ fn reap_all(rt: &impl Abort, depot: &mut Depot<PlainDeed>, bases: &[u64]) {
     }
 }
 
-// The cache gives these rounds.
+/// The cache gives these rounds.
 pub(super) fn take_all(rt: &impl Abort, cpu: &mut CpuCache<PlainDeed>, above: u64, last: u64) {
     for wanted in (last..above).rev() {
         assert_eq!(rt; cpu.take().map(base), Some(wanted));
@@ -207,7 +207,7 @@ pub(super) fn cache_of(rt: &(impl Abort + AllocGlobal), size: usize) -> CpuCache
     CpuCache::new(rt.alloc(), size).ok().expect(rt, "memory")
 }
 
-// Takes the steps with a new cache and a new depot of these sizes, which have no round at the end.
+/// Takes the steps with a new cache and a new depot of these sizes, which have no round at the end.
 pub(super) fn run_anew(
     rt: &(impl Abort + AllocGlobal),
     cached: usize,
@@ -222,7 +222,7 @@ pub(super) fn run_anew(
     close_depot(rt, depot);
 }
 
-// Ends a cache that has no round.
+/// Ends a cache that has no round.
 pub(super) fn close(rt: &impl Abort, cpu: CpuCache<PlainDeed>) {
     match cpu.close() {
         Ok(()) => {}
@@ -230,7 +230,7 @@ pub(super) fn close(rt: &impl Abort, cpu: CpuCache<PlainDeed>) {
     }
 }
 
-// Ends a depot that has no round.
+/// Ends a depot that has no round.
 pub(super) fn close_depot(rt: &impl Abort, depot: Depot<PlainDeed>) {
     match depot.close() {
         Ok(()) => {}
@@ -238,7 +238,7 @@ pub(super) fn close_depot(rt: &impl Abort, depot: Depot<PlainDeed>) {
     }
 }
 
-// The only member of a list.
+/// The only member of a list.
 pub(super) fn single<T>(rt: &impl Abort, mut items: Vec<T>) -> T {
     let Some(item) = items.pop() else {
         panic!(rt; "none")

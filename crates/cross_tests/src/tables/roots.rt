@@ -9,8 +9,8 @@ use std::marker::Brand;
 use std::process::Abort;
 use std::test::*;
 
-// Opens the units from 0 to 15 as the next root, again where it was out of memory: then no number
-// was used.
+/// Opens the units from 0 to 15 as the next root, again where it was out of memory: then no number
+/// was used.
 fn open<N: Name, R: Abort>(rt: &R, roots: &mut Roots<N>) -> SeatDeed<N> {
     let before = (roots.left(), roots.roots().len());
     assert!(rt; before.0 > 0);
@@ -22,7 +22,8 @@ fn open<N: Name, R: Abort>(rt: &R, roots: &mut Roots<N>) -> SeatDeed<N> {
     roots.open(range).expect(rt, "refused twice")
 }
 
-// Moves all roots behind those that were told, again where it was out of memory: then none was moved.
+/// Moves all roots behind those that were told, again where it was out of memory: then none was
+/// moved.
 fn hand_over<N: Name, R: Abort>(rt: &R, roots: &mut Roots<N>, told: &mut Vec<Root<N>>) {
     let before = (told.len(), roots.roots().len(), roots.left());
     match roots.hand_over(told) {
@@ -32,15 +33,15 @@ fn hand_over<N: Name, R: Abort>(rt: &R, roots: &mut Roots<N>, told: &mut Vec<Roo
     roots.hand_over(told).expect(rt, "refused twice");
 }
 
-// Closes the last of the roots, which must be the one of this number, by its deed.
+/// Closes the last of the roots, which must be the one of this number, by its deed.
 fn end_last<N: Name, R: Abort>(rt: &R, told: &mut Vec<Root<N>>, number: u32, deed: SeatDeed<N>) {
     let root = told.pop().expect(rt, "a root");
     assert_eq!(rt; (root.number(), deed.root()), (number, number));
     end(rt, root, deed);
 }
 
-// It keeps its roots in order, and goes on with the numbers that are left after they were handed
-// over.
+/// It keeps its roots in order, and goes on with the numbers that are left after they were handed
+/// over.
 fn handed_over<N: Name, R: Abort>(rt: &R, alloc: Global, ground: Ground)
     requires { ground ≡ N.table }
 {

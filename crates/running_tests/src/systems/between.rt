@@ -43,8 +43,8 @@ impl<N: Name, R: Abort + Wait + AllocGlobal> Gate for Between<'_, N, R> {
     }
 }
 
-// Leases two units, for which the arena has a cache, by the request after so many, and gives their
-// base.
+/// Leases two units, for which the arena has a cache, by the request after so many, and gives their
+/// base.
 fn leased<N: Name, R: Abort + Wait + AllocGlobal>(
     rt: &R,
     system: &System<N>,
@@ -83,7 +83,7 @@ fn no_lock_between_steps(rt: HostRuntime) -> Result<(), Fail> {
     Ok(())
 }
 
-// Asks a line that has so many steps. Between them the other CPU is asked two lines each.
+/// Asks a line that has so many steps. Between them the other CPU is asked two lines each.
 fn ask_between<N: Name, R: Abort + Wait + AllocGlobal>(
     rt: &R,
     gate: &Between<N, R>,
@@ -100,8 +100,8 @@ fn ask_between<N: Name, R: Abort + Wait + AllocGlobal>(
     assert_eq!(rt; after, before.saturating_add(steps.saturating_mul(2)));
 }
 
-// Lines, and how many steps each has: a lease by a new slab, one that is carved, one that is
-// refused, one that imports, and what comes back of them.
+/// Lines, and how many steps each has: a lease by a new slab, one that is carved, one that is
+/// refused, one that imports, and what comes back of them.
 fn served_between<N: Name, R: Abort + Wait + AllocGlobal>(rt: &R, ground: Ground, setup: Setup)
     requires { ground ≡ N.table }
 {

@@ -98,9 +98,9 @@ fn of_roots<R: Abort + Wait + AllocGlobal>(rt: &R) {
     );
 }
 
-// A hello of a lower incarnation is refused, and changes nothing: neither the incarnation, nor its
-// last number, nor a lease. Nor is a request of another incarnation served, or of a client that
-// never said hello.
+/// A hello of a lower incarnation is refused, and changes nothing: neither the incarnation, nor its
+/// last number, nor a lease. Nor is a request of another incarnation served, or of a client that
+/// never said hello.
 fn of_incarnations<R: Abort + Wait + AllocGlobal>(rt: &R) {
     talk(
         rt,
@@ -120,8 +120,8 @@ fn of_incarnations<R: Abort + Wait + AllocGlobal>(rt: &R) {
     );
 }
 
-// By the second protocol numbers may come in any order within a window of eight. A later hello of
-// the incarnation is told by which protocol it began.
+/// By the second protocol numbers may come in any order within a window of eight. A later hello of
+/// the incarnation is told by which protocol it began.
 fn of_windows<R: Abort + Wait + AllocGlobal>(rt: &R) {
     talk(
         rt,
@@ -345,7 +345,7 @@ fn of_imports<R: Abort + Wait + AllocGlobal>(rt: &R) {
     );
 }
 
-// A client that has 1,024 leases, as many as one may.
+/// A client that has 1,024 leases, as many as one may.
 fn of_most_leases<R: Abort + Wait + AllocGlobal>(rt: &R) {
     let mut setup = Setup::new(rt.alloc());
     set_up(rt, &mut setup, "root m 0 2048 1 best 0");
@@ -353,7 +353,7 @@ fn of_most_leases<R: Abort + Wait + AllocGlobal>(rt: &R) {
     leased::<Brand, _>(rt, ground, setup);
 }
 
-// Asks the lines of a system of the setup, which ends then.
+/// Asks the lines of a system of the setup, which ends then.
 fn talk<R: Abort + Wait + AllocGlobal>(rt: &R, setup_lines: &[&str], rows: &[(&str, &str)]) {
     let mut setup = Setup::new(rt.alloc());
     for line in setup_lines {
@@ -392,7 +392,7 @@ fn leased<N: Name, R: Abort + Wait + AllocGlobal>(rt: &R, ground: Ground, setup:
     end(rt, system, one);
 }
 
-// The client's request of this number gets the unit before it.
+/// The client's request of this number gets the unit before it.
 fn lease_one<N: Name, R: Abort + Wait + AllocGlobal>(
     rt: &R,
     system: &System<N>,

@@ -33,7 +33,7 @@ struct Flags {
     drained: AtomicBool,
 }
 
-// Each step of a lease by a new slab, and of a release, in a system of its own.
+/// Each step of a lease by a new slab, and of a release, in a system of its own.
 #[test]
 fn drain_step_beside_another(rt: HostRuntime) {
     fail_at_each(&rt, &halted_lease());
@@ -74,7 +74,7 @@ fn fail_beside<N: Name + Send + Sync, R: Abort + Wait + Threads + Clock + AllocG
     shut(rt, system, &[(0, 64)]);
 }
 
-// A CPU stops before a step of a line, and is drained once the other worker runs.
+/// A CPU stops before a step of a line, and is drained once the other worker runs.
 fn fail<N: Name, R: Abort + Wait + Clock + AllocGlobal>(
     rt: &R,
     system: &System<N>,
@@ -97,8 +97,8 @@ fn fail<N: Name, R: Abort + Wait + Clock + AllocGlobal>(
     flags.drained.store(true, Ordering::SeqCst);
 }
 
-// Leases one, two and five units and releases them, from when the other CPU stopped until it is
-// drained.
+/// Leases one, two and five units and releases them, from when the other CPU stopped until it is
+/// drained.
 fn lease_and_release<N: Name, R: Abort + Wait + Clock + AllocGlobal>(
     rt: &R,
     system: &System<N>,
@@ -153,7 +153,7 @@ fn send<N: Name, R: Abort + Wait>(
     tell(rt, system, cpu, client, &line);
 }
 
-// Asks a line, and gives its client the reply.
+/// Asks a line, and gives its client the reply.
 fn tell<N: Name, R: Abort + Wait>(
     rt: &R,
     system: &System<N>,

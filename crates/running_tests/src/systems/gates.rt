@@ -46,7 +46,7 @@ impl<R: Clock> Gate for Hold<'_, R> {
     }
 }
 
-// Waits until a flag is raised, for 10,000 looks at most.
+/// Waits until a flag is raised, for 10,000 looks at most.
 pub(super) fn raised<R: Clock>(rt: &R, flag: &AtomicBool) -> bool {
     for _ in 0..10_000 {
         if flag.load(Ordering::SeqCst) {
@@ -77,8 +77,8 @@ struct Flags {
     answered: AtomicBool,
 }
 
-// The gate holds call 1, which begins once the second worker runs, before its settle until call 2
-// is answered.
+/// The gate holds call 1, which begins once the second worker runs, before its settle until call 2
+/// is answered.
 fn at_once<N: Name + Send + Sync, R: Abort + Wait + Threads + Clock + AllocGlobal + Sync>(
     rt: &R,
     ground: Ground,
@@ -121,7 +121,7 @@ fn first<N: Name, R: Abort + Wait + Clock + AllocGlobal>(
     retire(rt, system, cpu);
 }
 
-// Asks once call 1 is held before its settle, which then waits for the answers.
+/// Asks once call 1 is held before its settle, which then waits for the answers.
 fn second<N: Name, R: Abort + Wait + Clock + AllocGlobal>(
     rt: &R,
     system: &System<N>,
@@ -169,7 +169,7 @@ impl Gate for StopAt {
     }
 }
 
-// Asks a line that its gate stops before a step. The CPU then holds so many units.
+/// Asks a line that its gate stops before a step. The CPU then holds so many units.
 pub(super) fn stop<N: Name, R: Abort + Wait>(
     rt: &R,
     system: &System<N>,
@@ -185,7 +185,7 @@ pub(super) fn stop<N: Name, R: Abort + Wait>(
     assert_eq!(rt; cpu.units(), units);
 }
 
-// A CPU fails, what it has is placed, and another one is asked a line.
+/// A CPU fails, what it has is placed, and another one is asked a line.
 fn taken_up<N: Name, R: Abort + Wait + AllocGlobal>(
     rt: &R,
     system: System<N>,
@@ -215,8 +215,8 @@ pub(super) struct Halting<'a> {
     then: (&'a str, &'a str),
 }
 
-// A lease by a new slab: the look, the pop, the swap for a full magazine, the chunk, the carve of a
-// slab, the slab, the settle.
+/// A lease by a new slab: the look, the pop, the swap for a full magazine, the chunk, the carve of
+/// a slab, the slab, the settle.
 pub(super) fn halted_lease() -> Halting<'static> {
     Halting {
         before: &[("hello 1 1", "welcome 1 1")],
@@ -226,7 +226,7 @@ pub(super) fn halted_lease() -> Halting<'static> {
     }
 }
 
-// A release: the release, the push.
+/// A release: the release, the push.
 pub(super) fn halted_release() -> Halting<'static> {
     Halting {
         before: &[
@@ -245,7 +245,7 @@ fn drain_step(rt: HostRuntime) {
     stop_at_each(&rt, &halted_release());
 }
 
-// A lease that imports: the look, the two carves, the span that is added, the settle.
+/// A lease that imports: the look, the two carves, the span that is added, the settle.
 #[test]
 fn import_step(rt: HostRuntime) {
     let lease = Halting {
@@ -257,7 +257,7 @@ fn import_step(rt: HostRuntime) {
     stop_at_each(&rt, &lease);
 }
 
-// A release, and a sweep, of a lease whose import goes back by a second free.
+/// A release, and a sweep, of a lease whose import goes back by a second free.
 #[test]
 fn return_step(rt: HostRuntime) {
     let release = Halting {
@@ -282,8 +282,8 @@ fn return_step(rt: HostRuntime) {
     stop_at_each(&rt, &sweep);
 }
 
-// What would be refused is stopped, before its settle last: then nothing is settled, and the same
-// number is still free for a lease.
+/// What would be refused is stopped, before its settle last: then nothing is settled, and the same
+/// number is still free for a lease.
 #[test]
 fn refusal_step(rt: HostRuntime) {
     let rows: [(&str, &[u128]); 4] = [
@@ -303,7 +303,7 @@ fn refusal_step(rt: HostRuntime) {
     }
 }
 
-// Each step in a system of its own: an arena with caches, and one that imports of it.
+/// Each step in a system of its own: an arena with caches, and one that imports of it.
 fn stop_at_each<R: Abort + Wait + AllocGlobal>(rt: &R, row: &Halting) {
     for turn in 0..row.held.len() {
         let mut setup = Setup::new(rt.alloc());
@@ -342,7 +342,7 @@ fn hand_is_placed_first(rt: HostRuntime) -> Result<(), Fail> {
     Ok(())
 }
 
-// The hand holds all but the slab of another CPU, which the reaping finds.
+/// The hand holds all but the slab of another CPU, which the reaping finds.
 fn placed_first<N: Name, R: Abort + Wait + AllocGlobal>(rt: &R, ground: Ground, setup: Setup)
     requires { ground ≡ N.table }
 {
@@ -372,7 +372,7 @@ fn placed_first<N: Name, R: Abort + Wait + AllocGlobal>(rt: &R, ground: Ground, 
     shut(rt, system, &[(0, 64)]);
 }
 
-// Another CPU leases a unit and releases it, and is retired: a slab is left, with no chunk out.
+/// Another CPU leases a unit and releases it, and is retired: a slab is left, with no chunk out.
 fn leave_slab<N: Name, R: Abort + Wait + AllocGlobal>(rt: &R, system: &System<N>) {
     let mut two = cpu(rt, system, 1);
     let rows = [

@@ -25,7 +25,7 @@ const TURNS: u64 = 200;
 /// How often the arena grows beside four workers, and how often each of these leases a unit.
 const GROWS: u64 = 1000;
 
-// Why the arena doesn't grow by these units.
+/// Why the arena doesn't grow by these units.
 fn refused<N: Name, R: Abort + Wait>(
     rt: &R,
     system: &System<N>,
@@ -40,7 +40,7 @@ fn refused<N: Name, R: Abort + Wait>(
     }
 }
 
-// A root in quanta of so many units.
+/// A root in quanta of so many units.
 fn coarse(rt: &impl Abort, setup: &mut Setup, name: &str, base: u64, len: u64, quantum: u64) {
     let root = NewRoot {
         name: ArenaName::new(name.as_bytes()).expect(rt, "a name"),
@@ -92,8 +92,8 @@ fn grown<N: Name + Send + Sync, R: Abort + Wait + Threads + AllocGlobal + Sync>(
     shut(rt, system, &[(0, 4), (4, 4)]);
 }
 
-// Leases a unit and releases it, so many times, by a client whose number is one more than the
-// CPU's.
+/// Leases a unit and releases it, so many times, by a client whose number is one more than the
+/// CPU's.
 fn take_turns<N: Name, R: Abort + Wait + AllocGlobal>(
     rt: &R,
     system: &System<N>,
@@ -118,7 +118,7 @@ fn take_turns<N: Name, R: Abort + Wait + AllocGlobal>(
     retire(rt, system, own);
 }
 
-// The unit that the client is granted.
+/// The unit that the client is granted.
 fn leased<N: Name, R: Abort + Wait + AllocGlobal>(
     rt: &R,
     system: &System<N>,
@@ -178,7 +178,7 @@ fn beside_four<N: Name + Send + Sync, R: Abort + Wait + Threads + AllocGlobal + 
     }
 }
 
-// The range that the arena grows by in this turn: one unit, the later the lower.
+/// The range that the arena grows by in this turn: one unit, the later the lower.
 fn grown_by(turn: u64) -> (u64, u64) {
     (10_000u64.saturating_sub(turn.saturating_mul(2)), 1)
 }
@@ -214,7 +214,7 @@ fn grow_is_refused(rt: HostRuntime) -> Result<(), Fail> {
     Ok(())
 }
 
-// The arenas are 0 to 2, of which 1 imports, and 2 is in quanta of 4.
+/// The arenas are 0 to 2, of which 1 imports, and 2 is in quanta of 4.
 fn refused_each<N: Name, R: Abort + Wait + AllocGlobal>(rt: &R, ground: Ground, setup: Setup)
     requires { ground ≡ N.table }
 {
@@ -247,7 +247,7 @@ fn spans_are_at_most_65536(rt: HostRuntime) -> Result<(), Fail> {
     Ok(())
 }
 
-// The base of the span at this place, each of two units: the later the lower.
+/// The base of the span at this place, each of two units: the later the lower.
 fn pair_at(place: u64) -> u64 {
     MOST.saturating_sub(place).saturating_mul(2)
 }

@@ -40,7 +40,7 @@ impl Gate for InOrder<'_> {
     }
 }
 
-// Asks a line that is answered so, by these steps.
+/// Asks a line that is answered so, by these steps.
 fn ask_by<N: Name, R: Abort + Wait + AllocGlobal>(
     rt: &R,
     system: &System<N>,
@@ -77,7 +77,7 @@ struct Asked<'a> {
     rows: &'a [Row<'a>],
 }
 
-// The system has these ranges at its end.
+/// The system has these ranges at its end.
 fn by_steps<R: Abort + Wait + AllocGlobal>(
     rt: &R,
     setup: Setup,
@@ -110,7 +110,7 @@ fn in_order<N: Name, R: Abort + Wait + AllocGlobal>(
     shut(rt, system, wanted);
 }
 
-// The same with no more than the rows.
+/// The same with no more than the rows.
 fn rows_by_steps<R: Abort + Wait + AllocGlobal>(
     rt: &R,
     setup: Setup,
@@ -125,9 +125,9 @@ fn rows_by_steps<R: Abort + Wait + AllocGlobal>(
     by_steps(rt, setup, &asked, wanted);
 }
 
-// The magazines are empty at first, and so are the depot and the slabs. The chunk that comes back
-// is a round, and is given next, or pushed again where its lease is swept. What isn't cached is
-// carved.
+/// The magazines are empty at first, and so are the depot and the slabs. The chunk that comes back
+/// is a round, and is given next, or pushed again where its lease is swept. What isn't cached is
+/// carved.
 #[test]
 fn gates_in_order(rt: HostRuntime) {
     use EventName::{Carve, Look, Pop, Push, Release, Settle, SlabAdd, SlabTake, Sweep, SwapFull};
@@ -156,8 +156,8 @@ fn gates_in_order(rt: HostRuntime) {
     rows_by_steps(&rt, setup, &rows, &[(0, 64)]);
 }
 
-// What isn't there is imported, unless the lease is constrained. What comes back last frees the
-// import too.
+/// What isn't there is imported, unless the lease is constrained. What comes back last frees the
+/// import too.
 #[test]
 fn imports_in_order(rt: HostRuntime) {
     use EventName::{AddCarve, Carve, Free, Look, Release, Settle, Sweep};
@@ -208,8 +208,8 @@ const FILLED: [(&str, &str); 14] = [
     ("release 1 1 13 d 5", "released 1 1 13"),
 ];
 
-// The first time the depot has no empty magazine for the seventh round, and one is made; then it
-// has the one that it got for its full one.
+/// The first time the depot has no empty magazine for the seventh round, and one is made; then it
+/// has the one that it got for its full one.
 #[test]
 fn exchanges_in_order(rt: HostRuntime) {
     use EventName::{Look, Pop, Push, Release, Settle, SwapEmpty, SwapFull};
@@ -240,8 +240,8 @@ fn exchanges_in_order(rt: HostRuntime) {
     by_steps(&rt, setup, &asked, &[(0, 64)]);
 }
 
-// A CPU whose magazines are empty changes them at a lease, for each quantum cache by itself, and
-// for no arena but the one whose depots keep greater ones.
+/// A CPU whose magazines are empty changes them at a lease, for each quantum cache by itself, and
+/// for no arena but the one whose depots keep greater ones.
 #[test]
 fn changes_at_leases(rt: HostRuntime) {
     use EventName::{Carve, Change, Look, Pop, Settle, SlabAdd, SlabTake, SwapFull};
@@ -268,7 +268,7 @@ fn changes_at_leases(rt: HostRuntime) {
     by_steps(&rt, setup, &asked, &[(0, 64), (64, 64)]);
 }
 
-// A CPU whose magazines are full changes them at a release, and has room from then on.
+/// A CPU whose magazines are full changes them at a release, and has room from then on.
 #[test]
 fn changes_at_a_release(rt: HostRuntime) {
     use EventName::{Change, Look, Pop, Push, Release, Settle, SwapEmpty};
@@ -300,7 +300,7 @@ fn fills_each_size(rt: HostRuntime) {
     }
 }
 
-// In a system of its own.
+/// In a system of its own.
 fn fill<R: Abort + Wait + AllocGlobal>(rt: &R, size: u64) {
     let mut setup = Setup::new(rt.alloc());
     root(rt, &mut setup, "d", 0, 64, Policy::Instant, 5);
@@ -331,7 +331,7 @@ fn filled<N: Name, R: Abort + Wait + AllocGlobal>(rt: &R, ground: Ground, setup:
     shut(rt, system, &[(0, 64)]);
 }
 
-// Magazines rise to this size.
+/// Magazines rise to this size.
 fn resized<N: Name, R: Abort + Wait>(rt: &R, system: &System<N>, size: u64) {
     let rose = match size {
         7 => system.resize(rt, 0, 7),
@@ -362,7 +362,7 @@ const FRESH: [EventName; 5] = [
     EventName::Push,
 ];
 
-// The CPU changes its magazines at the first lease.
+/// The CPU changes its magazines at the first lease.
 fn changes<N: Name, R: Abort + Wait + AllocGlobal>(rt: &R, system: &System<N>, cpu: &mut Cpu<N>) {
     use EventName::{Carve, Change, Look, Pop, Settle, SlabAdd, SlabTake, SwapFull};
     ask(rt, system, cpu, "hello 1 1", "welcome 1 1");
@@ -372,8 +372,8 @@ fn changes<N: Name, R: Abort + Wait + AllocGlobal>(rt: &R, system: &System<N>, c
     leased(rt, system, cpu, 0, &changed);
 }
 
-// Leases the unit with this number by the request of the next one, by these steps; a new slab takes
-// two more.
+/// Leases the unit with this number by the request of the next one, by these steps; a new slab
+/// takes two more.
 fn leased<N: Name, R: Abort + Wait + AllocGlobal>(
     rt: &R,
     system: &System<N>,
@@ -391,8 +391,8 @@ fn leased<N: Name, R: Abort + Wait + AllocGlobal>(
     }
 }
 
-// Releases the unit with this number by these steps, by the request of that number behind those of
-// the leases, of which the last one was this.
+/// Releases the unit with this number by these steps, by the request of that number behind those of
+/// the leases, of which the last one was this.
 fn released<N: Name, R: Abort + Wait + AllocGlobal>(
     rt: &R,
     system: &System<N>,

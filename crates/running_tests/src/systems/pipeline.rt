@@ -38,7 +38,7 @@ fn pipeline(rt: HostRuntime) -> Result<(), Fail> {
     Ok(())
 }
 
-// Eight leases are under way at once. Each is asked of two CPUs, and its second reply is the same.
+/// Eight leases are under way at once. Each is asked of two CPUs, and its second reply is the same.
 fn piped<N: Name, R: Abort + Wait + AllocGlobal>(rt: &R, ground: Ground, setup: Setup)
     requires { ground ≡ N.table }
 {
@@ -68,8 +68,8 @@ fn piped<N: Name, R: Abort + Wait + AllocGlobal>(rt: &R, ground: Ground, setup: 
     shut(rt, system, &[(0, 64)]);
 }
 
-// The replies come in reverse order, each twice, and count once. No ninth lease is sent before that
-// to the first one.
+/// The replies come in reverse order, each twice, and count once. No ninth lease is sent before
+/// that to the first one.
 fn takes_reversed(rt: &impl Abort, client: &mut Client) {
     for (_, reply) in EIGHT.iter().rev() {
         let sent = client.send(op(rt, NINTH.0));
@@ -79,12 +79,12 @@ fn takes_reversed(rt: &impl Abort, client: &mut Client) {
     }
 }
 
-// What the request of this line asks for.
+/// What the request of this line asks for.
 fn op(rt: &impl Abort, text: &str) -> Op {
     line(rt, text).op().expect(rt, "a request")
 }
 
-// The client sends this very line.
+/// The client sends this very line.
 fn sends(rt: &impl Abort, client: &mut Client, text: &str) {
     let sent = client.send(op(rt, text)).expect(rt, "a line");
     assert!(rt; sent == line(rt, text), "at {text}");

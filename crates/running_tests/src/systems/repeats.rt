@@ -21,9 +21,9 @@ fn repeats_are_told(rt: HostRuntime) -> Result<(), Fail> {
     Ok(())
 }
 
-// By the second protocol. A reply is told again out of order too, also after its lease ended, until
-// a number was settled that is greater by the window: then the greatest is told. A number further
-// above those that are all settled than the window is told the last of these.
+/// By the second protocol. A reply is told again out of order too, also after its lease ended,
+/// until a number was settled that is greater by the window: then the greatest is told. A number
+/// further above those that are all settled than the window is told the last of these.
 const WINDOW: [(&str, &str, bool); 14] = [
     ("lease 2 1 3 m 2", "granted 2 1 3 m 0 2", true),
     ("lease 2 1 9 m 2", "gap 2 1 9 0", false),
@@ -41,9 +41,9 @@ const WINDOW: [(&str, &str, bool); 14] = [
     ("release 2 1 4 m 0", "refused 2 1 4 notyours", true),
 ];
 
-// Each line with its answer, and whether it is settled by that. What comes again is another line in
-// part: it is answered as the first one was. A number before the last one, or beyond the next, is
-// told the last one.
+/// Each line with its answer, and whether it is settled by that. What comes again is another line
+/// in part: it is answered as the first one was. A number before the last one, or beyond the next,
+/// is told the last one.
 fn repeated<N: Name, R: Abort + Wait + AllocGlobal>(rt: &R, ground: Ground, setup: Setup)
     requires { ground ≡ N.table }
 {

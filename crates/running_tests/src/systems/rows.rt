@@ -154,7 +154,7 @@ const SEVEN_PAIRS: [(&str, &str); 15] = [
     ("release 1 1 14 d 76", "released 1 1 14"),
 ];
 
-// Of the seven rounds that come back, the depot gets three for the last one's sake.
+/// Of the seven rounds that come back, the depot gets three for the last one's sake.
 fn second_reaped<N: Name, R: Abort + Wait + AllocGlobal>(rt: &R, ground: Ground, setup: Setup)
     requires { ground ≡ N.table }
 {
@@ -242,8 +242,8 @@ fn shut_goes_on(rt: HostRuntime) -> Result<(), Fail> {
     Ok(())
 }
 
-// A CPU still has a round of the second arena's first span when the system is shut, and is retired
-// then.
+/// A CPU still has a round of the second arena's first span when the system is shut, and is retired
+/// then.
 fn goes_on<N: Name, R: Abort + Wait + AllocGlobal>(rt: &R, ground: Ground, setup: Setup)
     requires { ground ≡ N.table }
 {
@@ -272,7 +272,7 @@ fn goes_on<N: Name, R: Abort + Wait + AllocGlobal>(rt: &R, ground: Ground, setup
     }
 }
 
-// Shuts a system of which a unit is out.
+/// Shuts a system of which a unit is out.
 fn halt<N: Name, R: Abort + Wait>(rt: &R, system: System<N>) -> Halted<N> {
     match system.shut(rt) {
         Ok(_) => panic!(rt; "a unit is out"),

@@ -50,8 +50,8 @@ impl<N: Name, R: Abort + Wait + AllocGlobal> Gate for Before<'_, N, R> {
     }
 }
 
-// Asks a line that another CPU's lines come before: it isn't settled by this, is answered so, and
-// the hand is empty.
+/// Asks a line that another CPU's lines come before: it isn't settled by this, is answered so, and
+/// the hand is empty.
 fn late<N: Name, R: Abort + Wait + AllocGlobal>(
     rt: &R,
     gate: &Before<N, R>,
@@ -129,7 +129,7 @@ fn one_hello_twice(rt: HostRuntime) -> Result<(), Fail> {
     Ok(())
 }
 
-// What the other CPU is asked before the settle, the lease, and what comes after.
+/// What the other CPU is asked before the settle, the lease, and what comes after.
 fn settled<R: Abort + Wait + AllocGlobal>(rt: &R, rows: &[Row; 3]) {
     let [before, asked, then] = rows;
     let story = Story {

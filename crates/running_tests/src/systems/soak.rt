@@ -77,8 +77,8 @@ fn soaked<N: Name + Send + Sync, R: Abort + Wait + Threads + Clock + AllocGlobal
     shut(rt, system, &[(0, 1024), (1024, 1024)]);
 }
 
-// Each worker got and released segments, and no two leases overlap. All arenas have units of their
-// own, or those that they got of another.
+/// Each worker got and released segments, and no two leases overlap. All arenas have units of their
+/// own, or those that they got of another.
 fn are_apart(rt: &impl Abort, all: &[Tended]) {
     for (index, one) in all.iter().enumerate() {
         assert!(rt; one.grants > 100 && one.releases > 100);
@@ -118,8 +118,8 @@ fn end(segment: &HeldSegment) -> u64 {
     segment.base.get().saturating_add(segment.len.get())
 }
 
-// What one worker does: it leases and releases, and reaps at times. Two of the four clients are of
-// each protocol.
+/// What one worker does: it leases and releases, and reaps at times. Two of the four clients are of
+/// each protocol.
 fn tend<N: Name, R: Abort + Wait + Clock + AllocGlobal>(
     rt: &R,
     system: &System<N>,
@@ -158,14 +158,14 @@ fn tend<N: Name, R: Abort + Wait + Clock + AllocGlobal>(
     tended
 }
 
-// The next of the numbers that choose what is done.
+/// The next of the numbers that choose what is done.
 fn after(seed: u64) -> u64 {
     let one = seed ^ (seed << 13);
     let two = one ^ (one >> 7);
     two ^ (two << 17)
 }
 
-// A lease of 1 to 24 units, or a release of what the client holds.
+/// A lease of 1 to 24 units, or a release of what the client holds.
 fn next_op(rt: &impl Abort, client: &Client, seed: u64) -> Op {
     let held = client.held();
     let index = (seed / 4096) as usize % MOST_HELD;
@@ -188,7 +188,7 @@ fn next_op(rt: &impl Abort, client: &Client, seed: u64) -> Op {
 }
 
 impl Tended {
-    // Says hello by the protocol of the CPU's number.
+    /// Says hello by the protocol of the CPU's number.
     fn greet<N: Name, R: Abort + Wait>(&mut self, rt: &R, system: &System<N>, cpu: &mut Cpu<N>) {
         let protocol = if cpu.number() % 2 == 0 {
             Protocol::One
@@ -202,7 +202,7 @@ impl Tended {
         self.answer(rt, system, cpu, &hello);
     }
 
-    // Sends the line until it is answered by another reply than `again`.
+    /// Sends the line until it is answered by another reply than `again`.
     fn answer<N: Name, R: Abort + Wait>(
         &mut self,
         rt: &R,

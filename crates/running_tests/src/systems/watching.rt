@@ -113,8 +113,8 @@ fn holders<N: Name, R: Abort + Wait + AllocGlobal>(rt: &R, ground: Ground, setup
     shut(rt, system, &[(0, 64)]);
 }
 
-// The client at the index, with the greatest number of its first incarnation that is settled, and
-// the leases that it holds, each by the number of its request, its base and its units.
+/// The client at the index, with the greatest number of its first incarnation that is settled, and
+/// the leases that it holds, each by the number of its request, its base and its units.
 fn holds<N: Name, R: Abort + Wait + AllocGlobal>(
     rt: &R,
     system: &System<N>,

@@ -111,8 +111,8 @@ fn tcp_rows(rt: HostRuntime) {
     }
 }
 
-// A server whose console is a connection too: its other end reads the address from it, asks the
-// lines there, ends the server's input, and reads that it closed.
+/// A server whose console is a connection too: its other end reads the address from it, asks the
+/// lines there, ends the server's input, and reads that it closed.
 fn serve_talk<
     R: Net<Listener = TcpListener, Stream = TcpStream>
         + Threads
@@ -199,7 +199,7 @@ fn use_server<R: Net<Listener = TcpListener, Stream = TcpStream> + Abort + Alloc
     assert!(rt; rest.as_bytes() == b"closed\n".as_slice(), "not closed");
 }
 
-// Asks the lines of the operator, and reads what is told of each.
+/// Asks the lines of the operator, and reads what is told of each.
 fn ask_operator<R: Abort + AllocGlobal>(rt: &R, talk: &Talk, console: &TcpStream) {
     let mut writer = console;
     writer.write_all(talk.asks).expect(rt, "a server");
@@ -215,7 +215,7 @@ fn ask_operator<R: Abort + AllocGlobal>(rt: &R, talk: &Talk, console: &TcpStream
     assert_eq!(rt; told.as_slice(), talk.told);
 }
 
-// A line, without its line feed.
+/// A line, without its line feed.
 fn read_line<R: Abort + AllocGlobal>(rt: &R, stream: &TcpStream) -> Vec<u8> {
     let mut line = Vec::new(rt.alloc());
     let mut reader = stream;
