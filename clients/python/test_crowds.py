@@ -156,7 +156,7 @@ class Speaker:
     def __init__(self, crowd, number):
         self.crowd, self.number, self.link = crowd, number, None
         self.request, self.held, self.rest = 0, [], b""
-        self.line = f"hello {number} 1"
+        self.granted, self.line = 0, f"hello {number} 1"
 
     def send(self):
         while True:
@@ -167,6 +167,7 @@ class Speaker:
             self.link.sendall(f"{self.line}\n".encode())
             if self.crowd.rng.random() >= self.crowd.cut:
                 return
+            self.crowd.cuts += 1
             self.close(self.crowd.rng.random() < 0.5)
 
     def close(self, is_reset=False):
@@ -206,7 +207,7 @@ class Conversations:
     def __init__(self, port, count, cut):
         self.address, self.cut, self.rng = ("127.0.0.1", port), cut, random.Random(count)
         self.poll, self.owners = selectors.DefaultSelector(), bytearray(UNITS)
-        self.granted, self.ended, self.wrong = 0, 0, []
+        self.granted, self.cuts, self.ended, self.wrong = 0, 0, 0, []
         self.speakers = [Speaker(self, number) for number in range(1, count + 1)]
 
     def run(self, grants):
@@ -229,6 +230,7 @@ class Conversations:
             is_right = is_right and not any(self.owners[base:base + length])
             self.owners[base:base + length] = bytes([speaker.number]) * length
             speaker.held.append((words[4], base, length))
+            speaker.granted += 1
             self.granted += 1
         if not is_right:
             self.wrong.append((speaker.line, answer))
@@ -257,15 +259,17 @@ class Speakers(Served):
         them = Conversations(self.port, self.speakers, cut)
         them.run(8000)
         self.assertEqual(them.wrong, [])
+        self.assertGreater(min(it.granted for it in them.speakers), 0)
         them.end()
         self.assertEqual(self.leases_in_time(201, "m", UNITS, 10), ("m", 0, UNITS))
         return them
 
     def test_no_unit_is_in_two_hands(self):
-        self.assertEqual(self.talk(0).ended, 0)
+        them = self.talk(0)
+        self.assertEqual((them.cuts, them.ended), (0, 0))
 
     def test_nor_where_connections_are_cut(self):
-        self.talk(0.05)
+        self.assertGreater(self.talk(0.05).cuts, 100)
 
 
 @needs_connections
