@@ -289,8 +289,8 @@ impl<D: Deed> Book<D> {
     }
 
     /// The same for the client of a hello that was taken, which is welcome where none is left.
-    pub fn welcome(&mut self, taken: Taken<D>) -> SweepEnd<Segment<D>, D>
-        ensures { IsSweptFor self.old self.new taken result }
+    pub fn welcome(&mut self, taken: &Taken<D>) -> SweepEnd<Segment<D>, D>
+        ensures { IsSweptFor self.old self.new taken.now result }
     {
         match self.sweep(taken.client()) {
             Some((id, segment)) => SweepEnd::Ended(id, segment),

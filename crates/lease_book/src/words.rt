@@ -129,10 +129,12 @@ impl<D> Model for Welcomed<D> {
 
 impl<D> Welcomed<D> {
     /// By the hello, after which none was found.
-    pub(crate) fn after(taken: Taken<D>) -> Welcomed<D>
-        ensures { result ≡ taken }
+    pub(crate) fn after(taken: &Taken<D>) -> Welcomed<D>
+        ensures { result ≡ taken.now }
     {
-        Welcomed { taken }
+        Welcomed {
+            taken: Taken::by(taken.client, taken.incarnation, taken.protocol),
+        }
     }
 
     /// The protocol that stands.

@@ -98,11 +98,11 @@ impl<N: Name> MarkedBook<N> {
     /// it is welcome.
     pub(crate) fn sweep(
         &mut self,
-        taken: Taken<SeatDeed<N>>,
+        taken: &Taken<SeatDeed<N>>,
     ) -> SweepEnd<Segment<SeatDeed<N>>, SeatDeed<N>>
-        ensures event { BookEvent (SeatDeed N) self.old (Sweep taken.client)
+        ensures event { BookEvent (SeatDeed N) self.old (Sweep taken.now.client)
             (tag_swept (λ t. t) (Ok result)) self.new }
-        ensures welcome { IsWelcomeOf taken result }
+        ensures welcome { IsWelcomeOf taken.now result }
     {
         match self.book.welcome(taken) {
             SweepEnd::Ended(id, segment) => SweepEnd::Ended(id, segment),

@@ -112,7 +112,7 @@ impl<N: Name, R: Wait, G: Gate> Books<Segment<SeatDeed<N>>, SeatDeed<N>, Running
         if parts.steps.stops(parts.gate, EventName::Sweep) {
             return Err(Stopped);
         }
-        match sweep_in(self.book, parts.rt, *taken) {
+        match sweep_in(self.book, parts.rt, taken) {
             SweepEnd::Ended(id, segment) => Ok(SweepEnd::Ended(id, segment)),
             SweepEnd::Welcome(welcomed) => Ok(SweepEnd::Welcome(welcomed)),
         }
@@ -200,10 +200,11 @@ fn hello_in<N: Name, R: Wait>(
 fn sweep_in<N: Name, R: Wait>(
     book: &Mutex<MarkedBook<N>>,
     rt: &R,
-    taken: Taken<SeatDeed<N>>,
+    taken: &Taken<SeatDeed<N>>,
 ) -> SweepEnd<Segment<SeatDeed<N>>, SeatDeed<N>>
-    ensures event { IsLockedCall (SeatDeed N) (Sweep taken.client) (tag_swept (λ t. t) (Ok result)) }
-    ensures welcome { IsWelcomeOf taken result }
+    ensures event { IsLockedCall (SeatDeed N) (Sweep taken.now.client)
+        (tag_swept (λ t. t) (Ok result)) }
+    ensures welcome { IsWelcomeOf taken.now result }
 {
     let mut book = book.lock(rt);
     book.check();

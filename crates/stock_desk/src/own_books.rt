@@ -91,7 +91,7 @@ impl Books<Segment<PlainDeed>, PlainDeed, Local<'_, PlainDeed>> for OwnBook<'_> 
         _parts: &mut Local<'_, PlainDeed>,
         taken: &Taken<PlainDeed>,
     ) -> Result<SweepEnd<Segment<PlainDeed>, PlainDeed>, Stopped> {
-        match self.book.welcome(*taken) {
+        match self.book.welcome(taken) {
             SweepEnd::Ended(id, segment) => Ok(SweepEnd::Ended(id, segment)),
             SweepEnd::Welcome(welcomed) => Ok(SweepEnd::Welcome(welcomed)),
         }

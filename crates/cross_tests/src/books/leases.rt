@@ -89,7 +89,7 @@ fn leases_of_many(rt: HostRuntime) {
 
 /// The protocol by which the client of a hello is welcome, or the lease that ended first, with the
 /// request that was granted it.
-fn welcome(book: &mut Book<PlainDeed>, taken: Taken<PlainDeed>) -> Result<Protocol, (Id, Bounds)> {
+fn welcome(book: &mut Book<PlainDeed>, taken: &Taken<PlainDeed>) -> Result<Protocol, (Id, Bounds)> {
     match book.welcome(taken) {
         SweepEnd::Ended(request, segment) => Err((id_of(request), close(segment))),
         SweepEnd::Welcome(welcomed) => Ok(welcomed.protocol()),
@@ -113,9 +113,9 @@ fn welcome_after_the_last(rt: HostRuntime) {
         .hello(client, incarnation, Protocol::One)
         .ok()
         .expect(&rt, "a hello");
-    assert_eq!(rt; welcome(&mut book, taken), Err(((4, 1, 1), (0, 4))));
-    assert_eq!(rt; welcome(&mut book, taken), Err(((4, 1, 2), (32, 4))));
-    assert_eq!(rt; welcome(&mut book, taken), Ok(Protocol::Two));
+    assert_eq!(rt; welcome(&mut book, &taken), Err(((4, 1, 1), (0, 4))));
+    assert_eq!(rt; welcome(&mut book, &taken), Err(((4, 1, 2), (32, 4))));
+    assert_eq!(rt; welcome(&mut book, &taken), Ok(Protocol::Two));
     check(&rt, &book, 0, &[(2, 1, 8, 1)]);
     end(&rt, book);
 }
