@@ -104,9 +104,9 @@ fn kept(rt: &impl Abort, reply: KeptReply) -> Told {
 fn answered(rt: &impl Abort, answer: Answer<PlainDeed>) -> Told {
     match answer {
         Answer::Kept(receipt) => kept(rt, receipt.reply()),
-        Answer::Old(current) => Told::Old(current.get()),
-        Answer::Stale(last) => Told::Stale(last.get()),
-        Answer::Gap(last) => Told::Gap(last.get()),
+        Answer::Old(current) => Told::Old(current.number().get()),
+        Answer::Stale(last) => Told::Stale(last.number().get()),
+        Answer::Gap(last) => Told::Gap(last.number().get()),
         Answer::Refused(receipt) => match receipt.reply() {
             KeptReply::Refused(refusal) => Told::Refused(refusal),
             reply => kept(rt, reply),
@@ -120,9 +120,9 @@ fn look(rt: &impl Abort, book: &Book<PlainDeed>, id: Id) -> Told {
     let told = match book.look(id) {
         Look::New => Told::New,
         Look::Kept(receipt) => kept(rt, receipt.reply()),
-        Look::Old(current) => Told::Old(current.get()),
-        Look::Stale(last) => Told::Stale(last.get()),
-        Look::Gap(last) => Told::Gap(last.get()),
+        Look::Old(current) => Told::Old(current.number().get()),
+        Look::Stale(last) => Told::Stale(last.number().get()),
+        Look::Gap(last) => Told::Gap(last.number().get()),
     };
     assert_eq!(rt; book.is_new(id), told == Told::New);
     told
@@ -144,13 +144,13 @@ fn hello(
 ) -> Result<Protocol, u64> {
     let before = (book.clients(), look(rt, book, (client, 1, 1)));
     match &book.hello(client_of(rt, client), ordinal_of(rt, incarnation), protocol) {
-        Ok(stands) => Ok(*stands),
-        Err(HelloFault::Old(current)) => Err(current.get()),
+        Ok(taken) => Ok(taken.protocol()),
+        Err(HelloFault::Old(current)) => Err(current.number().get()),
         Err(HelloFault::NoMemory) => {
             assert_eq!(rt; (book.clients(), look(rt, book, (client, 1, 1))), before);
             assert_eq!(rt; book.client_at(before.0), None);
             let again = book.hello(client_of(rt, client), ordinal_of(rt, incarnation), protocol);
-            assert_eq!(rt; again.ok(), Some(protocol));
+            assert_eq!(rt; again.ok().map(|taken| taken.protocol()), Some(protocol));
             Ok(protocol)
         }
     }

@@ -1,5 +1,5 @@
 -- What the calls of a book do.
-use Rattle.std.specs.Prelude.{◌≡◌, ℕ, ◌<◌, length, Some, slice_get}
+use Rattle.std.specs.Prelude.{◌≡◌, ℕ, ◌<◌, ◌≤◌, All, length, Some, slice_get}
 use Rattle.std.specs.List.{find}
 use Rattle.deed_core.specs.Tag.{Tag}
 use Rattle.deed_core.specs.Weights.{Gains, Loses}
@@ -13,6 +13,9 @@ use Rattle.lease_book.specs.BookState.{BookState, Enters, account_in, leased_seg
 use Rattle.lease_book.specs.Answers.{receipt, IsNew}
 use Rattle.lease_book.specs.declared.books.TheConstants.{MOST_LEASES}
 use Rattle.lease_book.specs.declared.receipts.Terms.{Terms}
+use Rattle.lease_book.specs.declared.words.SweepEnd.{SweepEnd}
+use Rattle.lease_book.specs.declared.words.SweepEnd.TheVariants.{Ended, Welcome}
+use Rattle.lease_book.specs.Words.{Greeted}
 
 -- the index of a client's account
 pub record IsFound (book : BookState) (c index : ℕ) : Type 0 where
@@ -69,3 +72,14 @@ pub record IsSwept (old now : BookState) (c : ℕ) (id : RequestId) (t : Tag) : 
   pub client : id.client ≡ c
   pub older : id.incarnation < (account_in c old).incarnation
   pub ended : IsEnded old now id t
+
+-- no lease of an older incarnation of the client is left
+abbrev pub IsSweptClean : BookState → ℕ → Type 0
+IsSweptClean b c = All (λ l. (account_in c b).incarnation ≤ l.incarnation) (account_in c b).leases
+
+-- a lease of an older incarnation of the hello's client ended, or none is left, and the hello is
+-- welcome
+abbrev pub IsSweptFor : {D : Type 0} → (old now : BookState) → Greeted → SweepEnd Tag D → Type 0
+IsSweptFor old now taken (Ended id t) = IsSwept old now taken.client id t
+IsSweptFor old now taken (Welcome w) =
+    IsSweptClean old taken.client × (now ≡ old) × (w ≡ taken)

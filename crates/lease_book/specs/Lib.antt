@@ -12,6 +12,7 @@ pub mod Totals
 pub mod Answers
 pub mod Calls
 pub mod Reports
+pub mod Words
 pub mod Laws
 pub mod NumberLaws
 pub mod ClientLaws

@@ -22,6 +22,7 @@ use crate::leases::{Held, Which};
 use crate::receipts::{Kept, KeptReply, Receipt, Terms};
 use crate::reports::{ClientReport, LeaseReport};
 use crate::standings::Standing;
+use crate::words::{BookNumber, SweepEnd, Taken, Welcomed};
 use deed_core::{Deed, Request, Segment};
 use lease_terms::{ClientId, Ordinal, Protocol, Quantity, Refusal, RequestId};
 use std::alloc::Global;
@@ -52,7 +53,7 @@ impl<D: Deed> Book<D> {
     ghost use Rattle.lease_book.specs.Answers.{receipt, IsNew, IsLook, IsAnswer, IsHelloFault};
     ghost use Rattle.lease_book.specs.Shelf.{standing_of};
     ghost use Rattle.lease_book.specs.Calls.{IsFound, IsGranted, IsRefused, IsReleased, IsEnded};
-    ghost use Rattle.lease_book.specs.Calls.{IsSwept};
+    ghost use Rattle.lease_book.specs.Calls.{IsSwept, IsSweptClean, IsSweptFor};
 
     /// An empty book. The mark is a deed of the one unit 0; its root tells the book's receipts from
     /// another's.
@@ -90,7 +91,7 @@ impl<D: Deed> Book<D> {
         Ok(mark)
     }
 
-    /// Takes a client's hello with an incarnation, and gives the protocol that stands for it: that
+    /// Takes a client's hello with an incarnation, and tells the protocol that stands for it: that
     /// of its first hello. Room for all replies that are kept is made by that one, so that a later
     /// one is never out of memory; nor is one that begins an incarnation with the first protocol,
     /// where the client is known.
@@ -99,10 +100,14 @@ impl<D: Deed> Book<D> {
         client: ClientId,
         incarnation: Ordinal,
         protocol: Protocol,
-    ) -> Result<Protocol, HelloFault>
+    ) -> Result<Taken<D>, HelloFault<D>>
         ensures taken { OnOk result
             (Enters (Hello client incarnation protocol) self.old self.new) }
-        ensures standing { IfOk result (λ p. p ≡ (account_in client self.new).protocol) }
+        ensures standing { IfOk result (λ t. t ≡ record {
+          client = client;
+          incarnation = incarnation;
+          protocol = (account_in client self.new).protocol;
+        }) }
         ensures known { incarnation ≡ (account_in client self.old).incarnation
             → self.new ≡ self.old }
         ensures leases { leased_segments self.new ≡ leased_segments self.old }
@@ -122,20 +127,20 @@ impl<D: Deed> Book<D> {
             let Ok(()) = self.accounts.open(client, fresh) else {
                 return Err(HelloFault::NoMemory);
             };
-            return Ok(protocol);
+            return Ok(Taken::by(client, incarnation, protocol));
         };
         let current = standing.incarnation();
         if incarnation.get() < current.get() {
-            return Err(HelloFault::Old(current.quantity()));
+            return Err(HelloFault::Old(BookNumber::told(current.quantity())));
         }
         if incarnation.get() == current.get() {
-            return Ok(standing.protocol());
+            return Ok(Taken::by(client, incarnation, standing.protocol()));
         }
         let Ok(fresh) = Standing::new(alloc, incarnation, protocol) else {
             return Err(HelloFault::NoMemory);
         };
         self.accounts.write(index, fresh);
-        Ok(protocol)
+        Ok(Taken::by(client, incarnation, protocol))
     }
 
     /// Goes to a client. It is for speed alone: the calls for the client that follow need no search
@@ -274,15 +279,23 @@ impl<D: Deed> Book<D> {
     /// granted it. Which one is left open; it is the first in order of grant.
     pub fn sweep(&mut self, client: ClientId) -> Option<(RequestId, Segment<D>)>
         ensures swept { IfSome result (λ r. IsSwept self.old self.new client r.0 r.1) }
-        ensures none { IfNone result
-            (All (λ l. (account_in client self.old).incarnation ≤ l.incarnation)
-            (account_in client self.old).leases) }
+        ensures none { IfNone result (IsSweptClean self.old client) }
         ensures unchanged { IfNone result (self.new ≡ self.old) }
     {
         let (index, standing) = self.account(client)?;
         let older = Which::Before(standing.incarnation());
         let held = self.accounts.take(index, older)?;
         Some(held.ended(client))
+    }
+
+    /// The same for the client of a hello that was taken, which is welcome where none is left.
+    pub fn welcome(&mut self, taken: &Taken<D>) -> SweepEnd<Segment<D>, D>
+        ensures { IsSweptFor self.old self.new taken.now result }
+    {
+        match self.sweep(taken.client()) {
+            Some((id, segment)) => SweepEnd::Ended(id, segment),
+            None => SweepEnd::Welcome(Welcomed::after(taken)),
+        }
     }
 
     /// Ends a lease, whichever, at a system's end, and gives it with the request that was granted
@@ -367,7 +380,7 @@ impl<D: Deed> Book<D> {
     {
         match self.account(id.client) {
             Some((_, standing)) => self.look_by(standing, id),
-            None => Look::Old(Quantity::ZERO),
+            None => Look::Old(BookNumber::told(Quantity::ZERO)),
         }
     }
 
@@ -379,11 +392,11 @@ impl<D: Deed> Book<D> {
     {
         let current = standing.incarnation();
         if id.incarnation.get() != current.get() {
-            return Look::Old(current.quantity());
+            return Look::Old(BookNumber::told(current.quantity()));
         }
         let last = standing.last();
         if id.number.get() + standing.protocol().window() <= last.get() {
-            return Look::Stale(last);
+            return Look::Stale(BookNumber::told(last));
         }
         match standing.at(id.number) {
             Some(kept) => {
@@ -392,7 +405,7 @@ impl<D: Deed> Book<D> {
                 let _ = receipt.reply();
                 Look::Kept(receipt)
             }
-            None => Look::Gap(standing.low()),
+            None => Look::Gap(BookNumber::told(standing.low())),
         }
     }
 

@@ -7,6 +7,10 @@
 //! release or a refusal, and keeps the replies of as many numbers, so that a request that comes
 //! again gets the same one. Leases of an incarnation that has passed stay until they are swept.
 //!
+//! What it answers comes as values that only a book makes: a receipt of what is settled (receipts),
+//! else a number that it has, a hello that it took, and a welcome (words). Who has one asked a book
+//! of these deeds.
+//!
 //! Begin with [`Book`]. What its contracts see, and what is read off the list of what happened to
 //! it, is in `specs/History.antt` and `specs/BookState.antt`; how it answers is in
 //! `specs/Answers.antt` and `specs/Calls.antt`. What the crates above may cite of the proofs is in
@@ -43,6 +47,7 @@ mod recent;
 mod reports;
 mod standings;
 mod totals;
+mod words;
 
 pub use answers::{Answer, HelloFault, Look, NotLeased};
 pub use books::{Book, MOST_LEASES};
@@ -52,3 +57,4 @@ pub use laws::{
 };
 pub use receipts::{KeptReply, Receipt, Terms};
 pub use reports::{ClientReport, LeaseReport};
+pub use words::{BookNumber, Current, Greatest, Low, SweepEnd, Taken, Welcomed};

@@ -7,6 +7,7 @@ use Rattle.deed_core.specs.declared.segments.Route.{Route}
 use Rattle.deed_core.specs.declared.segments.Route.TheVariants.{Direct, Cached}
 use Rattle.lease_terms.specs.Requests.{RequestId}
 use Rattle.lease_terms.specs.declared.protocols.Protocol.{Protocol}
+use Rattle.lease_book.specs.Words.{Greeted}
 use Rattle.arena_tree.specs.Climbs.{ClimbEnd, ReturnEnd}
 use Rattle.arena_tree.specs.Events.{locks}
 use Rattle.arena_tree.specs.Plans as plans
@@ -129,24 +130,24 @@ module _ (arenas : List TreeArena) where
     look_within depth new w (Ok (Some a)) = omega arith
     look_within depth new w (Err e) = omega arith
 
-  module _ (D : Type 0) (client all : ℕ) where
-    sweep_within : (stands : Protocol) (turns n : ℕ) → n + turns * LONGEST_CHAIN ≤ all → CallWithin {D = D} (λ (r : HelloEnd). all) (sweep_plan arenas stands client turns) n
-    sweep_within stands zero n low = omega (arith, low)
-    sweep_within stands (suc turns) n low = by (sweep_within stands turns)
+  module _ (D : Type 0) (all : ℕ) where
+    sweep_within : (taken : Greeted) (turns n : ℕ) → n + turns * LONGEST_CHAIN ≤ all → CallWithin {D = D} (λ (r : HelloEnd D). all) (sweep_plan arenas taken turns) n
+    sweep_within taken zero n low = omega (arith, low)
+    sweep_within taken (suc turns) n low = by (sweep_within taken turns)
       where
-        by : ((m : ℕ) → m + turns * LONGEST_CHAIN ≤ all → CallWithin {D = D} (λ (r : HelloEnd). all) (sweep_plan arenas stands client turns) m) → (x : Result (Option (RequestId × Tag)) Stopped) → CallWithin {D = D} (λ (r : HelloEnd). all) (on_sweep arenas stands (sweep_plan arenas stands client turns) x) n
+        by : ((m : ℕ) → m + turns * LONGEST_CHAIN ≤ all → CallWithin {D = D} (λ (r : HelloEnd D). all) (sweep_plan arenas taken turns) m) → (x : Result (Option (RequestId × Tag)) Stopped) → CallWithin {D = D} (λ (r : HelloEnd D). all) (on_sweep arenas taken (sweep_plan arenas taken turns) x) n
         by again (Ok None) = omega (arith, low)
-        by again (Ok (Some r)) = placed_within (λ (e : HelloEnd). all) r.1 (on_place (sweep_plan arenas stands client turns)) n back
+        by again (Ok (Some r)) = placed_within (λ (e : HelloEnd D). all) r.1 (on_place (sweep_plan arenas taken turns)) n back
           where
-            back : (e : ReturnEnd) (m : ℕ) → m ≤ n + LONGEST_CHAIN → CallWithin {D = D} (λ (e : HelloEnd). all) (on_place (sweep_plan arenas stands client turns) e) m
+            back : (e : ReturnEnd) (m : ℕ) → m ≤ n + LONGEST_CHAIN → CallWithin {D = D} (λ (e : HelloEnd D). all) (on_place (sweep_plan arenas taken turns) e) m
             back (Ok u) m most = again m (omega (arith, low, most))
             back (Err f) m most = omega (arith, low, most)
         by again (Err e) = omega (arith, low)
 
-  hello_within : (D : Type 0) (client turns : ℕ) (x : Result Protocol NotGreeted) → CallWithin {D = D} (λ (r : HelloEnd). turns * LONGEST_CHAIN) (on_hello arenas client turns x) 0
-  hello_within D client turns (Ok stands) = sweep_within D client (turns * LONGEST_CHAIN) stands turns 0 (omega arith)
-  hello_within D client turns (Err (greeting.Late f)) = omega arith
-  hello_within D client turns (Err greeting.Stopped) = omega arith
+  hello_within : (D : Type 0) (turns : ℕ) (x : Result Greeted (NotGreeted D)) → CallWithin {D = D} (λ (r : HelloEnd D). turns * LONGEST_CHAIN) (on_hello arenas turns x) 0
+  hello_within D turns (Ok taken) = sweep_within D (turns * LONGEST_CHAIN) taken turns 0 (omega arith)
+  hello_within D turns (Err (greeting.Late f)) = omega arith
+  hello_within D turns (Err greeting.Stopped) = omega arith
 
 pub lease_is_short : (D : Type 0) → LeaseIsShort D
 lease_is_short D arenas id l = look_within arenas D id (depth_at arenas (index_in l.arena arenas)) (lease_at arenas id (demand_of l) (index_in l.arena arenas)) (lease_at_within arenas D id (demand_of l) (index_in l.arena arenas))
@@ -155,4 +156,4 @@ pub release_is_short : (D : Type 0) → ReleaseIsShort D
 release_is_short D arenas id l = release_at_within arenas D id l.base (index_in l.arena arenas)
 
 pub hello_is_short : (D : Type 0) → HelloIsShort D
-hello_is_short D arenas h turns = hello_within arenas D h.client turns
+hello_is_short D arenas h turns = hello_within arenas D turns

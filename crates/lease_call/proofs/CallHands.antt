@@ -4,6 +4,7 @@ use Rattle.deed_core.specs.Tag.{Tag}
 use Rattle.deed_core.specs.declared.requests.Request.{Request}
 use Rattle.lease_terms.specs.Requests.{RequestId}
 use Rattle.lease_terms.specs.declared.protocols.Protocol.{Protocol}
+use Rattle.lease_book.specs.Words.{Greeted}
 use Rattle.arena_tree.specs.Chains.{Node}
 use Rattle.arena_tree.specs.Climbs.{ClimbEnd, ReturnEnd, climb_left, return_left}
 use Rattle.arena_tree.specs.Events.{Event, AnswerTo, BeginsWith, hand_after, Carve, Free, AddCarve, SlabTake, SlabPut, SlabAdd, SlabReap, SwapFull, SwapEmpty, SwapFresh, DepotReap, Pop, Push, Change}
@@ -127,18 +128,18 @@ module _ (arenas : List TreeArena) where
     op_handles (ops.Lease l) = (refl, look_handles (lease_at arenas id (demand_of l) (index_in l.arena arenas)) (lease_at_handles (demand_of l) (index_in l.arena arenas)))
     op_handles (ops.Release l) = release_at_handles l.base (index_in l.arena arenas)
 
-  module _ (D : Type 0) (client : ℕ) where
-    sweep_handles : (stands : Protocol) (turns : ℕ) → CallHandles {D = D} call_left (sweep_plan arenas stands client turns) None
-    sweep_handles stands zero = refl
-    sweep_handles stands (suc turns) = (refl, by (sweep_handles stands turns))
+  module _ (D : Type 0) where
+    sweep_handles : (taken : Greeted) (turns : ℕ) → CallHandles {D = D} call_left (sweep_plan arenas taken turns) None
+    sweep_handles taken zero = refl
+    sweep_handles taken (suc turns) = (refl, by (sweep_handles taken turns))
       where
-        by : CallHandles {D = D} call_left (sweep_plan arenas stands client turns) None → (x : Result (Option (RequestId × Tag)) Stopped) → CallHandles {D = D} call_left (on_sweep arenas stands (sweep_plan arenas stands client turns) x) (swept x)
+        by : CallHandles {D = D} call_left (sweep_plan arenas taken turns) None → (x : Result (Option (RequestId × Tag)) Stopped) → CallHandles {D = D} call_left (on_sweep arenas taken (sweep_plan arenas taken turns) x) (swept x)
         by again (Ok None) = refl
-        by again (Ok (Some r)) = first_handles r.1 (sweep_plan arenas stands client turns) again
+        by again (Ok (Some r)) = first_handles r.1 (sweep_plan arenas taken turns) again
         by again (Err e) = refl
 
-    hello_handles : (turns : ℕ) (x : Result Protocol NotGreeted) → CallHandles {D = D} call_left (on_hello arenas client turns x) None
-    hello_handles turns (Ok stands) = sweep_handles stands turns
+    hello_handles : (turns : ℕ) (x : Result Greeted (NotGreeted D)) → CallHandles {D = D} call_left (on_hello arenas turns x) None
+    hello_handles turns (Ok taken) = sweep_handles taken turns
     hello_handles turns (Err (greeting.Late f)) = refl
     hello_handles turns (Err greeting.Stopped) = refl
 
@@ -146,7 +147,7 @@ pub request_handles : (D : Type 0) → RequestHandles D
 request_handles D arenas hand id op = hand_handles arenas hand (op_plan arenas id op) (op_handles arenas D id op)
 
 pub line_handles : (D : Type 0) → HelloHandles D
-line_handles D arenas hand h turns = hand_handles arenas hand (greet_plan arenas h turns) (refl, hello_handles arenas D h.client turns)
+line_handles D arenas hand h turns = hand_handles arenas hand (greet_plan arenas h turns) (refl, hello_handles arenas D turns)
 
 -- one step: what comes is given, what goes was in the hand
 moved : (hand given out : Option Tag) (came gone : List Tag) → hand ≡ given → came ≡ put_first hand gone → put_first out came ≡ put_first out (put_first given gone)

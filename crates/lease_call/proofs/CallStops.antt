@@ -4,6 +4,7 @@ use Rattle.deed_core.specs.Tag.{Tag}
 use Rattle.deed_core.specs.declared.requests.Request.{Request}
 use Rattle.lease_terms.specs.Requests.{RequestId}
 use Rattle.lease_terms.specs.declared.protocols.Protocol.{Protocol}
+use Rattle.lease_book.specs.Words.{Greeted}
 use Rattle.lease_terms.specs.declared.refusals.Refusal.{Refusal}
 use Rattle.lease_terms.specs.declared.refusals.Refusal.TheVariants.{NoArena, BadRequest, NoFit}
 use Rattle.arena_tree.specs.Climbs.{ClimbEnd, ReturnEnd}
@@ -122,20 +123,20 @@ module _ (arenas : List TreeArena) where
     op_stops (ops.Lease l) = looked_stops (lease_at arenas id (demand_of l) (index_in l.arena arenas)) (lease_stops (demand_of l) (index_in l.arena arenas))
     op_stops (ops.Release l) = release_stops_at l.base (index_in l.arena arenas)
 
-  module _ (D : Type 0) (client : ℕ) where
-    sweep_stops : (stands : Protocol) (turns : ℕ) → StopsLast {D = D} call_stopped (sweep_plan arenas stands client turns) false
-    sweep_stops stands zero = refl
-    sweep_stops stands (suc turns) = by (sweep_stops stands turns)
+  module _ (D : Type 0) where
+    sweep_stops : (taken : Greeted) (turns : ℕ) → StopsLast {D = D} call_stopped (sweep_plan arenas taken turns) false
+    sweep_stops taken zero = refl
+    sweep_stops taken (suc turns) = by (sweep_stops taken turns)
       where
-        by : StopsLast {D = D} call_stopped (sweep_plan arenas stands client turns) false → (x : Result (Option (RequestId × Tag)) Stopped) → StopsLast {D = D} call_stopped (on_sweep arenas stands (sweep_plan arenas stands client turns) x) (is_stopped_call D (Sweep client) x)
+        by : StopsLast {D = D} call_stopped (sweep_plan arenas taken turns) false → (x : Result (Option (RequestId × Tag)) Stopped) → StopsLast {D = D} call_stopped (on_sweep arenas taken (sweep_plan arenas taken turns) x) (is_stopped_call D (Sweep taken.client) x)
         by again (Ok None) = refl
-        by again (Ok (Some r)) = first_stops r.1 (sweep_plan arenas stands client turns) again
+        by again (Ok (Some r)) = first_stops r.1 (sweep_plan arenas taken turns) again
         by again (Err e) = refl
 
-    greeted_stops : (incarnation : ℕ) (asked : Protocol) (turns : ℕ) (x : Result Protocol NotGreeted) → StopsLast {D = D} call_stopped (on_hello arenas client turns x) (is_stopped_call D (Hello client incarnation asked) x)
-    greeted_stops incarnation asked turns (Ok stands) = sweep_stops stands turns
-    greeted_stops incarnation asked turns (Err (greeting.Late f)) = refl
-    greeted_stops incarnation asked turns (Err greeting.Stopped) = refl
+    greeted_stops : (client incarnation : ℕ) (asked : Protocol) (turns : ℕ) (x : Result Greeted (NotGreeted D)) → StopsLast {D = D} call_stopped (on_hello arenas turns x) (is_stopped_call D (Hello client incarnation asked) x)
+    greeted_stops client incarnation asked turns (Ok taken) = sweep_stops taken turns
+    greeted_stops client incarnation asked turns (Err (greeting.Late f)) = refl
+    greeted_stops client incarnation asked turns (Err greeting.Stopped) = refl
 
 pub request_stops : (D : Type 0) → RequestStops D
 request_stops D arenas hand id op = hand_stops arenas hand (op_plan arenas id op) (op_stops arenas D id op)

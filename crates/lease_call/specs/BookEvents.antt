@@ -1,30 +1,31 @@
 -- What a call does to a book.
-use Rattle.std.specs.Prelude.{◌≡◌, ℕ, ◌<◌, ◌≤◌, All, length, Some, None, Ok, Err}
+use Rattle.std.specs.Prelude.{◌≡◌, ℕ, ◌<◌, ◌≤◌, length, Some, None, Ok, Err}
 use Rattle.std.specs.List.{find}
 use Rattle.lease_terms.specs.declared.protocols.Protocol.{Protocol}
 use Rattle.lease_terms.specs.declared.refusals.Refusal.TheVariants.{NotYours, Leases}
 use Rattle.lease_book.specs.Account.{is_lease}
 use Rattle.lease_book.specs.Answers.{IsNew, IsAnswer, IsHelloFault}
 use Rattle.lease_book.specs.BookState.{BookState, Enters, account_in, leased_segments}
-use Rattle.lease_book.specs.Calls.{IsGranted, IsRefused, IsReleased, IsSwept}
+use Rattle.lease_book.specs.Calls.{IsGranted, IsRefused, IsReleased, IsSwept, IsSweptClean}
 use Rattle.lease_book.specs.Entry as entries
+use Rattle.lease_book.specs.Words.{Greeted}
 use Rattle.lease_book.specs.declared.books.TheConstants.{MOST_LEASES}
 use Rattle.lease_call.specs.Calls.{BookCall, AnswerOf, Look, Settle, Refuse, Release, Hello, Sweep}
 use Rattle.lease_call.specs.declared.call_faults.NotGreeted.TheVariants as greeting
 use Rattle.lease_call.specs.declared.call_faults.NotReleased.TheVariants as releasing
 use Rattle.lease_call.specs.declared.call_faults.NotSettled.TheVariants as settling
 
--- a hello that asks for a protocol is taken; the one that stands for its incarnation is given
-pub record IsGreeted (old new : BookState) (client incarnation : ℕ) (asked stands : Protocol)
-    : Type 0 where
+-- a hello that asks for a protocol is taken; the one that stands for its incarnation is told
+pub record IsGreeted (old new : BookState) (client incarnation : ℕ) (asked : Protocol)
+    (taken : Greeted) : Type 0 where
   pub current : (account_in client old).incarnation ≤ incarnation
   pub entry : Enters (entries.Hello client incarnation asked) old new
-  pub protocol : stands ≡ (account_in client new).protocol
+  pub told : taken ≡ record {
+    client = client;
+    incarnation = incarnation;
+    protocol = (account_in client new).protocol;
+  }
   pub leases : leased_segments new ≡ leased_segments old
-
--- no lease of an older incarnation of the client is left
-abbrev pub IsSweptClean : BookState → ℕ → Type 0
-IsSweptClean b c = All (λ l. (account_in c b).incarnation ≤ l.incarnation) (account_in c b).leases
 
 -- by its answer; one that was stopped is no event of the book
 abbrev pub BookEvent : (D : Type 0) → BookState → (k : BookCall) → AnswerOf D k → BookState
@@ -46,8 +47,8 @@ BookEvent D b (Release id arena base) (Err (releasing.Answered a)) c = IsAnswer 
     (λ v. IsRefused b c id NotYours v
     × (find (is_lease id.incarnation arena base) (account_in id.client b).leases ≡ None)) ⊥ a
 BookEvent D b (Release id arena base) (Err releasing.Stopped) c = ⊥
-BookEvent D b (Hello client incarnation asked) (Ok stands) c =
-    IsGreeted b c client incarnation asked stands
+BookEvent D b (Hello client incarnation asked) (Ok taken) c =
+    IsGreeted b c client incarnation asked taken
 BookEvent D b (Hello client incarnation asked) (Err (greeting.Late f)) c =
     IsHelloFault (account_in client b).incarnation incarnation asked f × (c ≡ b)
 BookEvent D b (Hello client incarnation asked) (Err greeting.Stopped) c = ⊥

@@ -5,6 +5,8 @@ use Rattle.lease_terms.specs.Requests.{RequestId}
 use Rattle.arena_tree.specs.Tags.{tag_option}
 use Rattle.arena_tree.specs.declared.part_faults.Stopped.{Stopped}
 use Rattle.lease_book.specs.Receipts.{ReceiptState}
+use Rattle.lease_book.specs.declared.words.SweepEnd.{SweepEnd}
+use Rattle.lease_book.specs.declared.words.SweepEnd.TheVariants.{Ended, Welcome}
 use Rattle.lease_call.specs.declared.call_faults.CallFault.{CallFault}
 use Rattle.lease_call.specs.declared.call_faults.CallFault.TheVariants as calling
 use Rattle.lease_call.specs.declared.call_faults.NotReleased.{NotReleased}
@@ -16,10 +18,11 @@ abbrev pub tag_released : {X D : Type 0} → (X → Tag) → Result (ReceiptStat
 tag_released f (Ok r) = Ok (r.0, f r.1)
 tag_released f (Err e) = Err e
 
-abbrev pub tag_swept : {X : Type 0} → (X → Tag) → Result (Option (RequestId × X)) Stopped
+-- a lease that ended, if one did
+abbrev pub tag_swept : {X D : Type 0} → (X → Tag) → Result (SweepEnd X D) Stopped
     → Result (Option (RequestId × Tag)) Stopped
-tag_swept f (Ok None) = Ok None
-tag_swept f (Ok (Some r)) = Ok (Some (r.0, f r.1))
+tag_swept f (Ok (Welcome w)) = Ok None
+tag_swept f (Ok (Ended id x)) = Ok (Some (id, f x))
 tag_swept f (Err e) = Err e
 
 abbrev pub tag_not_settled : {X D : Type 0} → (X → Tag) → NotSettled X D → NotSettled Tag D

@@ -1,13 +1,16 @@
 -- The calls of the book, each with what it can be answered.
-use Rattle.std.specs.Prelude.{ℕ, Option, Result}
+use Rattle.std.specs.Prelude.{◌≡◌, ℕ, Option, Result}
 use Rattle.deed_core.specs.Tag.{Tag}
 use Rattle.lease_terms.specs.Requests.{RequestId}
 use Rattle.lease_terms.specs.declared.protocols.Protocol.{Protocol}
 use Rattle.lease_terms.specs.declared.refusals.Refusal.{Refusal}
 use Rattle.arena_tree.specs.declared.part_faults.Stopped.{Stopped}
 use Rattle.lease_book.specs.Receipts.{ReceiptState}
+use Rattle.lease_book.specs.Words.{Greeted}
 use Rattle.lease_book.specs.declared.answers.Answer.{Answer}
 use Rattle.lease_book.specs.declared.receipts.Terms.{Terms}
+use Rattle.lease_book.specs.declared.words.SweepEnd.{SweepEnd}
+use Rattle.lease_book.specs.declared.words.SweepEnd.TheVariants.{Ended, Welcome}
 use Rattle.lease_call.specs.declared.call_faults.NotGreeted.{NotGreeted}
 use Rattle.lease_call.specs.declared.call_faults.NotReleased.{NotReleased}
 use Rattle.lease_call.specs.declared.call_faults.NotSettled.{NotSettled}
@@ -27,5 +30,10 @@ AnswerOf D (Look id) = Result (Option (Answer D)) Stopped
 AnswerOf D (Settle id given terms) = Result ReceiptState (NotSettled Tag D)
 AnswerOf D (Refuse id why) = Result (Answer D) Stopped
 AnswerOf D (Release id arena base) = Result (ReceiptState × Tag) (NotReleased D)
-AnswerOf D (Hello client incarnation protocol) = Result Protocol NotGreeted
+AnswerOf D (Hello client incarnation protocol) = Result Greeted (NotGreeted D)
 AnswerOf D (Sweep client) = Result (Option (RequestId × Tag)) Stopped
+
+-- a sweep after the hello that ends no lease makes that hello welcome
+abbrev pub IsWelcomeOf : {X D : Type 0} → Greeted → SweepEnd X D → Type 0
+IsWelcomeOf taken (Ended id x) = Unit {0}
+IsWelcomeOf taken (Welcome w) = w ≡ taken

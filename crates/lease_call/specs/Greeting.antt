@@ -2,10 +2,10 @@
 use Rattle.std.specs.Prelude.{ℕ, zero, suc, List, Option, Some, None, Result, Ok, Err}
 use Rattle.deed_core.specs.Tag.{Tag}
 use Rattle.lease_terms.specs.Requests.{RequestId}
-use Rattle.lease_terms.specs.declared.protocols.Protocol.{Protocol}
 use Rattle.arena_tree.specs.declared.part_faults.Stopped.{Stopped}
 use Rattle.arena_tree.specs.declared.trees.TreeArena.{TreeArena}
 use Rattle.lease_proto.specs.declared.lines.HelloLine.{HelloLine}
+use Rattle.lease_book.specs.Words.{Greeted}
 use Rattle.lease_call.specs.Calls.{Hello, Sweep}
 use Rattle.lease_call.specs.CallPlans.{CallPlan, Done, Call}
 use Rattle.lease_call.specs.Hands.{hand_first, place_first}
@@ -17,36 +17,36 @@ use Rattle.lease_call.specs.declared.outcomes.Greeting.{Greeting}
 use Rattle.lease_call.specs.declared.outcomes.Greeting.TheVariants.{Welcome, Late, Unswept}
 
 -- what a hello ends with
-abbrev pub HelloEnd : Type 0
-HelloEnd = Result Greeting (CallFault Tag)
+abbrev pub HelloEnd : Type 0 → Type 0
+HelloEnd D = Result (Greeting D) (CallFault Tag)
 
--- a lease ended, and what it was of goes back, and so on; where none is left, it is a welcome by
--- the protocol that stands
-abbrev pub on_sweep : {D : Type 0} → List TreeArena → Protocol → CallPlan D HelloEnd
-    → Result (Option (RequestId × Tag)) Stopped → CallPlan D HelloEnd
-on_sweep arenas stands rest (Ok None) = Done (Ok (Welcome stands))
-on_sweep arenas stands rest (Ok (Some r)) = place_first arenas r.1 rest
-on_sweep arenas stands rest (Err e) = Done (Err (calling.Stopped None))
+-- a lease ended, and what it was of goes back, and so on; where none is left, the hello that was
+-- taken is welcome
+abbrev pub on_sweep : {D : Type 0} → List TreeArena → Greeted → CallPlan D (HelloEnd D)
+    → Result (Option (RequestId × Tag)) Stopped → CallPlan D (HelloEnd D)
+on_sweep arenas taken rest (Ok None) = Done (Ok (Welcome taken))
+on_sweep arenas taken rest (Ok (Some r)) = place_first arenas r.1 rest
+on_sweep arenas taken rest (Err e) = Done (Err (calling.Stopped None))
 
 -- one sweep after another, until one finds no lease, or so many were made
-abbrev pub sweep_plan : {D : Type 0} → List TreeArena → Protocol → (client turns : ℕ)
-    → CallPlan D HelloEnd
-sweep_plan arenas stands client zero = Done (Ok Unswept)
-sweep_plan arenas stands client (suc turns) =
-    Call (Sweep client) (on_sweep arenas stands (sweep_plan arenas stands client turns))
+abbrev pub sweep_plan : {D : Type 0} → List TreeArena → Greeted → (turns : ℕ)
+    → CallPlan D (HelloEnd D)
+sweep_plan arenas taken zero = Done (Ok Unswept)
+sweep_plan arenas taken (suc turns) =
+    Call (Sweep taken.client) (on_sweep arenas taken (sweep_plan arenas taken turns))
 
 -- the book takes the hello, and then its client's leases of older incarnations end
-abbrev pub on_hello : {D : Type 0} → List TreeArena → (client turns : ℕ)
-    → Result Protocol NotGreeted → CallPlan D HelloEnd
-on_hello arenas client turns (Ok stands) = sweep_plan arenas stands client turns
-on_hello arenas client turns (Err (greeting.Late f)) = Done (Ok (Late f))
-on_hello arenas client turns (Err greeting.Stopped) = Done (Err (calling.Stopped None))
+abbrev pub on_hello : {D : Type 0} → List TreeArena → (turns : ℕ)
+    → Result Greeted (NotGreeted D) → CallPlan D (HelloEnd D)
+on_hello arenas turns (Ok taken) = sweep_plan arenas taken turns
+on_hello arenas turns (Err (greeting.Late f)) = Done (Ok (Late f))
+on_hello arenas turns (Err greeting.Stopped) = Done (Err (calling.Stopped None))
 
-abbrev pub greet_plan : {D : Type 0} → List TreeArena → HelloLine → ℕ → CallPlan D HelloEnd
+abbrev pub greet_plan : {D : Type 0} → List TreeArena → HelloLine → ℕ → CallPlan D (HelloEnd D)
 greet_plan arenas h turns =
-    Call (Hello h.client h.incarnation h.protocol) (on_hello arenas h.client turns)
+    Call (Hello h.client h.incarnation h.protocol) (on_hello arenas turns)
 
 -- after the hand
 abbrev pub hello_plan : {D : Type 0} → List TreeArena → Option Tag → HelloLine → ℕ
-    → CallPlan D HelloEnd
+    → CallPlan D (HelloEnd D)
 hello_plan arenas hand h turns = hand_first arenas hand (greet_plan arenas h turns)

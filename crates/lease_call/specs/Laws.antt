@@ -62,7 +62,7 @@ ReleaseIsShort D = (arenas : List TreeArena) (id : RequestId) (l : ReleaseLine)
 -- A hello takes at most four for each sweep.
 abbrev pub HelloIsShort : Type 0 → Type 0
 HelloIsShort D = (arenas : List TreeArena) (h : HelloLine) (turns : ℕ)
-    → CallWithin {D = D} (λ (r : HelloEnd). turns * LONGEST_CHAIN) (greet_plan arenas h turns) 0
+    → CallWithin {D = D} (λ (r : HelloEnd D). turns * LONGEST_CHAIN) (greet_plan arenas h turns) 0
 
 -- A line begins with what a line before it left in the hand; each step is asked with an empty hand,
 -- or with the segment in it, and in the end the hand is as the line's end says.

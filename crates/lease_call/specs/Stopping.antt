@@ -23,7 +23,7 @@ abbrev pub release_stops : {D : Type 0} → NotReleased D → Bool
 release_stops (releasing.Answered a) = false
 release_stops releasing.Stopped = true
 
-abbrev pub hello_stops : NotGreeted → Bool
+abbrev pub hello_stops : {D : Type 0} → NotGreeted D → Bool
 hello_stops (greeting.Late f) = false
 hello_stops greeting.Stopped = true
 

@@ -1,16 +1,16 @@
 //! The book of leases, as one CPU reaches it.
-ghost use Rattle.std.specs.Prelude.{◌≡◌};
+ghost use Rattle.std.specs.Prelude.{◌≡◌, IfOk};
 ghost use Rattle.deed_core.specs.Request.{Fits};
 ghost use Rattle.lease_call.specs.Calls.{BookCall, AnswerOf, Look, Settle, Refuse, Release};
 ghost use Rattle.lease_book.specs.Calls.{IsSystemRefusal};
-ghost use Rattle.lease_call.specs.Calls.{Hello, Sweep};
+ghost use Rattle.lease_call.specs.Calls.{Hello, Sweep, IsWelcomeOf};
 ghost use Rattle.lease_call.specs.CallPlans.{BookStep};
 ghost use Rattle.lease_call.specs.CallTags.{tag_released, tag_settled, tag_swept};
 
 use crate::call_faults::{NotGreeted, NotReleased, NotSettled};
 use arena_tree::{Parts, Stopped};
 use deed_core::{Held, Request};
-use lease_book::{Answer, Receipt};
+use lease_book::{Answer, Receipt, SweepEnd, Taken};
 use lease_terms::{ClientId, Ordinal, Protocol, Quantity, Refusal, RequestId};
 
 /// The book of leases as one CPU reaches it, beside its parts. Each call is one event of the book;
@@ -59,20 +59,22 @@ pub trait Books<S: Held, D, P: Parts<S>> {
         ensures { BookStep step P.tree P.count P.rounds self.old parts.old
             (Release id arena base) (tag_released S.tag result) self.new parts.new };
 
-    /// Takes a hello that asks for a protocol, and gives the one that stands for its incarnation.
+    /// Takes a hello that asks for a protocol, and tells the one that stands for its incarnation.
     fn hello(
         &mut self,
         parts: &mut P,
         client: ClientId,
         incarnation: Ordinal,
         protocol: Protocol,
-    ) -> Result<Protocol, NotGreeted>
+    ) -> Result<Taken<D>, NotGreeted<D>>
         ensures { BookStep step P.tree P.count P.rounds self.old parts.old
             (Hello client incarnation protocol) result self.new parts.new };
 
-    /// Ends a lease of an older incarnation of the client, and gives its segment with the request
-    /// that was granted it. None: no such lease is left.
-    fn sweep(&mut self, parts: &mut P, client: ClientId) -> Result<Option<(RequestId, S)>, Stopped>
-        ensures { BookStep step P.tree P.count P.rounds self.old parts.old
-            (Sweep client) (tag_swept S.tag result) self.new parts.new };
+    /// Ends a lease of an older incarnation of the client whose hello was taken, and gives its
+    /// segment with the request that was granted it. Where no such lease is left, the client is
+    /// welcome.
+    fn sweep(&mut self, parts: &mut P, taken: &Taken<D>) -> Result<SweepEnd<S, D>, Stopped>
+        ensures step { BookStep step P.tree P.count P.rounds self.old parts.old
+            (Sweep taken.now.client) (tag_swept S.tag result) self.new parts.new }
+        ensures welcome { IfOk result (IsWelcomeOf taken.now) };
 }

@@ -4,9 +4,9 @@ use arena_tree::ReturnFault;
 use lease_book::{Answer, HelloFault, NotLeased};
 
 /// Why a hello wasn't taken.
-pub enum NotGreeted {
+pub enum NotGreeted<D> {
     /// The book doesn't take it.
-    Late(HelloFault),
+    Late(HelloFault<D>),
     /// Nothing was done.
     Stopped,
 }

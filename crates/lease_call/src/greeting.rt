@@ -12,8 +12,8 @@ use crate::outcomes::Greeting;
 use crate::placing::place;
 use arena_tree::{Parts, Tree};
 use deed_core::Held;
+use lease_book::{SweepEnd, Taken};
 use lease_proto::HelloLine;
-use lease_terms::{ClientId, Protocol};
 
 /// Answers a hello: the segment in the hand goes back, the book takes the hello, and then leases
 /// of the client's older incarnations end, one at a time, until a sweep finds none. Of so many
@@ -26,7 +26,7 @@ pub fn hello<S: Held, D, P: Parts<S>, B: Books<S, D, P>>(
     hand: Option<S>,
     line: &HelloLine,
     turns: u64,
-) -> Result<Greeting, CallFault<S>>
+) -> Result<Greeting<D>, CallFault<S>>
     requires { P.tree parts.old ≡ nodes_of tree.now }
     ensures ran { CallRan P.step P.tree P.count P.rounds B.step
         (hello_plan tree.now (tag_option S.tag hand) line.now turns)
@@ -50,7 +50,7 @@ fn greet<S: Held, D, P: Parts<S>, B: Books<S, D, P>>(
     tree: &Tree,
     line: &HelloLine,
     turns: u64,
-) -> Result<Greeting, CallFault<S>>
+) -> Result<Greeting<D>, CallFault<S>>
     requires { P.tree parts.old ≡ nodes_of tree.now }
     ensures ran { CallRan P.step P.tree P.count P.rounds B.step
         (greet_plan tree.now line.now turns)
@@ -58,34 +58,33 @@ fn greet<S: Held, D, P: Parts<S>, B: Books<S, D, P>>(
     ensures tree { P.tree parts.new ≡ P.tree parts.old }
 {
     match book.hello(parts, line.client, line.incarnation, line.protocol) {
-        Ok(stands) => sweep_all(parts, book, tree, stands, line.client, turns),
+        Ok(taken) => sweep_all(parts, book, tree, &taken, turns),
         Err(NotGreeted::Late(fault)) => Ok(Greeting::Late(fault)),
         Err(NotGreeted::Stopped) => Err(CallFault::Stopped(None)),
     }
 }
 
-/// Ends leases of older incarnations of the client, until a sweep finds none; then it is welcome by
-/// the protocol that stands.
+/// Ends leases of older incarnations of the client whose hello was taken, until a sweep finds none;
+/// then it is welcome.
 fn sweep_all<S: Held, D, P: Parts<S>, B: Books<S, D, P>>(
     parts: &mut P,
     book: &mut B,
     tree: &Tree,
-    stands: Protocol,
-    client: ClientId,
+    taken: &Taken<D>,
     turns: u64,
-) -> Result<Greeting, CallFault<S>>
+) -> Result<Greeting<D>, CallFault<S>>
     requires { P.tree parts.old ≡ nodes_of tree.now }
     ensures ran { CallRan P.step P.tree P.count P.rounds B.step
-        (sweep_plan tree.now stands client turns)
+        (sweep_plan tree.now taken.now turns)
         book.old parts.old book.new parts.new (tag_end S.tag result) }
     ensures tree { P.tree parts.new ≡ P.tree parts.old }
 {
     let mut left = turns;
     'sweeps: while left > 0 {
         left -= 1;
-        match book.sweep(parts, client) {
-            Ok(None) => return Ok(Greeting::Welcome(stands)),
-            Ok(Some((_, segment))) => place(parts, tree, segment)?,
+        match book.sweep(parts, taken) {
+            Ok(SweepEnd::Welcome(welcomed)) => return Ok(Greeting::Welcome(welcomed)),
+            Ok(SweepEnd::Ended(_, segment)) => place(parts, tree, segment)?,
             Err(_) => return Err(CallFault::Stopped(None)),
         }
     }

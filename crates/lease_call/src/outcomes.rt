@@ -1,6 +1,5 @@
 //! What a line comes to.
-use lease_book::{Answer, HelloFault, Receipt};
-use lease_terms::Protocol;
+use lease_book::{Answer, HelloFault, Receipt, Welcomed};
 
 /// What a request comes to.
 #[derive(Drop)]
@@ -15,11 +14,11 @@ pub enum Outcome<D> {
 
 /// What a hello comes to.
 #[derive(Drop)]
-pub enum Greeting {
-    /// It was taken, by this protocol, and no lease of an older incarnation of its client is left.
-    Welcome(Protocol),
+pub enum Greeting<D> {
+    /// It was taken, and no lease of an older incarnation of its client is left.
+    Welcome(Welcomed<D>),
     /// It wasn't taken.
-    Late(HelloFault),
+    Late(HelloFault<D>),
     /// It was taken, and leases of older incarnations may be left.
     Unswept,
 }

@@ -61,7 +61,7 @@ IsKnownReply names book id (replies.Gap o) =
 IsKnownReply names book id reply = IsKeptReply names book id reply
 
 -- the reply to a hello that the book doesn't take
-abbrev pub hello_refusal : HelloLine → HelloFault → Reply
+abbrev pub hello_refusal : {D : Type 0} → HelloLine → HelloFault D → Reply
 hello_refusal h (fault.Old current) =
     replies.Old (record { client = h.client; current = current })
 hello_refusal h fault.NoMemory = hello_again_of h

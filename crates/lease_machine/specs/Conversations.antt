@@ -88,11 +88,11 @@ pub record Greets (h : HelloLine) (old new : Picture) (r : Reply) : Type 0 where
   pub setup : SameSetup old new
 
 -- no lease of an older incarnation is left, where it is taken
-abbrev pub AnswersHello : HelloLine → Picture → Picture → HelloEnd → Type 0
-AnswersHello h old new (Ok (Welcome stands)) = Greets h old new (reply.Welcome (record {
+abbrev pub AnswersHello : {D : Type 0} → HelloLine → Picture → Picture → HelloEnd D → Type 0
+AnswersHello h old new (Ok (Welcome w)) = Greets h old new (reply.Welcome (record {
   client = h.client;
   incarnation = h.incarnation;
-  protocol = stands;
+  protocol = w.protocol;
 }))
 AnswersHello h old new (Ok (Late f)) = Greets h old new (hello_refusal h f)
 AnswersHello h old new (Ok Unswept) = ⊥
@@ -101,6 +101,6 @@ AnswersHello h old new (Err e) = ⊥
 -- A hello's list of steps with turns for all leases that a client may have is a step too.
 abbrev pub HelloRuns : Type 0 → Type 0
 HelloRuns D = (d : Picture) (h : HelloLine) (turns : ℕ) (b : BookState) (s : LocalState)
-    (a : HelloEnd) → IsPicture d → MOST_LEASES < turns
+    (a : HelloEnd D) → IsPicture d → MOST_LEASES < turns
     → RunsCall {D = D} d.tree (greet_plan d.tree h turns) d.book (parts_in d) b s a
     → AnswersHello h d (with_parts s (record d { book = b })) a

@@ -21,6 +21,7 @@ use Rattle.lease_book.specs.Answers.{IsNew}
 use Rattle.lease_book.specs.BookState.{account_in}
 use Rattle.lease_book.specs.Calls.{IsRefused}
 use Rattle.lease_book.specs.Receipts.{ReceiptState}
+use Rattle.lease_book.specs.Words.{Greeted}
 use Rattle.lease_book.specs.declared.answers.Answer.{Answer}
 use Rattle.lease_book.specs.declared.books.TheConstants.{MOST_LEASES}
 use Rattle.lease_book.specs.declared.receipts.KeptReply.{KeptReply}
@@ -87,17 +88,17 @@ module _ (D : Type 0) (arenas : List TreeArena) where
   hand_first_ends P (Some t) rest w = place_first_ends P t rest w
 
   module _ (h : HelloLine) where
-    sweep_ends : (stands : Protocol) (client turns : ℕ) → EndsWell SoundIn Locked (λ r. IfOk r (IsGreetedSo h)) (sweep_plan arenas stands client turns)
-    sweep_ends stands client zero = tt
-    sweep_ends stands client (suc turns) = by (sweep_ends stands client turns)
+    sweep_ends : (taken : Greeted) (turns : ℕ) → (taken.client ≡ h.client) × (taken.incarnation ≡ h.incarnation) → EndsWell SoundIn Locked (λ r. IfOk r (IsGreetedSo h)) (sweep_plan arenas taken turns)
+    sweep_ends taken zero of = tt
+    sweep_ends taken (suc turns) of = by (sweep_ends taken turns of)
       where
-        by : EndsWell SoundIn Locked (λ r. IfOk r (IsGreetedSo h)) (sweep_plan arenas stands client turns) → (x : Result (Option (RequestId × Tag)) Stopped) → Locked (Sweep client) x → EndsWell SoundIn Locked (λ r. IfOk r (IsGreetedSo h)) (on_sweep arenas stands (sweep_plan arenas stands client turns) x)
-        by w (Ok None) k = tt
-        by w (Ok (Some r)) k = place_first_ends (IsGreetedSo h) r.1 (sweep_plan arenas stands client turns) w
+        by : EndsWell SoundIn Locked (λ r. IfOk r (IsGreetedSo h)) (sweep_plan arenas taken turns) → (x : Result (Option (RequestId × Tag)) Stopped) → Locked (Sweep taken.client) x → EndsWell SoundIn Locked (λ r. IfOk r (IsGreetedSo h)) (on_sweep arenas taken (sweep_plan arenas taken turns) x)
+        by w (Ok None) k = of
+        by w (Ok (Some r)) k = place_first_ends (IsGreetedSo h) r.1 (sweep_plan arenas taken turns) w
         by w (Err e) k = tt
 
-    greet_ends : (turns : ℕ) (x : Result Protocol NotGreeted) → Locked (Hello h.client h.incarnation h.protocol) x → EndsWell SoundIn Locked (λ r. IfOk r (IsGreetedSo h)) (on_hello arenas h.client turns x)
-    greet_ends turns (Ok stands) k = sweep_ends stands h.client turns
+    greet_ends : (turns : ℕ) (x : Result Greeted (NotGreeted D)) → Locked (Hello h.client h.incarnation h.protocol) x → EndsWell SoundIn Locked (λ r. IfOk r (IsGreetedSo h)) (on_hello arenas turns x)
+    greet_ends turns (Ok w) k = sweep_ends w turns (ap (λ (g : Greeted). g.client) k.event.told, ap (λ (g : Greeted). g.incarnation) k.event.told)
     greet_ends turns (Err (greeting.Late f)) k = late (account_in h.client k.old).incarnation h.incarnation h.protocol f k.event.0
     greet_ends turns (Err greeting.Stopped) k = tt
 
@@ -105,7 +106,7 @@ module _ (D : Type 0) (arenas : List TreeArena) where
     hello_ends hand turns = hand_first_ends (IsGreetedSo h) hand (greet_plan arenas h turns) (greet_ends turns)
 
     -- a hello comes to what its book says
-    pub hello_well : (hand : Option Tag) (turns : ℕ) (r : HelloEnd) → WentThrough {D = D} arenas (hello_plan arenas hand h turns) r → IfOk r (IsGreetedSo h)
+    pub hello_well : (hand : Option Tag) (turns : ℕ) (r : HelloEnd D) → WentThrough {D = D} arenas (hello_plan arenas hand h turns) r → IfOk r (IsGreetedSo h)
     hello_well hand turns r went = gone_ends SoundIn Locked (λ x. IfOk x (IsGreetedSo h)) (hello_plan arenas hand h turns) r went (hello_ends hand turns)
 
   module _ (id : RequestId) where

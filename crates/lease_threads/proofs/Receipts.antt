@@ -61,7 +61,7 @@ module _ (book : BookState) (id : RequestId) (mark : book.mark.root ≡ MOST_ROO
   answered now why again is answer.Again of = tt
 
 -- a hello that isn't taken is of an earlier incarnation than the current one, memory aside
-pub late : (current incarnation : ℕ) (asked : Protocol) (f : HelloFault) → IsHelloFault current incarnation asked f → IsLateHello incarnation f
+pub late : {D : Type 0} (current incarnation : ℕ) (asked : Protocol) (f : HelloFault D) → IsHelloFault current incarnation asked f → IsLateHello incarnation f
 late current incarnation asked (fault.Old v) is = subst (λ n. incarnation < n) (sym is.1) is.0
 late current incarnation asked fault.NoMemory is = tt
 

@@ -149,32 +149,32 @@ StopsOrEnds ended (Ok e) hand = (e ≡ ended) × (call_stopped ended ≡ false) 
 StopsOrEnds ended (Err stopped) hand = ended ≡ Err (calling.Stopped hand)
 
 -- what a hello comes to is the book's
-abbrev pub IsGreetedSo : HelloLine → Greeting → Type 0
-IsGreetedSo h (Welcome stands) = Unit {0}
+abbrev pub IsGreetedSo : {D : Type 0} → HelloLine → Greeting D → Type 0
+IsGreetedSo h (Welcome w) = (w.client ≡ h.client) × (w.incarnation ≡ h.incarnation)
 IsGreetedSo h (Late f) = IsLateHello h.incarnation f
 IsGreetedSo h Unswept = Unit {0}
 
 -- and is told so, a welcome by the protocol that stands in the book; where leases of older
 -- incarnations may be left, the hello may be sent once more
-abbrev pub greeting_of : HelloLine → Greeting → Reply
-greeting_of h (Welcome stands) = reply.Welcome
-    (record { client = h.client; incarnation = h.incarnation; protocol = stands })
+abbrev pub greeting_of : {D : Type 0} → HelloLine → Greeting D → Reply
+greeting_of h (Welcome w) = reply.Welcome
+    (record { client = h.client; incarnation = h.incarnation; protocol = w.protocol })
 greeting_of h (Late f) = hello_refusal h f
 greeting_of h Unswept = hello_again_of h
 
-abbrev pub greeting_end : HelloLine → HelloEnd → Reply
+abbrev pub greeting_end : {D : Type 0} → HelloLine → HelloEnd D → Reply
 greeting_end h (Ok g) = greeting_of h g
 greeting_end h (Err e) = hello_again_of h
 
 -- a hello's list of steps, with a sweep for each lease that a client may have and one more
 abbrev pub greeting_plan : (D : Type 0) → List TreeArena → Option Tag → HelloLine
-    → CallPlan D HelloEnd
+    → CallPlan D (HelloEnd D)
 greeting_plan D arenas hand h = hello_plan arenas hand h (MOST_LEASES + 1)
 
 -- it was gone through, the hand has what it left, and the hello is answered by what it ended with
 pub record GreetsBy (D : Type 0) (arenas : List TreeArena) (h : HelloLine)
-    (plan : CallPlan D HelloEnd) (hand : Option Tag) (r : Reply) : Type 0 where
-  pub ended : HelloEnd
+    (plan : CallPlan D (HelloEnd D)) (hand : Option Tag) (r : Reply) : Type 0 where
+  pub ended : HelloEnd D
   pub went : WentThrough arenas plan ended
   pub left : hand ≡ call_left ended
   pub told : r ≡ greeting_end h ended

@@ -2,6 +2,7 @@ pub mod Systems
 pub mod Openings
 pub mod Ends
 pub mod Replying
+pub mod Words
 pub mod Reaping
 pub mod Retiring
 pub mod Sums

@@ -39,7 +39,7 @@ IsBookAnswerTo id (answer.Gap low) = low + 1 < id.number
 IsBookAnswerTo id answer.Again = Unit {0}
 
 -- why a hello of this incarnation isn't taken
-abbrev pub IsLateHello : ℕ → HelloFault → Type 0
+abbrev pub IsLateHello : {D : Type 0} → ℕ → HelloFault D → Type 0
 IsLateHello incarnation (fault.Old current) = incarnation < current
 IsLateHello incarnation fault.NoMemory = Unit {0}
 

@@ -54,7 +54,7 @@ pub use cpus::Cpu;
 pub use laws::line_laws;
 pub use locked_parts::{EventName, Gate, NextStep, OpenGate, Pass, RequestStopped};
 pub use quantum_cache::Reaping;
-pub use replies::{LineAnswer, Told};
+pub use replies::{BookWord, LineAnswer, Told};
 pub use shutting::{Halted, StoppedAt};
 pub use sums::{BookSums, SystemSums};
 pub use systems::System;

@@ -12,14 +12,15 @@ ghost use Rattle.lease_book.specs.Reports.{lease_reports, report_of};
 ghost use Rattle.lease_book.specs.declared.books.TheConstants.{MOST_LEASES};
 ghost use Rattle.lease_book.specs.Calls.{IsEnded};
 ghost use Rattle.lease_call.specs.BookEvents.{BookEvent};
-ghost use Rattle.lease_call.specs.Calls.{Look, Settle, Refuse, Release, Hello, Sweep};
+ghost use Rattle.lease_call.specs.CallTags.{tag_swept};
+ghost use Rattle.lease_call.specs.Calls.{Look, Settle, Refuse, Release, Hello, Sweep, IsWelcomeOf};
 ghost use Rattle.lease_book.specs.Calls.{IsSystemRefusal};
 ghost use Rattle.lease_terms.specs.Requests.{RequestId};
 ghost use Rattle.arena_tree.specs.declared.limits.TheConstants.{MOST_ROOTS};
 
 use deed_core::{Request, Segment};
 use deed_table::{Name, Root, SeatDeed, close};
-use lease_book::{Answer, Book, ClientReport, LeaseReport, Receipt};
+use lease_book::{Answer, Book, ClientReport, LeaseReport, Receipt, SweepEnd, Taken};
 use lease_call::{NotGreeted, NotReleased, NotSettled};
 use lease_terms::{ClientId, Ordinal, Protocol, Quantity, Refusal, RequestId};
 use std::marker::Model;
@@ -77,27 +78,36 @@ impl<N: Name> MarkedBook<N> {
         let _ = self.mark.number();
     }
 
-    /// Takes a hello that asks for a protocol, and gives the one that stands for its incarnation.
+    /// Takes a hello that asks for a protocol, and tells the one that stands for its incarnation.
     pub(crate) fn hello(
         &mut self,
         client: ClientId,
         incarnation: Ordinal,
         protocol: Protocol,
-    ) -> Result<Protocol, NotGreeted>
+    ) -> Result<Taken<SeatDeed<N>>, NotGreeted<SeatDeed<N>>>
         ensures { BookEvent (SeatDeed N) self.old (Hello client incarnation protocol) result
             self.new }
     {
         match self.book.hello(client, incarnation, protocol) {
-            Ok(stands) => Ok(stands),
+            Ok(taken) => Ok(taken),
             Err(fault) => Err(NotGreeted::Late(fault)),
         }
     }
 
-    /// Ends a lease of an older incarnation of the client.
-    pub(crate) fn sweep(&mut self, client: ClientId) -> Option<(RequestId, Segment<SeatDeed<N>>)>
-        ensures { BookEvent (SeatDeed N) self.old (Sweep client) (Ok result) self.new }
+    /// Ends a lease of an older incarnation of the client whose hello was taken; where none is left,
+    /// it is welcome.
+    pub(crate) fn sweep(
+        &mut self,
+        taken: &Taken<SeatDeed<N>>,
+    ) -> SweepEnd<Segment<SeatDeed<N>>, SeatDeed<N>>
+        ensures event { BookEvent (SeatDeed N) self.old (Sweep taken.now.client)
+            (tag_swept (λ t. t) (Ok result)) self.new }
+        ensures welcome { IsWelcomeOf taken.now result }
     {
-        self.book.sweep(client)
+        match self.book.welcome(taken) {
+            SweepEnd::Ended(id, segment) => SweepEnd::Ended(id, segment),
+            SweepEnd::Welcome(welcomed) => SweepEnd::Welcome(welcomed),
+        }
     }
 
     /// Ends a lease, whichever.

@@ -3,6 +3,7 @@ ghost use Rattle.std.specs.Prelude.{◌≡◌, ◌↔◌, None, Some, IfNone, If
 ghost use Rattle.lease_book.specs.Receipts.{IsEarned};
 ghost use Rattle.lease_threads.specs.Replying.{TellsSettled, IsUnsettledTo, IsReplyTo, IsToldAs};
 ghost use Rattle.lease_threads.specs.Replying.{TellsAnswer, IsForeign};
+ghost use Rattle.lease_threads.specs.Words.{IsBacked};
 ghost use Rattle.lease_proto.specs.Requests.{again_of};
 ghost use Rattle.lease_history.specs.Told.{hello_refusal};
 ghost use Rattle.lease_threads.specs.Replying.{IsByQuantum, IsLateHello};
@@ -13,53 +14,81 @@ ghost use Rattle.lease_threads.specs.Calling.{IsGreetedSo, greeting_of};
 
 use arena_tree::Tree;
 use deed_table::{Name, SeatDeed};
-use lease_book::{Answer, HelloFault, KeptReply, Receipt, Terms};
+use lease_book::{
+    Answer, BookNumber, Current, Greatest, HelloFault, KeptReply, Low, Receipt, Terms, Welcomed,
+};
 use lease_call::{Greeting, Outcome};
 use lease_proto::{Granted, HelloLine, Old, OutOfTurn, RefusedRequest, Reply, Welcome};
 use lease_terms::RequestId;
 
-/// What a line is answered, with the book's receipt where it is settled.
+/// What the book says of a line that it doesn't settle.
+#[derive_where(Clone, Copy, PartialEq, Eq, Debug)]
+pub enum BookWord<D> {
+    /// The hello is taken, and no lease of an older incarnation is left.
+    Welcome(Welcomed<D>),
+    /// The incarnation isn't this, the current one.
+    Old(BookNumber<Current, D>),
+    /// The number is below this, the greatest settled one, by the window or more.
+    Stale(BookNumber<Greatest, D>),
+    /// The number is above this, up to which all are settled, by more than the window.
+    Gap(BookNumber<Low, D>),
+}
+
+/// What a line is answered, with the book's receipt where it is settled, and else with the book's
+/// word; only that a line may be sent again needs neither.
 #[derive(Clone, Copy, PartialEq, Eq, Debug)]
-pub struct LineAnswer<V> {
+pub struct LineAnswer<V, W> {
     pub reply: Reply,
     pub receipt: Option<V>,
+    pub word: Option<W>,
     /// Whether the line was settled just now, by this receipt. A request that comes again gets what it
     /// was settled by before, which is of the line that came first.
     pub is_new: bool,
 }
 
-/// What a line is answered, with a receipt of a running system's book.
-pub type Told<N> = LineAnswer<Receipt<SeatDeed<N>>>;
+/// What a line is answered, with a receipt or a word of a running system's book.
+pub type Told<N> = LineAnswer<Receipt<SeatDeed<N>>, BookWord<SeatDeed<N>>>;
+
+/// What a hello is answered, with the book's word.
+pub(crate) type HelloTold<N> = (Reply, Option<BookWord<SeatDeed<N>>>);
 
 /// The reply to what a hello comes to.
-pub(crate) fn greeted(hello: &HelloLine, greeting: Greeting) -> Reply
+pub(crate) fn greeted<N: Name>(hello: &HelloLine, greeting: Greeting<SeatDeed<N>>) -> HelloTold<N>
     requires { IsGreetedSo hello.now greeting }
-    ensures greeting { IsGreeting hello.now result }
-    ensures exactly { result ≡ greeting_of hello.now greeting }
+    ensures greeting { IsGreeting hello.now result.0 }
+    ensures exactly { result.0 ≡ greeting_of hello.now greeting }
+    ensures backed { IsBacked result.0 None result.1 }
 {
     match greeting {
-        Greeting::Welcome(protocol) => Reply::Welcome(Welcome {
-            client: hello.client,
-            incarnation: hello.incarnation,
-            protocol,
-        }),
+        Greeting::Welcome(welcomed) => {
+            let reply = Reply::Welcome(Welcome {
+                client: hello.client,
+                incarnation: hello.incarnation,
+                protocol: welcomed.protocol(),
+            });
+            (reply, Some(BookWord::Welcome(welcomed)))
+        }
         Greeting::Late(fault) => not_welcome(hello, fault),
-        Greeting::Unswept => Reply::hello_again(hello),
+        Greeting::Unswept => (Reply::hello_again(hello), None),
     }
 }
 
 /// The reply to a hello that the book didn't take.
-fn not_welcome(hello: &HelloLine, fault: HelloFault) -> Reply
+fn not_welcome<N: Name>(hello: &HelloLine, fault: HelloFault<SeatDeed<N>>) -> HelloTold<N>
     requires { IsLateHello hello.now.incarnation fault }
-    ensures greeting { IsGreeting hello.now result }
-    ensures exactly { result ≡ hello_refusal hello.now fault }
+    ensures greeting { IsGreeting hello.now result.0 }
+    ensures exactly { result.0 ≡ hello_refusal hello.now fault }
+    ensures backed { IsBacked result.0 None result.1 }
 {
     match fault {
-        HelloFault::Old(current) => Reply::Old(Old {
-            client: hello.client,
-            current,
-        }),
-        HelloFault::NoMemory => Reply::hello_again(hello),
+        HelloFault::Old(current) => {
+            let reply = Reply::Old(Old {
+                client: hello.client,
+                current: current.number(),
+            });
+            (reply, Some(BookWord::Old(current)))
+        }
+        HelloFault::NoMemory => (Reply::hello_again(hello), None),
     }
 }
 
@@ -99,14 +128,16 @@ fn terms_quantum(terms: Option<Terms>) -> u64
 }
 
 /// With a reply without a receipt nothing was settled.
-pub(crate) fn unsettled<N: Name>(reply: Reply) -> Told<N>
+pub(crate) fn unsettled<N: Name>(reply: Reply, word: Option<BookWord<SeatDeed<N>>>) -> Told<N>
     ensures reply { result.reply ≡ reply }
     ensures receipt { result.receipt ≡ None }
+    ensures word { result.word ≡ word }
     ensures old { result.is_new ≡ false }
 {
     LineAnswer {
         reply,
         receipt: None,
+        word,
         is_new: false,
     }
 }
@@ -117,9 +148,10 @@ pub(crate) fn again<N: Name>(id: RequestId) -> Told<N>
     ensures receipt { result.receipt ≡ None }
     ensures again { IsAgain result.reply }
     ensures exactly { result.reply ≡ again_of id }
+    ensures backed { IsBacked result.reply result.receipt result.word }
     ensures old { result.is_new ≡ false }
 {
-    unsettled(Reply::again(id))
+    unsettled(Reply::again(id), None)
 }
 
 /// The reply of a receipt, by which the request was settled now, or before.
@@ -127,12 +159,14 @@ fn told<N: Name>(tree: &Tree, id: RequestId, receipt: Receipt<SeatDeed<N>>, is_n
     requires { IsReceiptOf id receipt }
     ensures told { IsReplyTo tree.now id result.reply result.receipt }
     ensures exactly { IsToldAs tree.now id receipt result.reply result.receipt }
+    ensures backed { IsBacked result.reply result.receipt result.word }
     ensures new { IsTrue result.is_new ↔ IsTrue is_new × (result.receipt ≡ Some receipt) }
 {
     match settled(tree, id, receipt.reply(), receipt.terms()) {
         Some(reply) => LineAnswer {
             reply,
             receipt: Some(receipt),
+            word: None,
             is_new,
         },
         None => again(id),
@@ -144,17 +178,29 @@ fn answered<N: Name>(tree: &Tree, id: RequestId, answer: Answer<SeatDeed<N>>) ->
     requires { IsBookAnswerTo id answer }
     ensures told { IsReplyTo tree.now id result.reply result.receipt }
     ensures exactly { TellsAnswer tree.now id answer result.reply result.receipt }
+    ensures backed { IsBacked result.reply result.receipt result.word }
     ensures new { IsTrue result.is_new ↔ TellsNew (new_receipt answer) result.receipt }
 {
     match answer {
         Answer::Kept(receipt) => told(tree, id, receipt, false),
         Answer::Refused(receipt) => told(tree, id, receipt, true),
-        Answer::Old(current) => unsettled(Reply::Old(Old {
-            client: id.client,
-            current,
-        })),
-        Answer::Stale(greatest) => unsettled(Reply::Stale(OutOfTurn { id, last: greatest })),
-        Answer::Gap(low) => unsettled(Reply::Gap(OutOfTurn { id, last: low })),
+        Answer::Old(current) => {
+            let reply = Reply::Old(Old {
+                client: id.client,
+                current: current.number(),
+            });
+            unsettled(reply, Some(BookWord::Old(current)))
+        }
+        Answer::Stale(greatest) => {
+            let last = greatest.number();
+            let reply = Reply::Stale(OutOfTurn { id, last });
+            unsettled(reply, Some(BookWord::Stale(greatest)))
+        }
+        Answer::Gap(low) => {
+            let last = low.number();
+            let reply = Reply::Gap(OutOfTurn { id, last });
+            unsettled(reply, Some(BookWord::Gap(low)))
+        }
         Answer::Again => again(id),
     }
 }
@@ -168,6 +214,7 @@ pub(crate) fn told_outcome<N: Name>(
     requires { IsOutcomeOf id outcome }
     ensures exactly { TellsOutcome tree.now id outcome result.reply result.receipt }
     ensures told { IsReplyTo tree.now id result.reply result.receipt }
+    ensures backed { IsBacked result.reply result.receipt result.word }
     ensures new { IsTrue result.is_new ↔ TellsNew (outcome_receipt outcome) result.receipt }
 {
     match outcome {

@@ -13,10 +13,11 @@ ghost use Rattle.lease_threads.specs.Calling.{greeting_end, end_receipt, greetin
 ghost use Rattle.lease_threads.specs.Calling.{StopsIn, StopsLine, StopsOrEnds};
 ghost use Rattle.lease_threads.specs.Replying.{IsAnswerTo, IsReplyTo, IsGreeting, IsAgain};
 ghost use Rattle.lease_threads.specs.Settling.{IsSettledAsAsked, Settles, TellsNew};
+ghost use Rattle.lease_threads.specs.Words.{IsBacked};
 ghost use Rattle.lease_book.specs.Receipts.{ReceiptState};
 
 use crate::cpus::Cpu;
-use crate::replies::{Told, again, greeted, told_outcome, unsettled};
+use crate::replies::{HelloTold, Told, again, greeted, told_outcome, unsettled};
 use crate::shared_books::SharedBook;
 use crate::systems::System;
 use arena_tree::Tree;
@@ -61,7 +62,8 @@ impl<N: Name> System<N> {
 
     /// The same, and tells whether the line was settled by that. Then it is as the line asks: a
     /// grant is of the arena that it names, by that one's quantum, and for what it asks, and what is
-    /// released is the lease of the arena and the base that it names.
+    /// released is the lease of the arena and the base that it names. What isn't settled is answered
+    /// by the book's word, or `again`.
     pub fn answer<R: Wait, G: Gate>(
         &self,
         rt: &R,
@@ -74,6 +76,7 @@ impl<N: Name> System<N> {
             r.reply r.receipt r.is_new) }
         ensures answers { IfOk result (λ r.
             IsAnswerTo self.now.arenas line.now r.reply r.receipt) }
+        ensures backed { IfOk result (λ r. IsBacked r.reply r.receipt r.word) }
         ensures new { IfOk result (λ r. r.is_new ≡ true
             → IsSettledAsAsked self.now.arenas line.now r.receipt) }
         ensures number { cpu.new.number ≡ cpu.old.number }
@@ -84,7 +87,10 @@ impl<N: Name> System<N> {
             (StopsLine (SeatDeed N) self.now.arenas cpu.old.hand line.now cpu.new.hand) }
     {
         match line {
-            Line::Hello(hello) => Ok(unsettled(self.greet(rt, cpu, gate, hello)?)),
+            Line::Hello(hello) => {
+                let (reply, word) = self.greet(rt, cpu, gate, hello)?;
+                Ok(unsettled(reply, word))
+            }
             Line::Request(id, op) => self.serve(rt, cpu, gate, *id, op),
         }
     }
@@ -96,13 +102,14 @@ impl<N: Name> System<N> {
         cpu: &mut Cpu<N>,
         gate: &G,
         hello: &HelloLine,
-    ) -> Result<Reply, RequestStopped>
-        ensures runs { IfOk result (GreetsBy (SeatDeed N) self.now.arenas hello.now
-            (greeting_plan (SeatDeed N) self.now.arenas cpu.old.hand hello.now) cpu.new.hand) }
-        ensures greeting { IfOk result (IsGreeting hello.now) }
+    ) -> Result<HelloTold<N>, RequestStopped>
+        ensures runs { IfOk result (λ r. GreetsBy (SeatDeed N) self.now.arenas hello.now
+            (greeting_plan (SeatDeed N) self.now.arenas cpu.old.hand hello.now) cpu.new.hand r.0) }
+        ensures greeting { IfOk result (λ r. IsGreeting hello.now r.0) }
+        ensures backed { IfOk result (λ r. IsBacked r.0 None r.1) }
         ensures number { cpu.new.number ≡ cpu.old.number }
         ensures magazines { AreForSame cpu.old.caches cpu.new.caches }
-        ensures held { IfOk result (λ r. IfSome cpu.new.hand (λ _. IsAgain r)) }
+        ensures held { IfOk result (λ r. IfSome cpu.new.hand (λ _. IsAgain r.0)) }
         ensures stopped { OnErr result (MayStop G.may_stop gate.now) }
         ensures left { OnErr result (StopsIn self.now.arenas
             (greeting_plan (SeatDeed N) self.now.arenas cpu.old.hand hello.now) cpu.new.hand) }
@@ -124,6 +131,7 @@ impl<N: Name> System<N> {
             (request_plan self.now.arenas cpu.old.hand id op.now) cpu.new.hand
             r.reply r.receipt r.is_new) }
         ensures told { IfOk result (λ r. IsReplyTo self.now.arenas id r.reply r.receipt) }
+        ensures backed { IfOk result (λ r. IsBacked r.reply r.receipt r.word) }
         ensures new { IfOk result (λ r. r.is_new ≡ true → (v : ReceiptState)
             × (r.receipt ≡ Some v) × Settles self.now.arenas op.now v) }
         ensures number { cpu.new.number ≡ cpu.old.number }
@@ -173,7 +181,7 @@ impl<N: Name> System<N> {
         cpu: &mut Cpu<N>,
         gate: &G,
         hello: &HelloLine,
-    ) -> Result<Ended<N, Greeting>, RequestStopped>
+    ) -> Result<Ended<N, Greeting<SeatDeed<N>>>, RequestStopped>
         ensures went { IfOk result (WentThrough self.now.arenas
             (greeting_plan (SeatDeed N) self.now.arenas cpu.old.hand hello.now)) }
         ensures number { cpu.new.number ≡ cpu.old.number }
@@ -216,21 +224,26 @@ fn unless_stopped<N: Name, T>(
 }
 
 /// Tells what a hello's list of steps ended with. A segment that it left goes into the empty hand.
-fn tell_hello<N: Name>(cpu: &mut Cpu<N>, hello: &HelloLine, ended: Ended<N, Greeting>) -> Reply
+fn tell_hello<N: Name>(
+    cpu: &mut Cpu<N>,
+    hello: &HelloLine,
+    ended: Ended<N, Greeting<SeatDeed<N>>>,
+) -> HelloTold<N>
     requires hand { cpu.old.hand ≡ None }
     requires greeting { IfOk ended (IsGreetedSo hello.now) }
-    ensures exactly { result ≡ greeting_end hello.now ended }
+    ensures exactly { result.0 ≡ greeting_end hello.now ended }
     ensures left { cpu.new.hand ≡ call_left ended }
-    ensures greeting { IsGreeting hello.now result }
+    ensures greeting { IsGreeting hello.now result.0 }
+    ensures backed { IsBacked result.0 None result.1 }
     ensures number { cpu.new.number ≡ cpu.old.number }
     ensures magazines { AreForSame cpu.old.caches cpu.new.caches }
-    ensures held { IfSome cpu.new.hand (λ _. IsAgain result) }
+    ensures held { IfSome cpu.new.hand (λ _. IsAgain result.0) }
 {
     match ended {
         Ok(greeting) => greeted(hello, greeting),
         Err(fault) => {
             cpu.hold_left(fault.left());
-            Reply::hello_again(hello)
+            (Reply::hello_again(hello), None)
         }
     }
 }
@@ -248,6 +261,7 @@ fn tell<N: Name>(
     ensures exactly { TellsEnd tree.now id ended result.reply result.receipt }
     ensures left { cpu.new.hand ≡ call_left ended }
     ensures told { IsReplyTo tree.now id result.reply result.receipt }
+    ensures backed { IsBacked result.reply result.receipt result.word }
     ensures new { IsTrue result.is_new ↔ TellsNew (end_receipt ended) result.receipt }
     ensures number { cpu.new.number ≡ cpu.old.number }
     ensures magazines { AreForSame cpu.old.caches cpu.new.caches }

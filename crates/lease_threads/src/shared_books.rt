@@ -3,7 +3,8 @@
 ghost use Rattle.std.specs.Prelude.{◌≡◌, Ok};
 ghost use Rattle.deed_core.specs.Request.{Fits};
 ghost use Rattle.deed_table.specs.declared.deeds.SeatDeed.{SeatDeed};
-ghost use Rattle.lease_call.specs.Calls.{Look, Settle, Refuse, Release, Hello, Sweep};
+ghost use Rattle.lease_call.specs.CallTags.{tag_swept};
+ghost use Rattle.lease_call.specs.Calls.{Look, Settle, Refuse, Release, Hello, Sweep, IsWelcomeOf};
 ghost use Rattle.lease_book.specs.Calls.{IsSystemRefusal};
 ghost use Rattle.locked_parts.specs.Gates.{NotesStops};
 ghost use Rattle.lease_threads.specs.Calling.{IsAskedCall, IsLockedCall, IsLockedAnswer};
@@ -12,7 +13,7 @@ use crate::marked_books::MarkedBook;
 use arena_tree::Stopped;
 use deed_core::{Request, Segment};
 use deed_table::{Name, SeatDeed};
-use lease_book::{Answer, Receipt};
+use lease_book::{Answer, Receipt, SweepEnd, Taken};
 use lease_call::{Books, NotGreeted, NotReleased, NotSettled};
 use lease_terms::{ClientId, Ordinal, Protocol, Quantity, Refusal, RequestId};
 use locked_parts::{EventName, Gate, Running};
@@ -96,7 +97,7 @@ impl<N: Name, R: Wait, G: Gate> Books<Segment<SeatDeed<N>>, SeatDeed<N>, Running
         client: ClientId,
         incarnation: Ordinal,
         protocol: Protocol,
-    ) -> Result<Protocol, NotGreeted> {
+    ) -> Result<Taken<SeatDeed<N>>, NotGreeted<SeatDeed<N>>> {
         if parts.steps.stops(parts.gate, EventName::Look) {
             return Err(NotGreeted::Stopped);
         }
@@ -106,14 +107,14 @@ impl<N: Name, R: Wait, G: Gate> Books<Segment<SeatDeed<N>>, SeatDeed<N>, Running
     fn sweep(
         &mut self,
         parts: &mut Running<'_, N, R, G>,
-        client: ClientId,
-    ) -> Result<Option<(RequestId, Segment<SeatDeed<N>>)>, Stopped> {
+        taken: &Taken<SeatDeed<N>>,
+    ) -> Result<SweepEnd<Segment<SeatDeed<N>>, SeatDeed<N>>, Stopped> {
         if parts.steps.stops(parts.gate, EventName::Sweep) {
             return Err(Stopped);
         }
-        match sweep_in(self.book, parts.rt, client) {
-            None => Ok(None),
-            Some((id, segment)) => Ok(Some((id, segment))),
+        match sweep_in(self.book, parts.rt, taken) {
+            SweepEnd::Ended(id, segment) => Ok(SweepEnd::Ended(id, segment)),
+            SweepEnd::Welcome(welcomed) => Ok(SweepEnd::Welcome(welcomed)),
         }
     }
 }
@@ -187,7 +188,7 @@ fn hello_in<N: Name, R: Wait>(
     client: ClientId,
     incarnation: Ordinal,
     protocol: Protocol,
-) -> Result<Protocol, NotGreeted>
+) -> Result<Taken<SeatDeed<N>>, NotGreeted<SeatDeed<N>>>
     ensures { IsLockedCall (SeatDeed N) (Hello client incarnation protocol) result }
 {
     let mut book = book.lock(rt);
@@ -199,11 +200,13 @@ fn hello_in<N: Name, R: Wait>(
 fn sweep_in<N: Name, R: Wait>(
     book: &Mutex<MarkedBook<N>>,
     rt: &R,
-    client: ClientId,
-) -> Option<(RequestId, Segment<SeatDeed<N>>)>
-    ensures { IsLockedCall (SeatDeed N) (Sweep client) (Ok result) }
+    taken: &Taken<SeatDeed<N>>,
+) -> SweepEnd<Segment<SeatDeed<N>>, SeatDeed<N>>
+    ensures event { IsLockedCall (SeatDeed N) (Sweep taken.now.client)
+        (tag_swept (λ t. t) (Ok result)) }
+    ensures welcome { IsWelcomeOf taken.now result }
 {
     let mut book = book.lock(rt);
     book.check();
-    book.sweep(client)
+    book.sweep(taken)
 }

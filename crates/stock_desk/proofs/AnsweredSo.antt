@@ -34,7 +34,7 @@ module _ (d : Picture) (k : ℕ) (c : NumberedCpu) (first : position (is_cpu d.s
         subst (λ (cs : List NumberedCpu). AnswersRequest id op d (became cs) a) (sym (written_caches d.selected d.cpus is.held.cpus.numbers k first c at s.cpu))
         (request_runs D d id op b s a is (subst (λ (p : LocalState). RunsCall d.tree (op_plan d.tree id op) d.book p b s a) (sym (same_parts d k c first at is.held)) ran))
 
-    pub hello_so : (D : Type 0) (h : HelloLine) (turns : ℕ) (a : HelloEnd) → MOST_LEASES < turns → RunsCall {D = D} d.tree (greet_plan d.tree h turns) d.book (local_of d.spaces c.caches) b s a → AnswersHello h d now a
+    pub hello_so : (D : Type 0) (h : HelloLine) (turns : ℕ) (a : HelloEnd D) → MOST_LEASES < turns → RunsCall {D = D} d.tree (greet_plan d.tree h turns) d.book (local_of d.spaces c.caches) b s a → AnswersHello h d now a
     hello_so D h turns a enough ran =
         subst (λ (cs : List NumberedCpu). AnswersHello h d (became cs) a) (sym (written_caches d.selected d.cpus is.held.cpus.numbers k first c at s.cpu))
         (hello_runs D d h turns b s a is enough (subst (λ (p : LocalState). RunsCall {D = D} d.tree (greet_plan d.tree h turns) d.book p b s a) (sym (same_parts d k c first at is.held)) ran))

@@ -19,7 +19,7 @@ use std::alloc::Global;
 use stock::Stock;
 
 /// What a hello's list of steps ended with.
-type Greeted = Result<Greeting, CallFault<Segment<PlainDeed>>>;
+type Greeted = Result<Greeting<PlainDeed>, CallFault<Segment<PlainDeed>>>;
 
 impl Supply {
     /// Answers a hello.
@@ -32,7 +32,7 @@ impl Supply {
             (picture_with book.old self.old) (picture_with book.new self.new) result }
     {
         match self.hear(book, line) {
-            Ok(Greeting::Welcome(protocol)) => welcome(line, protocol),
+            Ok(Greeting::Welcome(welcomed)) => welcome(line, welcomed.protocol()),
             Ok(Greeting::Late(fault)) => refused(line, &fault),
             Ok(Greeting::Unswept) => unreachable!(),
             Err(_) => unreachable!(),

@@ -4,7 +4,7 @@ ghost use Rattle.lease_call.specs.BookEvents.{BookEvent};
 
 use arena_tree::Stopped;
 use deed_core::{PlainDeed, Request, Segment};
-use lease_book::{Answer, Book, Receipt};
+use lease_book::{Answer, Book, Receipt, SweepEnd, Taken};
 use lease_call::{Books, NotGreeted, NotReleased, NotSettled};
 use lease_terms::{ClientId, Ordinal, Protocol, Quantity, Refusal, RequestId};
 use local_parts::Local;
@@ -79,9 +79,9 @@ impl Books<Segment<PlainDeed>, PlainDeed, Local<'_, PlainDeed>> for OwnBook<'_> 
         client: ClientId,
         incarnation: Ordinal,
         protocol: Protocol,
-    ) -> Result<Protocol, NotGreeted> {
+    ) -> Result<Taken<PlainDeed>, NotGreeted<PlainDeed>> {
         match self.book.hello(client, incarnation, protocol) {
-            Ok(stands) => Ok(stands),
+            Ok(taken) => Ok(taken),
             Err(fault) => Err(NotGreeted::Late(fault)),
         }
     }
@@ -89,11 +89,11 @@ impl Books<Segment<PlainDeed>, PlainDeed, Local<'_, PlainDeed>> for OwnBook<'_> 
     fn sweep(
         &mut self,
         _parts: &mut Local<'_, PlainDeed>,
-        client: ClientId,
-    ) -> Result<Option<(RequestId, Segment<PlainDeed>)>, Stopped> {
-        match self.book.sweep(client) {
-            Some((id, segment)) => Ok(Some((id, segment))),
-            None => Ok(None),
+        taken: &Taken<PlainDeed>,
+    ) -> Result<SweepEnd<Segment<PlainDeed>, PlainDeed>, Stopped> {
+        match self.book.welcome(taken) {
+            SweepEnd::Ended(id, segment) => Ok(SweepEnd::Ended(id, segment)),
+            SweepEnd::Welcome(welcomed) => Ok(SweepEnd::Welcome(welcomed)),
         }
     }
 }

@@ -29,13 +29,13 @@ pub(crate) fn welcome(hello: &HelloLine, protocol: Protocol) -> Reply
 }
 
 /// The reply to a hello that isn't taken.
-pub(crate) fn refused(hello: &HelloLine, fault: &HelloFault) -> Reply
+pub(crate) fn refused(hello: &HelloLine, fault: &HelloFault<PlainDeed>) -> Reply
     ensures { result ≡ hello_refusal hello.now fault.now }
 {
     match fault {
         HelloFault::Old(current) => Reply::Old(Old {
             client: hello.client,
-            current: *current,
+            current: current.number(),
         }),
         HelloFault::NoMemory => Reply::hello_again(hello),
     }
@@ -72,10 +72,16 @@ fn answered(tree: &Tree, id: RequestId, answer: Answer<PlainDeed>) -> Reply
         Answer::Refused(receipt) => settled(tree, id, receipt.reply()),
         Answer::Old(current) => Reply::Old(Old {
             client: id.client,
-            current,
+            current: current.number(),
         }),
-        Answer::Stale(greatest) => Reply::Stale(OutOfTurn { id, last: greatest }),
-        Answer::Gap(low) => Reply::Gap(OutOfTurn { id, last: low }),
+        Answer::Stale(greatest) => {
+            let last = greatest.number();
+            Reply::Stale(OutOfTurn { id, last })
+        }
+        Answer::Gap(low) => {
+            let last = low.number();
+            Reply::Gap(OutOfTurn { id, last })
+        }
         Answer::Again => Reply::again(id),
     }
 }

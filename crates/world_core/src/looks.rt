@@ -49,7 +49,8 @@ impl<D: Deed> WorldParts<D> {
         };
         let (client, incarnation) = (hello.client, hello.incarnation);
         match self.book.hello(client, incarnation, hello.protocol) {
-            Ok(protocol) => {
+            Ok(taken) => {
+                let protocol = taken.protocol();
                 self.log.push_reserved(Logged::Hello {
                     client,
                     incarnation,
@@ -63,7 +64,8 @@ impl<D: Deed> WorldParts<D> {
                 return Outcome::Done;
             }
             Err(fault) => match fault {
-                HelloFault::Old(current) => {
+                HelloFault::Old(word) => {
+                    let current = word.number();
                     self.replies
                         .push_reserved(Reply::Old(Old { client, current }));
                     return Outcome::Done;

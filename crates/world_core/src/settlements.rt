@@ -94,10 +94,16 @@ impl<D: Deed> WorldParts<D> {
             Answer::Kept(receipt) => reply_to(&self.names, id, receipt.reply()),
             Answer::Old(current) => Reply::Old(Old {
                 client: id.client,
-                current,
+                current: current.number(),
             }),
-            Answer::Stale(last) => Reply::Stale(OutOfTurn { id, last }),
-            Answer::Gap(last) => Reply::Gap(OutOfTurn { id, last }),
+            Answer::Stale(greatest) => {
+                let last = greatest.number();
+                Reply::Stale(OutOfTurn { id, last })
+            }
+            Answer::Gap(low) => {
+                let last = low.number();
+                Reply::Gap(OutOfTurn { id, last })
+            }
             Answer::Refused(_) => unreachable!(),
             Answer::Again => unreachable!(),
         }

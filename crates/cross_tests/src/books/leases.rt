@@ -1,8 +1,12 @@
 //! The leases that a book tells of a client.
 
-use super::{ARENA, Row, Told, end, make_book, take_row, take_rows};
+use super::{
+    ARENA, Bounds, Id, Row, Told, client_of, close, end, id_of, make_book, ordinal_of, take_row,
+    take_rows,
+};
 use deed_core::PlainDeed;
-use lease_book::{Book, LeaseReport, MOST_LEASES};
+use lease_book::{Book, LeaseReport, MOST_LEASES, SweepEnd, Taken};
+use lease_terms::Protocol;
 use std::alloc::AllocGlobal;
 use std::process::Abort;
 
@@ -80,5 +84,38 @@ fn leases_of_many(rt: HostRuntime) {
             (number, number.saturating_mul(8))
         );
     }
+    end(&rt, book);
+}
+
+/// The protocol by which the client of a hello is welcome, or the lease that ended first, with the
+/// request that was granted it.
+fn welcome(book: &mut Book<PlainDeed>, taken: &Taken<PlainDeed>) -> Result<Protocol, (Id, Bounds)> {
+    match book.welcome(taken) {
+        SweepEnd::Ended(request, segment) => Err((id_of(request), close(segment))),
+        SweepEnd::Welcome(welcomed) => Ok(welcomed.protocol()),
+    }
+}
+
+// A client is welcome once no lease of an older incarnation is left, by the protocol that stands.
+#[test]
+fn welcome_after_the_last(rt: HostRuntime) {
+    let rows = [
+        Row::Hello(4, 1, None),
+        Row::Lease((4, 1, 1), (0, 4), Told::Granted(0, 4)),
+        Row::Lease((4, 1, 2), (32, 4), Told::Granted(32, 4)),
+        Row::Welcome(4, 2, Protocol::Two, Protocol::Two),
+        Row::Lease((4, 2, 1), (8, 1), Told::Granted(8, 1)),
+    ];
+    let mut book = make_book(&rt, rt.alloc());
+    take_rows(&rt, &mut book, &rows);
+    let (client, incarnation) = (client_of(&rt, 4), ordinal_of(&rt, 2));
+    let taken = book
+        .hello(client, incarnation, Protocol::One)
+        .ok()
+        .expect(&rt, "a hello");
+    assert_eq!(rt; welcome(&mut book, &taken), Err(((4, 1, 1), (0, 4))));
+    assert_eq!(rt; welcome(&mut book, &taken), Err(((4, 1, 2), (32, 4))));
+    assert_eq!(rt; welcome(&mut book, &taken), Ok(Protocol::Two));
+    check(&rt, &book, 0, &[(2, 1, 8, 1)]);
     end(&rt, book);
 }

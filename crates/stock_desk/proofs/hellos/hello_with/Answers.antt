@@ -17,7 +17,7 @@ pub returns : goal.returns
 returns c =
     let old = local_of c.args.stock.now c.args.cpu.now in
     let arenas = c.args.tree.now in
-    let path = subst (λ (r : HelloEnd). RunsCall {D = PlainDeed} arenas (greet_plan arenas c.args.line.now c.args.turns) c.args.book.now old c.hello.new.book.book.now (local_of c.hello.new.parts.stock.now c.hello.new.parts.cpu.now) r) (end_same _)
+    let path = subst (λ (r : HelloEnd PlainDeed). RunsCall {D = PlainDeed} arenas (greet_plan arenas c.args.line.now c.args.turns) c.args.book.now old c.hello.new.book.book.now (local_of c.hello.new.parts.stock.now c.hello.new.parts.cpu.now) r) (end_same _)
     (call_seen arenas (λ b. b.book.now) (λ s. local_of s.stock.now s.cpu.now) _ _ _ _ _ (λ s t e x d. d.0) (λ b f s t k x d. (d.0, same_local _ _ _ _ d.2 d.3)) _ _ _ _ _ _ (local_nodes arenas old c.requires.local) c.hello.ensures.ran) in
     let same_stock = call_stays _ _ _ _ _ (λ b s. s.stock.ghost_name) (λ b s t e x d. d.1) (λ b f s t k x d. d.4) _ _ _ _ _ _ c.hello.ensures.ran in
     let same_cpu = call_stays _ _ _ _ _ (λ b s. s.cpu.ghost_name) (λ b s t e x d. d.2) (λ b f s t k x d. d.5) _ _ _ _ _ _ c.hello.ensures.ran in

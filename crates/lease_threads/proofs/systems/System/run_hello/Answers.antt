@@ -44,7 +44,7 @@ returns-clause-went g c =
     subst (λ (xs : List TreeArena). WentThrough xs (greeting_plan (SeatDeed g.row.N.Denot) xs c.args.cpu.now.hand c.args.hello.now) c.hello-ended.result) arenas
     (subst (λ (xs : List TreeArena). WentThrough c.self.inside.parts.arenas (greeting_plan (SeatDeed g.row.N.Denot) xs c.args.cpu.now.hand c.args.hello.now) c.hello-ended.result) c.tree-tree.ensures
     (subst (λ (h : Option Tag). WentThrough c.self.inside.parts.arenas (greeting_plan (SeatDeed g.row.N.Denot) c.tree-tree.result.now h c.args.hello.now) c.hello-ended.result) hand
-    (subst (λ (r : HelloEnd). WentThrough c.self.inside.parts.arenas (greeting_plan (SeatDeed g.row.N.Denot) c.tree-tree.result.now (tag_option (λ (t : Tag). t) c.take-hand.result) c.args.hello.now) r) (end_same _)
+    (subst (λ (r : HelloEnd (SeatDeed g.row.N.Denot)). WentThrough c.self.inside.parts.arenas (greeting_plan (SeatDeed g.row.N.Denot) c.tree-tree.result.now (tag_option (λ (t : Tag). t) c.take-hand.result) c.args.hello.now) r) (end_same _)
     (subst (λ (p : LockedPartsState). WentThrough p.arenas (greeting_plan (SeatDeed g.row.N.Denot) c.tree-tree.result.now (tag_option (λ (t : Tag). t) c.take-hand.result) c.args.hello.now) (tag_end (λ (t : Tag). t) c.hello-ended.result)) c.new-running.ensures.parts (all.ends (ap call_stopped (end_same _) ∙ goes)))))))
 
 pub returns-clause-left : goal.returns-clause-left
@@ -56,5 +56,5 @@ returns-clause-left g c =
     subst (λ (xs : List TreeArena). StopsIn xs (greeting_plan (SeatDeed g.row.N.Denot) xs c.args.cpu.now.hand c.args.hello.now) c.unless_stopped.new.cpu.hand) arenas
     (subst (λ (xs : List TreeArena). StopsIn c.self.inside.parts.arenas (greeting_plan (SeatDeed g.row.N.Denot) xs c.args.cpu.now.hand c.args.hello.now) c.unless_stopped.new.cpu.hand) c.tree-tree.ensures
     (subst (λ (h : Option Tag). StopsIn c.self.inside.parts.arenas (greeting_plan (SeatDeed g.row.N.Denot) c.tree-tree.result.now h c.args.hello.now) c.unless_stopped.new.cpu.hand) hand
-    (subst (λ (r : HelloEnd). GoneThrough (Sound (nodes_of c.self.inside.parts.arenas)) (IsCallOrStop (SeatDeed g.row.N.Denot)) (greeting_plan (SeatDeed g.row.N.Denot) c.tree-tree.result.now (tag_option (λ (t : Tag). t) c.take-hand.result) c.args.hello.now) r) (end_same _ ∙ is)
+    (subst (λ (r : HelloEnd (SeatDeed g.row.N.Denot)). GoneThrough (Sound (nodes_of c.self.inside.parts.arenas)) (IsCallOrStop (SeatDeed g.row.N.Denot)) (greeting_plan (SeatDeed g.row.N.Denot) c.tree-tree.result.now (tag_option (λ (t : Tag). t) c.take-hand.result) c.args.hello.now) r) (end_same _ ∙ is)
     (subst (λ (p : LockedPartsState). GoneThrough (Sound (nodes_of p.arenas)) (IsCallOrStop (SeatDeed g.row.N.Denot)) (greeting_plan (SeatDeed g.row.N.Denot) c.tree-tree.result.now (tag_option (λ (t : Tag). t) c.take-hand.result) c.args.hello.now) (tag_end (λ (t : Tag). t) c.hello-ended.result)) c.new-running.ensures.parts all.gone)))))
