@@ -9,7 +9,7 @@ use Rattle.lease_proto.specs.declared.faults.LineFault.{LineFault}
 use Rattle.lease_proto.specs.Faults.{error_line}
 use Rattle.lease_proto.proofs.LawProofs.{frames_in-take, rest_in-take, frames_of_rest-take, frames_in-append, rest_in-append}
 use Rattle.lease_proto.specs.Serving.{ServesLines}
-use Rattle.lease_server.specs.Serving.{SameFront, WritesFront, Answers, AnswersBefore, Writes, WritesBefore, Stops}
+use Rattle.lease_server.specs.Serving.{SameFront, WritesFront, Answers, AnswersBefore, HasAnswered, Writes, WritesBefore, Stops}
 
 module _ {S : Type 0} (may_answer : S → List ℕ → List ℕ → S → Type 0) where
   -- one run after another
@@ -64,6 +64,19 @@ module _ {S : Type 0} (may_answer : S → List ℕ → List ℕ → S → Type 0
       → Answers may_answer old fs a b mid → Answers may_answer mid gs b c new → Answers may_answer old (fs ++ gs) a c new
   Answers-append fs gs old mid new a b c p q =
       (p.0 ++ q.0, ServesLines-append fs gs old mid new p.0 q.0 p.1 q.1, q.2 ∙ ap (λ t. t ++ q.0) p.2 ∙ append_assoc a p.0 q.0)
+
+  -- whether all were answered or not, some were
+  pub has_answered : {E : Type 0} (r : Result (Unit {0}) E) (fs : List Frame) (old new : S) (a b : List ℕ)
+      → OnOk r (Answers may_answer old fs a b new) → OnErr r (AnswersBefore may_answer old fs a b new) → HasAnswered may_answer old new
+  has_answered (Ok u) fs old new a b all some = (fs, all.0, all.1)
+  has_answered (Err e) fs old new a b all some =
+      let (served, refused, later, split, answers) = some in (served, answers.0, answers.1)
+
+  -- some were, and then some more
+  pub HasAnswered-after : (fs : List Frame) (old mid new : S) (a b : Option (List ℕ))
+      → Writes may_answer old fs a b mid → HasAnswered may_answer mid new → HasAnswered may_answer old new
+  HasAnswered-after fs old mid new a b p q =
+      (fs ++ q.0, p.0 ++ q.1, ServesLines-append fs q.0 old mid new p.0 q.1 p.1 q.2)
 
   -- answers to the first of these frames
   abbrev pub AnswersSome : S → List Frame → List ℕ → List ℕ → Type 0

@@ -21,6 +21,11 @@ WritesFront bytes before after = (written : List ℕ) × (unwritten : List ℕ)
     × (bytes ≡ written ++ unwritten) × Appends before after written
 
 module _ {S : Type 0} (may_answer : S → List ℕ → List ℕ → S → Type 0) where
+  -- some lines were answered, one after another, and nothing else became of the responder
+  abbrev pub HasAnswered : S → S → Type 0
+  HasAnswered old new = (frames : List Frame) × (text : List ℕ)
+      × ServesLines may_answer old frames text new
+
   -- the buffer holds in addition what is written for these frames
   abbrev pub Answers : S → List Frame → List ℕ → List ℕ → S → Type 0
   Answers old frames before after new = (text : List ℕ) × ServesLines may_answer old frames text new

@@ -4,8 +4,8 @@ ghost use Rattle.std.specs.Prelude.{OnOk, OnErr, IfErr, IsErrOf};
 ghost use Rattle.std.specs.Io.KnownBytes.{IsAtEnd};
 ghost use Rattle.lease_proto.specs.Frames.{frame_of, frames_of_rest};
 ghost use Rattle.lease_server.specs.Intakes.{begun_at, frames_at};
-ghost use Rattle.lease_server.specs.Serving.{SameFront, Answers, AnswersBefore, Writes};
-ghost use Rattle.lease_server.specs.Serving.{WritesBefore, Stops, ServesAll, ServeFails};
+ghost use Rattle.lease_server.specs.Serving.{SameFront, Answers, AnswersBefore, HasAnswered};
+ghost use Rattle.lease_server.specs.Serving.{Writes, WritesBefore, Stops, ServesAll, ServeFails};
 ghost use Rattle.lease_server.specs.Watching.{inner_of, has_failed, reads_of, streams_of};
 ghost use Rattle.lease_server.specs.declared.intakes.TheConstants.{MOST_READS};
 
@@ -38,6 +38,7 @@ pub fn serve<R: Read, W: Write, P: Responder>(
     ensures err { IfErr result (ServeFails P.may_answer input.old
         (streams_of R.remaining W.contents reader.old writer.old)
         (streams_of R.remaining W.contents reader.new writer.new) responder.old responder.new) }
+    ensures answered { HasAnswered P.may_answer responder.old responder.new }
     ensures bound { (input.old.reads ≤ input.new.reads) × (input.new.reads ≤ MOST_READS) }
     ensures counted { reads_of reader.new
         ≡ min (reads_of reader.old + (input.new.reads - input.old.reads)) (2 ^ 64 - 1) }
@@ -55,6 +56,7 @@ pub fn serve<R: Read, W: Write, P: Responder>(
 
 /// Serves the whole lines at hand: their answers are written together. Out of memory, those of
 /// the lines before it are.
+#[tactic(auto, using(crate::proofs::ServingLemmas::has_answered))]
 fn serve_held<W: Write, P: Responder>(
     input: &mut Intake,
     out: &mut Vec<u8>,
@@ -74,6 +76,7 @@ fn serve_held<W: Write, P: Responder>(
         → WritesBefore P.may_answer responder.old (frames_at input.old.hand)
         (W.contents (inner_of writer.old)) (W.contents (inner_of writer.new)) responder.new
         × (has_failed writer.new ≡ has_failed writer.old) }
+    ensures answered { HasAnswered P.may_answer responder.old responder.new }
     ensures fault { OnErr result (IsErrOf result ServeFault.Write
         ⊎ IsErrOf result ServeFault.Memory) }
     ensures works { OnOk result (has_failed writer.new ≡ has_failed writer.old) }
@@ -137,6 +140,7 @@ fn serve_rest<W: Write, P: Responder>(
     requires { input.now.hand.whole ≡ false }
     ensures ok { OnOk result (Writes P.may_answer responder.old (frames_of_rest input.now.hand.line)
         (W.contents (inner_of writer.old)) (W.contents (inner_of writer.new)) responder.new) }
+    ensures unasked { responder.new ≡ responder.old }
     ensures err { OnErr result (Stops P.may_answer responder.old
         (frames_of_rest input.now.hand.line)
         (W.contents (inner_of writer.old)) (W.contents (inner_of writer.new))) }

@@ -6,3 +6,4 @@ pub mod Tidying
 pub mod Entrances
 pub mod Rounds
 pub mod Counting
+pub mod Rolls

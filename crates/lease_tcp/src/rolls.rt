@@ -1,7 +1,8 @@
 //! The connections that are served now, so that an end can reach each of them.
-ghost use Rattle.std.specs.Prelude.{◌≡◌, ◌+◌, ◌<◌, ◌≤◌, ◌↔◌, true, false, OnOk, OnErr, IsErrOf};
-ghost use Rattle.std.specs.Prelude.{None, IfOk, ◌-◌, ◌^◌, min};
-ghost use Rattle.slab.specs.Slab.{ContainsKey, Updates, get, slab_len};
+ghost use Rattle.std.specs.Prelude.{◌≡◌, ◌≢◌, ◌+◌, ◌<◌, ◌≤◌, ◌↔◌, true, false, OnOk, OnErr};
+ghost use Rattle.std.specs.Prelude.{None, IfOk, IsErrOf};
+ghost use Rattle.slab.specs.Slab.{ContainsKey, SameValues, Updates, get, slab_len};
+ghost use Rattle.lease_tcp.specs.Rolls.{failed_after, one_more, refused_after};
 
 use lease_watch::ConnectionCounts;
 use slab::Slab;
@@ -54,16 +55,8 @@ impl Roll {
     pub fn new(alloc: Global, most: usize) -> Roll
         requires { 0 < most }
     {
-        let rows = Rows {
-            streams: Slab::new(alloc),
-            most,
-            ended: false,
-            total: 0,
-            refused: 0,
-            failed: 0,
-        };
         Roll {
-            rows: Mutex::new(rows),
+            rows: Mutex::new(Rows::new(alloc, most)),
         }
     }
 
@@ -90,34 +83,19 @@ impl Roll {
     /// Has all connections end, after what they sent by now is answered. Those that haven't within
     /// so many seconds are cut off. No further one is entered.
     pub fn end<R: Wait + Clock>(&self, rt: &R, grace: u32) {
-        self.shut(rt, Shutdown::Read);
+        self.rows.lock(rt).shut(Shutdown::Read);
         for _ in 0..u64::from(grace) * LOOKS {
             if self.is_empty(rt) {
                 return;
             }
             thread::sleep(rt, Duration::from_millis(END_PAUSE));
         }
-        self.shut(rt, Shutdown::Both);
+        self.rows.lock(rt).shut(Shutdown::Both);
     }
 
     /// How many there are, were begun, were turned away and failed.
     pub fn counts<R: Wait>(&self, rt: &R) -> ConnectionCounts {
-        let guard = self.rows.lock(rt);
-        ConnectionCounts {
-            served: guard.streams.len() as u64,
-            total: guard.total,
-            refused: guard.refused,
-            failed: guard.failed,
-        }
-    }
-
-    /// Lets no further one enter, and shuts each down so.
-    fn shut<R: Wait>(&self, rt: &R, how: Shutdown) {
-        let mut guard = self.rows.lock(rt);
-        guard.ended = true;
-        for (_, stream) in guard.streams.iter() {
-            let _ = stream.shutdown(how);
-        }
+        self.rows.lock(rt).counts()
     }
 
     /// Whether none is served.
@@ -127,21 +105,39 @@ impl Roll {
 }
 
 impl Rows {
+    /// None came yet.
+    fn new(alloc: Global, most: usize) -> Rows
+        ensures none { slab_len result.streams ≡ 0 }
+        ensures open { (result.most ≡ most) × (result.ended ≡ false) }
+        ensures uncounted { (result.total ≡ 0) × (result.refused ≡ 0) × (result.failed ≡ 0) }
+    {
+        Rows {
+            streams: Slab::new(alloc),
+            most,
+            ended: false,
+            total: 0,
+            refused: 0,
+            failed: 0,
+        }
+    }
+
     /// Enters a connection. It is refused as one too many just where there are as many as there may
-    /// be. It is counted where it is turned away, or fails.
+    /// be. It is counted where it is turned away, or fails, and only there.
     fn enter(&mut self, stream: &SharedStream) -> Result<usize, NotEntered>
         ensures entered { IfOk result (λ key. (get self.old.streams key ≡ None)
             × ContainsKey self.new.streams key) }
+        ensures others { IfOk result (λ key. (other : _) → other ≢ key
+            → get self.new.streams other ≡ get self.old.streams other) }
         ensures more { OnOk result (slab_len self.new.streams ≡ slab_len self.old.streams + 1) }
-        ensures same { OnErr result (slab_len self.new.streams ≡ slab_len self.old.streams) }
+        ensures same { OnErr result (SameValues self.old.streams self.new.streams) }
+        ensures as_many { OnErr result (slab_len self.new.streams ≡ slab_len self.old.streams) }
         ensures full { IsErrOf result NotEntered.Full
             ↔ ((self.old.ended ≡ false) × (slab_len self.old.streams ≡ self.old.most)) }
         ensures ended { IsErrOf result NotEntered.Ended ↔ (self.old.ended ≡ true) }
-        ensures kept { (self.new.most ≡ self.old.most) × (self.new.ended ≡ self.old.ended) }
-        ensures turned_away { IsErrOf result NotEntered.Full
-            → self.new.refused ≡ min (self.old.refused + 1) (2 ^ 64 - 1) }
-        ensures failed { IsErrOf result NotEntered.Memory
-            → self.new.failed ≡ min (self.old.failed + 1) (2 ^ 64 - 1) }
+        ensures kept { (self.new.most ≡ self.old.most) × (self.new.ended ≡ self.old.ended)
+            × (self.new.total ≡ self.old.total) }
+        ensures refused { self.new.refused ≡ refused_after result self.old.refused }
+        ensures failed { self.new.failed ≡ failed_after result self.old.failed }
     {
         if self.ended {
             return Err(NotEntered::Ended);
@@ -165,31 +161,54 @@ impl Rows {
 
     /// Counts a connection that is begun to be served.
     fn begin(&mut self)
-        ensures counted { self.new.total ≡ min (self.old.total + 1) (2 ^ 64 - 1) }
-        ensures others { (self.new.refused ≡ self.old.refused) × (self.new.failed ≡ self.old.failed) }
-        ensures kept { (self.new.streams ≡ self.old.streams) × (self.new.most ≡ self.old.most)
-            × (self.new.ended ≡ self.old.ended) }
+        ensures { self.new ≡ record self.old { total = one_more self.old.total } }
     {
         self.total = self.total.saturating_add(1);
     }
 
     /// Counts a connection that failed.
     fn fail(&mut self)
-        ensures counted { self.new.failed ≡ min (self.old.failed + 1) (2 ^ 64 - 1) }
-        ensures others { (self.new.total ≡ self.old.total) × (self.new.refused ≡ self.old.refused) }
-        ensures kept { (self.new.streams ≡ self.old.streams) × (self.new.most ≡ self.old.most)
-            × (self.new.ended ≡ self.old.ended) }
+        ensures { self.new ≡ record self.old { failed = one_more self.old.failed } }
     {
         self.failed = self.failed.saturating_add(1);
     }
 
-    /// The connection of this key has ended.
+    /// The connection of this key has ended. That is counted nowhere: it was where it was begun.
     fn leave(&mut self, key: usize)
         ensures left { Updates self.old.streams self.new.streams key None }
         ensures fewer { slab_len self.new.streams ≤ slab_len self.old.streams }
         ensures kept { (self.new.most ≡ self.old.most) × (self.new.ended ≡ self.old.ended) }
+        ensures counts { (self.new.total ≡ self.old.total) × (self.new.refused ≡ self.old.refused)
+            × (self.new.failed ≡ self.old.failed) }
     {
         let left = self.streams.try_remove(key);
         drop(left);
+    }
+
+    /// How many there are, were begun, were turned away and failed.
+    fn counts(&self) -> ConnectionCounts
+        ensures { result ≡ record {
+          served = slab_len self.now.streams;
+          total = self.now.total;
+          refused = self.now.refused;
+          failed = self.now.failed;
+        } }
+    {
+        ConnectionCounts {
+            served: self.streams.len() as u64,
+            total: self.total,
+            refused: self.refused,
+            failed: self.failed,
+        }
+    }
+
+    /// Lets no further one enter, and shuts each down so.
+    fn shut(&mut self, how: Shutdown)
+        ensures { self.new ≡ record self.old { ended = true } }
+    {
+        self.ended = true;
+        for (_, stream) in self.streams.iter() {
+            let _ = stream.shutdown(how);
+        }
     }
 }

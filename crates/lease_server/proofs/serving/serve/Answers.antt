@@ -6,7 +6,7 @@ use Rattle.lease_proto.specs.Frames.{rest_in}
 use Rattle.lease_server.specs.Intakes.{frames_at, frames_on, begun_at}
 use Rattle.lease_server.specs.Serving.{SameFront, Writes}
 use Rattle.lease_server.specs.Watching.{streams_of}
-use Rattle.lease_server.proofs.ServingLemmas.{Writes-append}
+use Rattle.lease_server.proofs.ServingLemmas.{HasAnswered-after, Writes-append}
 use Rattle.lease_server.proofs.IntakeLemmas.{hand_more}
 use Rattle.lease_server.proofs.FaultLemmas.{held_fails, read_fails, rest_served, rest_fails, last_front}
 use Rattle.lease_server.proofs.serving.serve.Goals as goal
@@ -43,6 +43,21 @@ returns-in_err-serve_held-clause-err g c =
     c.args.responder.now c.loop-out.responder c.serve_held.new.responder c.loop-out.input.hand input done
     (g.W.Write.contents c.loop-out.writer.inner) c.loop-out.writer.failed c.in_err-serve_held.field-0.0
     consumed split writes reads_on writes_on e.fault e.err e.memory e.failed)
+
+pub returns-in_err-serve_held-clause-answered : goal.returns-in_err-serve_held-clause-answered
+returns-in_err-serve_held-clause-answered g c =
+    let (input, consumed, done, split, same, empty, writes, reads_on, writes_on, ended, low, gave, counted, still) = c.loop-out.invariant in
+    HasAnswered-after g.P.Responder.may_answer done c.args.responder.now c.loop-out.responder c.serve_held.new.responder _ _ writes c.in_err-serve_held.ensures.answered
+
+pub returns-in_err-read_on-clause-answered : goal.returns-in_err-read_on-clause-answered
+returns-in_err-read_on-clause-answered g c =
+    let (input, consumed, done, split, same, empty, writes, reads_on, writes_on, ended, low, gave, counted, still) = c.loop-out.invariant in
+    HasAnswered-after g.P.Responder.may_answer done c.args.responder.now c.loop-out.responder c.serve_held.new.responder _ _ writes c.in_ok-serve_held.ensures.answered
+
+pub returns-then-not-branch-clause-answered : goal.returns-then-not-branch-clause-answered
+returns-then-not-branch-clause-answered g c =
+    let (input, consumed, done, split, same, empty, writes, reads_on, writes_on, ended, low, gave, counted, still) = c.loop-out.invariant in
+    rw c.serve_rest.ensures.unasked (HasAnswered-after g.P.Responder.may_answer done c.args.responder.now c.loop-out.responder c.serve_held.new.responder _ _ writes c.in_ok-serve_held.ensures.answered)
 
 pub returns-in_err-serve_held-clause-bound : goal.returns-in_err-serve_held-clause-bound
 returns-in_err-serve_held-clause-bound g c =

@@ -1,0 +1,22 @@
+-- What a roll counts.
+use Rattle.std.specs.Prelude.{ℕ, ◌+◌, ◌-◌, ◌^◌, min, Result, Ok, Err}
+use Rattle.lease_tcp.specs.declared.rolls.NotEntered.{NotEntered}
+use Rattle.lease_tcp.specs.declared.rolls.NotEntered.TheVariants.{Full, Ended, Memory}
+
+-- a count of what came once more, which stays at the greatest number
+abbrev pub one_more : ℕ → ℕ
+one_more n = min (n + 1) (2 ^ 64 - 1)
+
+-- how many were turned away, once one more came to this
+abbrev pub refused_after : Result ℕ NotEntered → ℕ → ℕ
+refused_after (Ok key) n = n
+refused_after (Err Full) n = one_more n
+refused_after (Err Ended) n = n
+refused_after (Err Memory) n = n
+
+-- and how many failed
+abbrev pub failed_after : Result ℕ NotEntered → ℕ → ℕ
+failed_after (Ok key) n = n
+failed_after (Err Full) n = n
+failed_after (Err Ended) n = n
+failed_after (Err Memory) n = one_more n
