@@ -19,7 +19,7 @@ use Rattle.local_parts.specs.Cpus.{CacheIndexes, IsCpuOf, own_index, own_indexes
 use Rattle.lease_proto.specs.Cpus.{IsCpu}
 use Rattle.lease_book.specs.BookState.{leased_segments, segments_of_accounts}
 use Rattle.lease_machine.specs.Picture.{NumberedCpu, Picture, IsPicture, IsShapedIn, is_cpu, caches_of, fresh_cpu, held_outside}
-use Rattle.lease_machine.specs.CpuLaws.{FreshIsPicture, SelectedIsPicture, FreshCpuFits}
+use Rattle.lease_machine.specs.CpuLaws.{IsFresh, FreshIsPicture, SelectedIsPicture, FreshCpuFits}
 
 abbrev joined : List (List OwnCacheState) → List OwnCacheState
 joined rows = flat_map (λ row. row) rows
@@ -195,15 +195,16 @@ selected_is_picture d n is in_range = by (list_any (is_cpu n) d.cpus) refl
     by true there = select_old d n is in_range there
     by false none = select_new d n is in_range none
 
-pub fresh_is_picture : FreshIsPicture
-fresh_is_picture tree spaces book is_tree plans accounted history =
-    let none : book.accounts ≡ [] = history.accounts in
-    let leases : leased_segments book ≡ [] = ap segments_of_accounts none in
+-- what is fresh, with the CPU that it has
+first_picture : (d : Picture) → IsFresh d → IsPicture (record d { cpus = fresh_cpu 0 d.spaces ∷ []; selected = 0 })
+first_picture d is =
+    let spaces = d.spaces in
+    let leases : leased_segments d.book ≡ [] = ap segments_of_accounts is.book.accounts in
     let c : NumberedCpu = fresh_cpu 0 spaces in
     let caches : List OwnCacheState = caches_of c ++ [] in
-    let own : All (IsOwnIn spaces) caches = subst (λ (os : List OwnCacheState). All (IsOwnIn spaces) os) (sym (append-nil (caches_of c))) (fresh_own spaces 0 accounted.stock) in
+    let own : All (IsOwnIn spaces) caches = subst (λ (os : List OwnCacheState). All (IsOwnIn spaces) os) (sym (append-nil (caches_of c))) (fresh_own spaces 0 is.units.stock) in
     let rounds : all_own_rounds caches ≡ [] = ap all_own_rounds (append-nil (caches_of c)) ∙ fresh_rounds spaces 0 in
-    let first : IsAccountedFor spaces (outside [] [] caches) = cpus_keep spaces nothing_out (outside [] [] caches) (fresh_is_accounted spaces accounted) (record {
+    let first : IsAccountedFor spaces (outside [] [] caches) = cpus_keep spaces nothing_out (outside [] [] caches) (fresh_is_accounted spaces is.units) (record {
       hands = refl;
       leases = refl;
       rounds = λ f. ap (sum_by f) (sym rounds);
@@ -211,18 +212,23 @@ fresh_is_picture tree spaces book is_tree plans accounted history =
     }) in
     record {
       held = record {
-        tree = is_tree;
-        plans = plans;
+        tree = is.tree;
+        plans = is.plans;
         units = subst (λ (ts : List Tag). IsAccountedFor spaces (outside [] ts caches)) (sym leases) first;
         cpus = record {
           each = All-cons (IsCpuIn spaces) c [] (omega arith, fresh_indexes spaces 0) (All-nil (IsCpuIn spaces));
-          shapes = All-cons (HasShapes spaces) c [] (fresh_shapes spaces 0 accounted.stock) (All-nil (HasShapes spaces));
+          shapes = All-cons (HasShapes spaces) c [] (fresh_shapes spaces 0 is.units.stock) (All-nil (HasShapes spaces));
           numbers = λ i j e lt below. absurd (omega (arith, lt, below));
           there = λ none. (let e : Some c ≡ None = none in cc);
         };
       };
-      book = record { entries = []; history = history; possible = tt };
+      book = record { entries = []; history = is.book; possible = tt };
     }
+
+pub fresh_is_picture : FreshIsPicture
+fresh_is_picture d is =
+    subst (λ (n : ℕ). IsPicture (record d { selected = n })) (sym is.selected)
+    (subst (λ (cs : List NumberedCpu). IsPicture (record d { cpus = cs; selected = 0 })) (sym is.cpus) (first_picture d is))
 
 pub fresh_cpu_fits : FreshCpuFits
 fresh_cpu_fits = record {

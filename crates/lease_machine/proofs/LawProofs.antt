@@ -4,7 +4,7 @@ pub use Rattle.lease_machine.proofs.Spans.{same_grows, grows_then}
 pub use Rattle.lease_machine.proofs.Homes.{pictures_stay, setup_only_grows, setup_stays, units_have_one_home, leases_are_apart, audit_tells_leases, audit_is_whole, audit_is_told}
 pub use Rattle.lease_machine.proofs.Repeats.{lines_repeat}
 pub use Rattle.lease_machine.proofs.Fitting.{grants_fit, kept_grants_fit}
-pub use Rattle.lease_machine.proofs.NoRoom.{no_fit_means_taken, no_fit_means_taken_up, freed_is_whole, first_lease_is_served, never_both}
+pub use Rattle.lease_machine.proofs.NoRoom.{no_fit_means_taken, no_fit_means_taken_up, freed_is_whole, first_lease_is_served, never_both, runs_never_both}
 pub use Rattle.lease_machine.proofs.Growing.{grows_add_free, grown_is_served, grown_stays, grows_keep, grows_keep_nothing, grows_are_answered}
 pub use Rattle.lease_machine.proofs.Emptied.{reap_leaves_none, offline_has_no_round, tick_and_reap_empty, again_means_room}
 pub use Rattle.lease_machine.proofs.Agreeing.{answers_agree, recent_repeat, repeats_fit}

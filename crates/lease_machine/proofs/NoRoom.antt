@@ -40,12 +40,14 @@ use Rattle.local_calls.specs.NoFits.{HasBaseUp}
 use Rattle.lease_machine.specs.Serving.{CanServe}
 use Rattle.lease_machine.specs.Machine.{NewLease, RefusesLease, HelloStep, Sweeps, AnswersLine}
 use Rattle.lease_machine.specs.AnswerLaws.{reply_bytes}
-use Rattle.lease_machine.specs.RoomLaws.{NamesArena, NothingIsKept, NoFitMeansTaken, NoFitMeansTakenUp, NeverGrantedAndRefused, HasRunUp, FreedIsWhole, FirstLeaseIsServed, refusal_to}
+use Rattle.lease_machine.specs.RoomLaws.{NamesArena, NothingIsKept, NoFitMeansTaken, NoFitMeansTakenUp, NeverGrantedAndRefused, RunsNeverGrantAndRefuse, HasRunUp, FreedIsWhole, FirstLeaseIsServed, refusal_to}
 use Rattle.lease_machine.proofs.Repeats.{request_answer, history_of}
 use Rattle.lease_machine.proofs.CouldServe.{what_serves_can}
 use Rattle.lease_machine.proofs.Fitting.{not_known}
 use Rattle.lease_machine.proofs.Rooms.{run_serves, base_serves, plan_is}
 use Rattle.lease_machine.proofs.Freed.{span_is_run}
+use Rattle.lease_machine.proofs.FreshCpus.{fresh_is_picture}
+use Rattle.lease_machine.proofs.Homes.{pictures_stay}
 use Rattle.lease_history.specs.Told.{IsKnownReply, IsKeptReply}
 
 module _ (id : RequestId) where
@@ -126,6 +128,9 @@ never_both old new other id l r is g found =
       | inl known ↦ not_known old id a.0 found.fresh known.0
       | inr does ↦ new_no_fit id old other l a.0 does.1 (sym a.1 ∙ found.said) g.index g.arena g.takes.finds can
     ]
+
+pub runs_never_both : RunsNeverGrantAndRefuse
+runs_never_both start old new other frames text id l r fresh run = never_both old new other id l r (pictures_stay start old frames text (fresh_is_picture start fresh) run)
 
 -- what runs serve, the arenas of the chain do
 pub runs_up : (d : Picture) → IsPicture d → (chain : List Level) (n : ℕ) → HasRunUp d.spaces chain n → HasBaseUp d.spaces chain n

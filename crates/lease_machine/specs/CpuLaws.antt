@@ -1,6 +1,5 @@
 -- The first picture, and what becomes of one when a CPU is made.
 use Rattle.std.specs.Prelude.{◌≡◌, ℕ, List, [], ◌∷◌, All}
-use Rattle.arena_tree.specs.declared.trees.TreeArena.{TreeArena}
 use Rattle.arena_tree.specs.Trees.{IsTree}
 use Rattle.stock.specs.Spaces.{SpaceState, plans_of}
 use Rattle.stock.specs.Stocks.{IsStock}
@@ -10,22 +9,22 @@ use Rattle.stock.specs.OwnCaches.{all_own_rounds}
 use Rattle.stock_audit.specs.Accounted.{IsOwnIn}
 use Rattle.local_parts.specs.Cpus.{IsCpuOf}
 use Rattle.lease_proto.specs.Cpus.{IsCpu}
-use Rattle.lease_book.specs.BookState.{BookState, IsHistory}
+use Rattle.lease_book.specs.BookState.{IsHistory}
 use Rattle.lease_machine.specs.Picture.{Picture, IsPicture, IsShapedIn, caches_of}
 use Rattle.lease_machine.specs.Picture.{fresh_cpu}
 use Rattle.lease_machine.specs.Operators.{with_cpu}
 
 -- a stock with the arenas of a tree and nothing out, CPU 0, and a book of which nothing happened
+pub record IsFresh (d : Picture) : Type 0 where
+  pub tree : IsTree d.tree
+  pub plans : plans_of d.spaces ≡ plans_for d.tree
+  pub units : IsAccounted d.spaces []
+  pub cpus : d.cpus ≡ fresh_cpu 0 d.spaces ∷ []
+  pub selected : d.selected ≡ 0
+  pub book : IsHistory [] d.book
+
 abbrev pub FreshIsPicture : Type 0
-FreshIsPicture = (tree : List TreeArena) (spaces : List SpaceState) (book : BookState)
-    → IsTree tree → plans_of spaces ≡ plans_for tree → IsAccounted spaces [] → IsHistory [] book
-    → IsPicture (record {
-      tree = tree;
-      spaces = spaces;
-      cpus = fresh_cpu 0 spaces ∷ [];
-      selected = 0;
-      book = book;
-    })
+FreshIsPicture = (d : Picture) → IsFresh d → IsPicture d
 
 -- a CPU is selected, and made if it is new
 abbrev pub SelectedIsPicture : Type 0

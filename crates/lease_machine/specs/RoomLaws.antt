@@ -25,6 +25,7 @@ use Rattle.lease_proto.specs.declared.lines.Op.TheVariants as ops
 use Rattle.lease_proto.specs.declared.operators.ServedLine.TheVariants as served
 use Rattle.lease_proto.specs.declared.replies.Reply.{Reply}
 use Rattle.lease_proto.specs.declared.replies.Reply.TheVariants as reply
+use Rattle.lease_proto.specs.Frames.{Frame}
 use Rattle.lease_proto.specs.Operators.{served_of}
 use Rattle.lease_proto.specs.Requests.{demand_of}
 use Rattle.lease_book.specs.BookState.{leased_segments, account_in}
@@ -34,6 +35,8 @@ use Rattle.local_calls.specs.NoFits.{HasBaseUp}
 use Rattle.lease_machine.specs.Serving.{CanServe, ServesWith}
 use Rattle.lease_machine.specs.Machine.{LeaseStep, Grants}
 use Rattle.lease_machine.specs.AnswerLaws.{reply_bytes, IsRequestLine}
+use Rattle.lease_machine.specs.CpuLaws.{IsFresh}
+use Rattle.lease_machine.specs.Laws.{Runs}
 
 -- the request is refused so
 abbrev pub refusal_to : RequestId → Refusal → Reply
@@ -74,6 +77,12 @@ WhatServesCan = (old new : Picture) (index : ℕ) (x : TreeArena) (q : Request) 
 abbrev pub NeverGrantedAndRefused : Type 0
 NeverGrantedAndRefused = (old new other : Picture) (id : RequestId) (l : LeaseLine) (r : Reply)
     → IsPicture old → Grants id l old new r → ¬ FindsNoRoom old other id l
+
+-- nor does what any lines leave of a fresh one
+abbrev pub RunsNeverGrantAndRefuse : Type 0
+RunsNeverGrantAndRefuse = (start old new other : Picture) (frames : List Frame) (text : List ℕ)
+    (id : RequestId) (l : LeaseLine) (r : Reply) → IsFresh start → Runs start frames text old
+    → Grants id l old new r → ¬ FindsNoRoom old other id l
 
 -- a run of free units of the arena at the index serves the request
 abbrev pub HasRun : List SpaceState → ℕ → Request → Type 0

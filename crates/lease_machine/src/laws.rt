@@ -19,6 +19,7 @@ ghost use Rattle.lease_machine.specs.GrantLaws.{GrantsStayApart};
 ghost use Rattle.lease_machine.specs.RoomLaws.{NoFitMeansTaken, NoFitMeansTakenUp};
 ghost use Rattle.lease_machine.specs.RoomLaws.{FreedIsWhole, FirstLeaseIsServed, FewerFitToo};
 ghost use Rattle.lease_machine.specs.RoomLaws.{WhatServesCan, NeverGrantedAndRefused};
+ghost use Rattle.lease_machine.specs.RoomLaws.{RunsNeverGrantAndRefuse};
 ghost use Rattle.lease_machine.specs.GrowLaws.{GrowsAddFree, GrownIsServed, GrownStays};
 ghost use Rattle.lease_machine.specs.GrowLaws.{GrowsKeep, GrowsKeepNothing, GrowsAreAnswered};
 ghost use Rattle.lease_machine.specs.EmptyingLaws.{ReapLeavesNone, OfflineHasNoRound};
@@ -92,7 +93,8 @@ pub fn lease_laws()
 
 /// `nofit` comes only where no free range of the arena serves, nor one of a source for what would
 /// be imported, nor a chunk in reach of the CPU; so in a system that was used however one likes,
-/// once all has come back, and at its first lease, it doesn't come where a span would do.
+/// once all has come back, and at its first lease, it doesn't come where a span would do. Nothing
+/// that lines bring about lets one request be granted and be refused so.
 pub fn no_fit_laws()
     ensures taken { NoFitMeansTaken }
     ensures taken_up { NoFitMeansTakenUp }
@@ -101,6 +103,7 @@ pub fn no_fit_laws()
     ensures fewer { FewerFitToo }
     ensures serves { WhatServesCan }
     ensures never_both { NeverGrantedAndRefused }
+    ensures never_in_runs { RunsNeverGrantAndRefuse }
 {}
 
 /// A reaping leaves nothing to reap, and a CPU that goes offline no round; so once nothing is

@@ -1,5 +1,5 @@
 -- What a setup gives is a picture, in which nothing is kept.
-use Rattle.std.proofs.Common.{◌≡◌, sym, subst, ap, ◌∙◌, List, [], ◌∷◌, length, All, arith}
+use Rattle.std.proofs.Common.{◌≡◌, refl, sym, subst, ap, ◌∙◌, List, [], ◌∷◌, length, All, arith}
 use Rattle.std.specs.List.{flat_map}
 use Rattle.std.proofs.lemmas.List.{append-nil}
 use Rattle.deed_core.specs.Holding.{Holding}
@@ -35,8 +35,14 @@ module _ (setup : SetupState) (deeds : List Holding) (spaces : List SpaceState) 
 
     pub begins_picture : IsTree setup.arenas → IsAccounted spaces [] → IsPicture (begun cpus)
     begins_picture is accounted =
-        subst (λ (cs : List NumberedCpu). IsPicture (begun cs)) (sym one)
-        (fresh_is_picture tree spaces b (subst IsTree (sym named) is) (up.plans ∙ ap plans_for (sym named)) accounted history)
+        fresh_is_picture (begun cpus) (record {
+          tree = subst IsTree (sym named) is;
+          plans = up.plans ∙ ap plans_for (sym named);
+          units = accounted;
+          cpus = one;
+          selected = refl;
+          book = history;
+        })
 
 pub opened_unused : (setup : SetupState) (d : Picture) → IsOpenedFrom setup d → NothingIsKept d
 opened_unused setup d is = record {

@@ -13,13 +13,13 @@ use Rattle.lease_machine.specs.Picture.{Picture, IsPicture}
 use Rattle.lease_machine.specs.Laws.{Runs, GrowsAlone}
 use Rattle.lease_machine.specs.RoomLaws.{NothingIsKept}
 use Rattle.lease_machine.proofs.LawProofs.{pictures_stay, grows_then, units_have_one_home, leases_are_apart, audit_is_told, audit_tells_leases, audit_is_whole}
-use Rattle.lease_machine.proofs.LawProofs.{lines_repeat, recent_repeat, answers_agree, grants_fit, repeats_fit, first_lease_is_served, freed_is_whole, tick_and_reap_empty, grown_is_served, grows_keep_nothing}
+use Rattle.lease_machine.proofs.LawProofs.{lines_repeat, recent_repeat, answers_agree, grants_fit, repeats_fit, never_both, first_lease_is_served, freed_is_whole, tick_and_reap_empty, grown_is_served, grows_keep_nothing}
 use Rattle.stock_desk.proofs.LawProofs.{opened_unused}
 use Rattle.vmemd.proofs.MadeLemmas.{script_begins}
 use Rattle.vmemd.proofs.SpanLemmas.{given_owned, owns_on, range_serves, range_there, script_tree, span_there}
 use Rattle.vmemd.proofs.UncachedLemmas.{nothing_kept}
 use Rattle.vmemd.specs.Laws.{Script, ScriptsSplit, ScriptLeasesStayApart, ScriptUnitsHaveOneHome, ScriptAuditIsTold, ScriptAuditIsWhole}
-use Rattle.vmemd.specs.Laws.{ScriptLinesRepeat, ScriptRecentRepeat, ScriptAnswersAgree, ScriptGrantsFit, ScriptRepeatsFit, ScriptFirstLeaseIsServed, ScriptGrownIsServed, ScriptFreedIsWhole, ScriptReturnedIsWhole, ScriptEmptiedIsWhole}
+use Rattle.vmemd.specs.Laws.{ScriptLinesRepeat, ScriptRecentRepeat, ScriptAnswersAgree, ScriptGrantsFit, ScriptRepeatsFit, ScriptNeverGrantsAndRefuses, ScriptFirstLeaseIsServed, ScriptGrownIsServed, ScriptFreedIsWhole, ScriptReturnedIsWhole, ScriptEmptiedIsWhole}
 
 -- what a script leaves is a picture
 script_picture : (last : Picture) → Script last → IsPicture last
@@ -77,6 +77,9 @@ pub script_repeats_fit : ScriptRepeatsFit
 script_repeats_fit id l first second frames a fresh =
     repeats_fit a.old a.mid a.late a.new id l a.again a.line first a.between a.repeat second frames (script_picture a.old a.answers.script)
     a.asks fresh a.answers.step a.goes_on a.asks_again a.answers_again
+
+pub script_never_both : ScriptNeverGrantsAndRefuses
+script_never_both last new other id l r s = never_both last new other id l r (script_picture last s)
 
 -- grows alone leave nothing kept
 only_grows : (frames : List Frame) (old new : Picture) (text : List ℕ) → Runs old frames text new → AllByRecursion GrowsAlone frames → NothingIsKept old → NothingIsKept new × (new.book ≡ old.book)

@@ -35,11 +35,11 @@ use Rattle.lease_proto.specs.Requests.{demand_of}
 use Rattle.lease_call.specs.Growing.{range_asked}
 use Rattle.lease_machine.specs.Picture.{Picture, IsPicture}
 use Rattle.lease_machine.specs.Operators.{sums_in, audit_texts_of}
-use Rattle.lease_machine.specs.Machine.{LeaseStep}
+use Rattle.lease_machine.specs.Machine.{LeaseStep, Grants}
 use Rattle.lease_machine.specs.Laws.{Runs, UnitsAtHome, GrowsAlone}
 use Rattle.lease_machine.specs.AnswerLaws.{reply_bytes, IsUnkept, IsRequestLine, AreOfOthers}
 use Rattle.lease_machine.specs.AnswerLaws.{IsRecent, NamesRequest, FitsLine}
-use Rattle.lease_machine.specs.RoomLaws.{NothingIsKept, refusal_to}
+use Rattle.lease_machine.specs.RoomLaws.{NothingIsKept, FindsNoRoom, refusal_to}
 use Rattle.lease_machine.specs.GrowLaws.{Grew}
 use Rattle.lease_machine.specs.EmptyingLaws.{CpuHasNoRound}
 use Rattle.stock_desk.specs.Openings.{IsOpenedFrom}
@@ -153,6 +153,11 @@ ScriptRepeatsFit = (id : RequestId) (l : LeaseLine) (first second : List ℕ) (f
     → IsNew (account_in id.client a.old.book) id
     → ((r : Reply) × (second ≡ reply_bytes r) × NamesRequest id r × FitsLine a.old l r)
     ⊎ (IsUnkept first ⊎ IsUnkept second)
+
+-- after a script, where a request can be granted, no answer to it is `nofit`
+abbrev pub ScriptNeverGrantsAndRefuses : Type 0
+ScriptNeverGrantsAndRefuses = (last new other : Picture) (id : RequestId) (l : LeaseLine)
+    (r : Reply) → Script last → Grants id l last new r → ¬ FindsNoRoom last other id l
 
 -- one of a script's lines is this grow, and was answered `ok`
 pub record HasGrown (last : Picture) (s : Script last) (g : GrowLine) : Type 0 where

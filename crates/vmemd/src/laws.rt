@@ -4,6 +4,7 @@ ghost use Rattle.vmemd.specs.Laws.{ScriptAuditIsTold, ScriptAuditIsWhole};
 ghost use Rattle.vmemd.specs.Laws.{ScriptLinesRepeat, ScriptAnswersAgree, ScriptGrantsFit};
 ghost use Rattle.vmemd.specs.Laws.{ScriptRepeatsFit, ScriptFirstLeaseIsServed, ScriptFreedIsWhole};
 ghost use Rattle.vmemd.specs.Laws.{ScriptGrownIsServed, ScriptReturnedIsWhole};
+ghost use Rattle.vmemd.specs.Laws.{ScriptNeverGrantsAndRefuses};
 ghost use Rattle.vmemd.specs.Laws.{ScriptEmptiedIsWhole, SetupsOpenPictures, ScriptRecentRepeat};
 ghost use Rattle.vmemd.specs.RuleLaws.{EndsAreScripts, FailsAreScripts, ScriptKeepsRules};
 ghost use Rattle.vmemd.specs.RuleLaws.{ScriptGrantsStayApart, ScriptClientsGetReplies};
@@ -39,6 +40,7 @@ pub fn answer_laws()
     ensures agree { ScriptAnswersAgree }
     ensures fit { ScriptGrantsFit }
     ensures repeats_fit { ScriptRepeatsFit }
+    ensures never_both { ScriptNeverGrantsAndRefuses }
     ensures first { ScriptFirstLeaseIsServed }
     ensures grown { ScriptGrownIsServed }
     ensures freed { ScriptFreedIsWhole }
