@@ -6,7 +6,6 @@ use Rattle.deed_core.specs.declared.requests.Request.{Request}
 use Rattle.deed_core.specs.declared.segments.Route.{Route}
 use Rattle.deed_core.specs.declared.segments.Route.TheVariants.{Direct, Cached}
 use Rattle.lease_terms.specs.Requests.{RequestId}
-use Rattle.lease_terms.specs.declared.protocols.Protocol.{Protocol}
 use Rattle.lease_book.specs.Words.{Greeted}
 use Rattle.arena_tree.specs.Climbs.{ClimbEnd, ReturnEnd}
 use Rattle.arena_tree.specs.Events.{locks}

@@ -3,7 +3,6 @@ use Rattle.std.proofs.Common.{◌≡◌, ℕ, zero, suc, List, [], Option, Some,
 use Rattle.deed_core.specs.Tag.{Tag}
 use Rattle.deed_core.specs.declared.requests.Request.{Request}
 use Rattle.lease_terms.specs.Requests.{RequestId}
-use Rattle.lease_terms.specs.declared.protocols.Protocol.{Protocol}
 use Rattle.lease_book.specs.Words.{Greeted}
 use Rattle.arena_tree.specs.Chains.{Node}
 use Rattle.arena_tree.specs.Climbs.{ClimbEnd, ReturnEnd, climb_left, return_left}
