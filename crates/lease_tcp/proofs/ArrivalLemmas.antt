@@ -1,6 +1,7 @@
 -- Connections that come after those that couldn't be accepted.
-use Rattle.std.proofs.Common.{Bool, List, [], ◌∷◌, Some, None, Result, Ok, Err, refl, subst}
-use Rattle.lease_tcp.specs.Arrivals.{MissesEach, ComesNext, ServesEach}
+use Rattle.std.proofs.Common.{Bool, List, [], ◌∷◌, Option, Some, None, Result, Ok, Err, refl, ap, subst}
+use Rattle.lease_tcp.specs.Arrivals.{MissesEach, ComesNext, ServesEach, AcceptsAt, FindsAt, MissesAt}
+use Rattle.lease_tcp.specs.declared.arrivals.Reception.{Reception}
 
 module _ {A C F : Type 0} (may_accept : A → Result C F → A → Type 0) (may_find : A → Bool → Type 0) (may_serve : A → C → A → Type 0) (may_miss : A → F → A → Type 0) where
   -- they were met too
@@ -19,3 +20,17 @@ module _ {A C F : Type 0} (may_accept : A → Result C F → A → Type 0) (may_
   pub none_on : (old new : A) → ComesNext may_accept may_find may_miss old None new → ServesEach may_accept may_find may_serve may_miss old new
   none_on old new (faults, mid, missed, (last, came, closed)) =
       missed_on faults old mid missed new ([], last, mid, refl, came, closed)
+
+-- whoever meets those that come, they come alike
+module _ {A H C F : Type 0} (may_accept : A → Result C F → A → Type 0) (may_find : A → Bool → Type 0) (may_miss : A → F → A → Type 0) (host : H) where
+  abbrev pub at : A → Reception A H
+  at a = record { arrivals = a; host = host }
+
+  missed_at : (faults : List F) (old mid : A) → MissesEach may_accept may_find may_miss old faults mid → MissesEach (AcceptsAt may_accept) (FindsAt may_find) (MissesAt may_miss) (at old) faults (at mid)
+  missed_at [] old mid same = ap at same
+  missed_at (fault ∷ more) old mid (here, missed, came, found, misses, rest) =
+      (at here, at missed, (came, refl), found, (misses, refl), missed_at more missed mid rest)
+
+  pub next_at : (old new : A) (next : Option C) → ComesNext may_accept may_find may_miss old next new → ComesNext (AcceptsAt may_accept) (FindsAt may_find) (MissesAt may_miss) (at old) next (at new)
+  next_at old new (Some connection) (faults, mid, missed, (came, found)) = (faults, at mid, missed_at faults old mid missed, ((came, refl), found))
+  next_at old new None (faults, mid, missed, (last, came, closed)) = (faults, at mid, missed_at faults old mid missed, (last, (came, refl), closed))

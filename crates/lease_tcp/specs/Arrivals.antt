@@ -1,6 +1,7 @@
 -- Connections that come, one after another, and what becomes of each.
 use Rattle.std.specs.Prelude.{◌≡◌, Bool, true, false, List, [], ◌∷◌, Option, Some, None}
 use Rattle.std.specs.Prelude.{Result, Ok, Err}
+use Rattle.lease_tcp.specs.declared.arrivals.Reception.{Reception}
 
 -- By what may come, what may be found of the door, and what may become of what couldn't be
 -- accepted.
@@ -45,3 +46,23 @@ module _ {A C F : Type 0} (may_accept : A → Result C F → A → Type 0)
     abbrev pub ServesEach : A → A → Type 0
     ServesEach old new = (all : List (Result C F)) × (last : Result C F) × (mid : A)
         × MeetsEach old all mid × may_accept mid last new × may_find new true
+
+-- What comes, and what couldn't be accepted, the host knows nothing of.
+abbrev pub AcceptsAt : {A H C F : Type 0} → (A → Result C F → A → Type 0)
+    → Reception A H → Result C F → Reception A H → Type 0
+AcceptsAt may_accept old came new =
+    may_accept old.arrivals came new.arrivals × (new.host ≡ old.host)
+
+abbrev pub FindsAt : {A H : Type 0} → (A → Bool → Type 0) → Reception A H → Bool → Type 0
+FindsAt may_find here found = may_find here.arrivals found
+
+abbrev pub MissesAt : {A H F : Type 0} → (A → F → A → Type 0)
+    → Reception A H → F → Reception A H → Type 0
+MissesAt may_miss old fault new =
+    may_miss old.arrivals fault new.arrivals × (new.host ≡ old.host)
+
+-- And of what the host begins with a connection those know nothing to whom it came.
+abbrev pub BeginsAt : {A H C : Type 0} → (H → C → H → Type 0)
+    → Reception A H → C → Reception A H → Type 0
+BeginsAt may_begin old connection new =
+    (new.arrivals ≡ old.arrivals) × may_begin old.host connection new.host

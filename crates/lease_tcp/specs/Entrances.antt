@@ -1,39 +1,23 @@
--- A worker at an entrance, and what becomes of a connection that comes there.
-use Rattle.std.specs.Prelude.{◌≡◌, Bool, Option, Some, None, Result}
-use Rattle.lease_tcp.specs.declared.entrances.AtEntrance.{AtEntrance}
-use Rattle.lease_tcp.specs.Replying.{worker_of}
+-- What becomes of a connection that comes to an entrance, where the lines of a worker meet it.
+use Rattle.std.specs.Prelude.{◌≡◌, Option, Some, None}
+use Rattle.lease_proto.specs.declared.lines.Line.{Line}
+use Rattle.lease_proto.specs.declared.replies.Reply.{Reply}
+use Rattle.lease_tcp.specs.Connections.{ServesSome}
+use Rattle.lease_tcp.specs.Replying.{LinesState}
+use Rattle.lease_tcp.specs.declared.arrivals.Reception.{Reception}
+use Rattle.lease_watch.specs.declared.words.Word.{Word}
 
-abbrev pub at : {E K : Type 0} → E → K → AtEntrance E K
-at entrance worker = record { entrance = entrance; lines = record { worker = worker } }
+module _ {E K C A G : Type 0} (may_enter : E → A → Option G → E → Type 0)
+    (may_talk may_leave : E → G → E → Type 0) (may_reply : K → Line → Reply → K → Type 0)
+    (may_count : C → Word → C → Type 0) (may_tidy : K → K → Type 0) where
+  -- who was entered was talked with once: some lines were answered, and then the worker tidied; and
+  -- then the guest left. Where no one was entered, nothing more was done.
+  abbrev pub Hosts : E → Option G → LinesState K C → Reception E (LinesState K C) → Type 0
+  Hosts here None lines new = (new.arrivals ≡ here) × (new.host ≡ lines)
+  Hosts here (Some guest) lines new = (talked : E) × may_talk here guest talked
+      × ServesSome may_reply may_count may_tidy lines new.host
+      × may_leave talked guest new.arrivals
 
--- it is as a tidying may leave it, whatever it was before that
-abbrev pub HasTidied : {K : Type 0} → (K → K → Type 0) → K → K → Type 0
-HasTidied {K} may_tidy old new = (served : K) × may_tidy served new
-
--- What comes to the entrance, and what couldn't be accepted there, the worker knows nothing of.
-abbrev pub MayAcceptAt : {E K C F : Type 0} → (E → Result C F → E → Type 0)
-    → AtEntrance E K → Result C F → AtEntrance E K → Type 0
-MayAcceptAt may_accept old came new =
-    may_accept old.entrance came new.entrance × (new.lines ≡ old.lines)
-
-abbrev pub MayFindAt : {E K : Type 0} → (E → Bool → Type 0) → AtEntrance E K → Bool → Type 0
-MayFindAt may_find here found = may_find here.entrance found
-
-abbrev pub MayMissAt : {E K F : Type 0} → (E → F → E → Type 0) → AtEntrance E K → F
-    → AtEntrance E K → Type 0
-MayMissAt may_miss old fault new =
-    may_miss old.entrance fault new.entrance × (new.lines ≡ old.lines)
-
-module _ {E K C G : Type 0} (may_enter : E → C → Option G → E → Type 0)
-    (may_talk may_leave : E → G → E → Type 0) (may_tidy : K → K → Type 0) where
-  -- who was entered was talked with once, the worker is as a tidying may leave it, and then the
-  -- guest left; where no one was entered, nothing more was done
-  abbrev pub Hosts : E → Option G → K → E → K → Type 0
-  Hosts here None old left new = (left ≡ here) × (new ≡ old)
-  Hosts here (Some guest) old left new = (talked : E) × may_talk here guest talked
-      × HasTidied may_tidy old new × may_leave talked guest left
-
-  abbrev pub Receives : AtEntrance E K → C → AtEntrance E K → Type 0
+  abbrev pub Receives : Reception E (LinesState K C) → A → Reception E (LinesState K C) → Type 0
   Receives old connection new = (guest : Option G) × (here : E)
-      × may_enter old.entrance connection guest here
-      × Hosts here guest (worker_of old.lines) new.entrance (worker_of new.lines)
+      × may_enter old.arrivals connection guest here × Hosts here guest old.host new

@@ -9,6 +9,7 @@ use Rattle.lease_tcp.specs.Tidying.{Tidies}
 use Rattle.lease_tcp.specs.declared.system_workers.TheConstants.{REAP_LIMIT}
 use Rattle.lease_threads.specs.Reaping.{KeepsHand, ReapsSoundly}
 use Rattle.lease_threads.specs.Replying.{IsAnswerTo, IsAgain}
+use Rattle.lease_threads.specs.Retiring.{RetiresSoundly}
 use Rattle.lease_threads.specs.Systems.{CpuState}
 use Rattle.locked_parts.specs.Kinds.{AreForSame}
 use Rattle.quantum_cache.specs.declared.reaps.Reaping.{Reaping}
@@ -50,6 +51,10 @@ MayReply old line reply new = IsAnswer old.arenas line reply
 abbrev pub Stays : SystemWorkerState → SystemWorkerState → Type 0
 Stays old new = (new.arenas ≡ old.arenas) × StaysCpu old.cpu new.cpu
 
+-- the CPU was drained, as far as can be told of a running system
+abbrev pub MayDrain : SystemWorkerState → SystemWorkerState → Type 0
+MayDrain old new = Stays old new × RetiresSoundly old.arenas old.cpu.hand new.cpu.hand
+
 -- the arena of this number was reaped by the CPU, as far as can be told of a running system; or the
 -- CPU's hand can't be placed, and no look was taken
 abbrev pub ReapsOrHolds : List TreeArena → ℕ → CpuState → CpuState → Type 0
@@ -70,7 +75,7 @@ MayTick old new = new ≡ old
 
 -- it drained its CPU, reaped each arena, and ticked
 abbrev pub MayTidy : SystemWorkerState → SystemWorkerState → Type 0
-MayTidy old new = Tidies count_of_arenas Stays MayReap MayTick old new
+MayTidy old new = Tidies count_of_arenas MayDrain MayReap MayTick old new
 
 -- The same of a worker that shares its CPUs, of which its arenas are seen: whichever CPU does it.
 abbrev pub MayShareReply : List TreeArena → Line → Reply → List TreeArena → Type 0

@@ -1,4 +1,5 @@
 //! Connections that come one after another, wherever they come from.
+ghost use Rattle.lease_tcp.specs.Arrivals.{AcceptsAt, BeginsAt, FindsAt, MissesAt};
 ghost use Rattle.lease_tcp.specs.Arrivals.{ComesNext, ServesEach};
 
 use std::sync::Wait;
@@ -45,6 +46,12 @@ pub trait Server: Arrivals {
         ensures { may_serve self.old connection self.new };
 }
 
+/// Where connections come to, and who meets them there.
+pub struct Reception<A, H> {
+    pub arrivals: A,
+    pub host: H,
+}
+
 /// The next connection that is accepted, or None once the door is closed: it looks at the door
 /// after each that came, and misses each that couldn't be accepted.
 pub fn next_open<R: Wait, A: Arrivals>(rt: &R, arrivals: &mut A) -> Option<A::Connection>
@@ -73,6 +80,28 @@ pub fn serve_each<R: Wait, S: Server>(rt: &R, server: &mut S)
             return;
         };
         server.serve(connection);
+    }
+    unreachable!()
+}
+
+/// Has something begin with each connection, one after another, as `serve_each` serves them: what
+/// it begins, as a thread, may go on beside those that come later.
+pub fn begin_each<R: Wait, A: Arrivals, F: FnMut(A::Connection)>(
+    rt: &R,
+    arrivals: &mut A,
+    mut begin: F,
+)
+    requires { F.IsAlwaysCallable begin }
+    ensures { (last : F) × ServesEach (AcceptsAt A.may_accept) (FindsAt A.may_find)
+        (BeginsAt (λ old connection new. F.step old connection tt new)) (MissesAt A.may_miss)
+        (record { arrivals = arrivals.old; host = begin })
+        (record { arrivals = arrivals.new; host = last }) }
+{
+    for _ in rt.forever() {
+        let Some(connection) = next_open(rt, arrivals) else {
+            return;
+        };
+        begin(connection);
     }
     unreachable!()
 }

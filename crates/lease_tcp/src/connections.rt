@@ -1,10 +1,9 @@
 //! One connection, over any reader and writer.
 ghost use Rattle.std.specs.Prelude.{◌≡◌, [], false, OnOk, IfErr};
 ghost use Rattle.lease_server.specs.Watching.{inner_of, has_failed, streams_of};
-ghost use Rattle.lease_tcp.specs.Connections.{ServesConnection, BreaksOff};
-ghost use Rattle.lease_tcp.specs.Entrances.{HasTidied};
-ghost use Rattle.lease_tcp.specs.Replying.{worker_of};
+ghost use Rattle.lease_tcp.specs.Connections.{BreaksOff, ServesConnection, ServesSome};
 
+use crate::counts::Counter;
 use crate::links::Link;
 use crate::replying::ClientLines;
 use crate::workers::Worker;
@@ -15,21 +14,21 @@ use std::io::{Read, Write};
 /// Serves a connection to its end, or to its fault, tells its peer that no answer follows, and then
 /// lets the worker tidy, for which no peer waits. At each fault the lines before it are answered as
 /// `lease_server`'s `serve` says, and the worker can serve the next connection.
-pub fn serve_connection<R: Read, W: Write, L: Link, K: Worker>(
+pub fn serve_connection<R: Read, W: Write, L: Link, K: Worker, C: Counter>(
     alloc: Global,
     reader: &mut Watched<R>,
     writer: &mut Watched<W>,
     link: &mut L,
-    lines: &mut ClientLines<K>,
+    lines: &mut ClientLines<K, C>,
 ) -> Result<(), ServeFault>
     requires { (has_failed reader.old ≡ false) × (has_failed writer.old ≡ false) }
-    ensures ok { OnOk result (ServesConnection K.may_reply K.may_pass K.may_tidy
+    ensures ok { OnOk result (ServesConnection K.may_reply C.may_count K.may_tidy
         (streams_of R.remaining W.contents reader.old writer.old)
         (streams_of R.remaining W.contents reader.new writer.new) lines.old lines.new) }
-    ensures err { IfErr result (BreaksOff K.may_reply K.may_pass K.may_tidy
+    ensures err { IfErr result (BreaksOff K.may_reply C.may_count K.may_tidy
         (streams_of R.remaining W.contents reader.old writer.old)
         (streams_of R.remaining W.contents reader.new writer.new) lines.old lines.new) }
-    ensures tidied { HasTidied K.may_tidy (worker_of lines.old) (worker_of lines.new) }
+    ensures served { ServesSome K.may_reply C.may_count K.may_tidy lines.old lines.new }
     ensures ended { L.is_ended link.new }
 {
     let mut input = Intake::new();

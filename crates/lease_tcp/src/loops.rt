@@ -1,14 +1,15 @@
 //! The connections of a door, over TCP.
-ghost use Rattle.lease_tcp.specs.Entrances.{HasTidied};
-ghost use Rattle.lease_tcp.specs.Replying.{worker_of};
+ghost use Rattle.lease_tcp.specs.Connections.{ServesSome};
 
 use crate::arrivals::Arrivals;
 use crate::connections::serve_connection;
+use crate::counts::Counter;
 use crate::doors::Door;
 use crate::entrances::Entrance;
 use crate::pacing::{Pace, PacedReader, PacedWriter};
 use crate::replying::ClientLines;
 use crate::rolls::SharedStream;
+use crate::shortages::{Overseer, Shortage};
 use crate::workers::Worker;
 use lease_server::{ServeFault, Watched};
 use std::alloc::Global;
@@ -21,22 +22,36 @@ use std::{io, thread};
 /// the system has no descriptor left.
 pub const ACCEPT_PAUSE: u64 = 20;
 
+/// The system's errors for no descriptor: none is left at all, or for this program.
+const NO_DESCRIPTOR: [i32; 2] = [23, 24];
+
 /// A door as connections come to it, each of which stands on the roll while it is served.
 #[derive(Drop)]
-pub(crate) struct TcpEntrance<'a, R> {
+pub(crate) struct TcpEntrance<'a, R, O> {
     rt: &'a R,
     alloc: Global,
     door: Door<'a>,
+    overseer: &'a O,
 }
 
-impl<'a, R> TcpEntrance<'a, R> {
-    /// The connections of this door.
-    pub(crate) fn new(rt: &'a R, alloc: Global, door: Door<'a>) -> TcpEntrance<'a, R> {
-        TcpEntrance { rt, alloc, door }
+impl<'a, R, O> TcpEntrance<'a, R, O> {
+    /// The connections of this door. Who oversees it is told of what there was none of for them.
+    pub(crate) fn new(
+        rt: &'a R,
+        alloc: Global,
+        door: Door<'a>,
+        overseer: &'a O,
+    ) -> TcpEntrance<'a, R, O> {
+        TcpEntrance {
+            rt,
+            alloc,
+            door,
+            overseer,
+        }
     }
 }
 
-impl<R: Wait + Clock> Arrivals for TcpEntrance<'_, R> {
+impl<R: Wait + Clock, O: Overseer> Arrivals for TcpEntrance<'_, R, O> {
     ghost use Rattle.std.specs.Prelude.{⊤};
 
     type Connection = TcpStream;
@@ -58,12 +73,15 @@ impl<R: Wait + Clock> Arrivals for TcpEntrance<'_, R> {
         self.door.is_closed()
     }
 
-    fn miss(&mut self, _fault: io::Error) {
+    fn miss(&mut self, fault: io::Error) {
+        if is_short(&fault) {
+            self.overseer.lacks(Shortage::Descriptor);
+        }
         pause(self.rt);
     }
 }
 
-impl<R: Wait + Clock> Entrance for TcpEntrance<'_, R> {
+impl<R: Wait + Clock, O: Overseer> Entrance for TcpEntrance<'_, R, O> {
     ghost use Rattle.std.specs.Prelude.{⊤};
 
     /// The connection, and its key on the roll.
@@ -86,7 +104,11 @@ impl<R: Wait + Clock> Entrance for TcpEntrance<'_, R> {
         }
     }
 
-    fn talk<K: Worker>(&mut self, guest: &(SharedStream, usize), lines: &mut ClientLines<K>) {
+    fn talk<K: Worker, C: Counter>(
+        &mut self,
+        guest: &(SharedStream, usize),
+        lines: &mut ClientLines<K, C>,
+    ) {
         serve_begun(self.rt, self.alloc, &guest.0, lines, self.door);
     }
 
@@ -95,16 +117,24 @@ impl<R: Wait + Clock> Entrance for TcpEntrance<'_, R> {
     }
 }
 
+/// Whether there was no descriptor.
+fn is_short(error: &io::Error) -> bool {
+    match error.raw_os_error() {
+        Some(code) => NO_DESCRIPTOR.contains(&code),
+        None => false,
+    }
+}
+
 /// Serves a connection that stands on the roll. It is counted as begun, and as failed where it ends
 /// for want of memory.
-pub(crate) fn serve_begun<R: Wait + Clock, K: Worker>(
+pub(crate) fn serve_begun<R: Wait + Clock, K: Worker, C: Counter>(
     rt: &R,
     alloc: Global,
     stream: &TcpStream,
-    lines: &mut ClientLines<K>,
+    lines: &mut ClientLines<K, C>,
     door: Door<'_>,
 )
-    ensures { HasTidied K.may_tidy (worker_of lines.old) (worker_of lines.new) }
+    ensures { ServesSome K.may_reply C.may_count K.may_tidy lines.old lines.new }
 {
     door.roll.begin(rt);
     if let Err(ServeFault::Memory) = serve_stream(rt, alloc, stream, lines, door.pace) {
@@ -113,14 +143,14 @@ pub(crate) fn serve_begun<R: Wait + Clock, K: Worker>(
 }
 
 /// Serves a socket to its end, or to its fault, and then lets the worker tidy.
-fn serve_stream<R: Clock, K: Worker>(
+fn serve_stream<R: Clock, K: Worker, C: Counter>(
     rt: &R,
     alloc: Global,
     stream: &TcpStream,
-    lines: &mut ClientLines<K>,
+    lines: &mut ClientLines<K, C>,
     pace: Pace,
 ) -> Result<(), ServeFault>
-    ensures { HasTidied K.may_tidy (worker_of lines.old) (worker_of lines.new) }
+    ensures { ServesSome K.may_reply C.may_count K.may_tidy lines.old lines.new }
 {
     // (so that answers leave at once)
     if stream.set_nodelay(true).is_err() {

@@ -5,6 +5,7 @@ ghost use Rattle.std.specs.Prelude.{◌≡◌};
 use crate::deadlines::{Deadline, Limited, Side};
 use std::io;
 use std::io::{ErrorKind, Read, Write};
+use std::marker::Model;
 use std::time::{Clock, Duration, Instant};
 
 /// How long a peer is waited for.
@@ -39,7 +40,7 @@ enum Awaited {
 }
 
 /// The reading side. It knows of a line only whether it is whole, and asks the clock and sets the
-/// stream's limit just where what it waits for changes.
+/// stream's limit just where what it waits for changes. A contract sees the stream.
 #[derive(Drop)]
 pub struct PacedReader<'a, S, C: Clock> {
     clock: &'a C,
@@ -49,10 +50,16 @@ pub struct PacedReader<'a, S, C: Clock> {
     limit: Option<Duration>,
 }
 
+impl<'a, S, C: Clock> Model for PacedReader<'a, S, C> {
+    ghost Value = { S };
+
+    ghost view = { λ r. r.stream };
+}
+
 impl<'a, S, C: Clock> PacedReader<'a, S, C> {
     /// The first line is waited for from now on.
     pub fn new(clock: &'a C, stream: S, pace: Pace) -> PacedReader<'a, S, C>
-        ensures { result.stream ≡ stream }
+        ensures { result ≡ stream }
     {
         PacedReader {
             clock,
@@ -65,7 +72,7 @@ impl<'a, S, C: Clock> PacedReader<'a, S, C> {
 }
 
 impl<S: Read + Limited, C: Clock> Read for PacedReader<'_, S, C> {
-    ghost remaining = { λ r. S.remaining r.stream };
+    ghost remaining = { S.remaining };
 
     fn read(&mut self, buf: &mut [u8]) -> io::Result<usize> {
         let limit = match self.awaited {
@@ -101,7 +108,7 @@ fn rest_from_now<C: Clock>(clock: &C) -> Awaited {
     }
 }
 
-/// The writing side. What is written up to a flush is one answer.
+/// The writing side. What is written up to a flush is one answer. A contract sees the stream.
 #[derive(Drop)]
 pub struct PacedWriter<'a, S, C: Clock> {
     clock: &'a C,
@@ -111,10 +118,16 @@ pub struct PacedWriter<'a, S, C: Clock> {
     limit: Option<Duration>,
 }
 
+impl<'a, S, C: Clock> Model for PacedWriter<'a, S, C> {
+    ghost Value = { S };
+
+    ghost view = { λ w. w.stream };
+}
+
 impl<'a, S, C: Clock> PacedWriter<'a, S, C> {
     /// No answer is begun.
     pub fn new(clock: &'a C, stream: S, pace: Pace) -> PacedWriter<'a, S, C>
-        ensures { result.stream ≡ stream }
+        ensures { result ≡ stream }
     {
         PacedWriter {
             clock,
@@ -127,7 +140,7 @@ impl<'a, S, C: Clock> PacedWriter<'a, S, C> {
 }
 
 impl<S: Write + Limited, C: Clock> Write for PacedWriter<'_, S, C> {
-    ghost contents = { λ w. S.contents w.stream };
+    ghost contents = { S.contents };
 
     fn write(&mut self, buf: &[u8]) -> io::Result<usize> {
         let limit = match self.begun {

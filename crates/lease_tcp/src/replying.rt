@@ -1,57 +1,74 @@
-//! A worker as a responder: lines are read for it, and its replies written.
+//! A worker as a responder: lines are read for it, its replies written, and both counted.
 ghost use Rattle.std.specs.Prelude.{◌≡◌};
-ghost use Rattle.lease_tcp.specs.Replying.{worker_of};
+ghost use Rattle.lease_tcp.specs.Connections.{HasTidied};
 
+use crate::counts::{Counter, count_exchange};
 use crate::workers::Worker;
 use lease_proto::{LINE_ROOM, Line};
 use lease_server::Responder;
+use lease_watch::Word;
 use std::alloc::AllocError;
+use std::marker::Model;
 
-/// A worker that is given the lines of clients as bytes. What is no line of a client is answered by
-/// its error line, and the worker passes over it. It isn't to be dropped: `into_worker` ends it.
-pub struct ClientLines<K> {
+/// A worker that is given the lines of clients as bytes, each of which is counted once, with its
+/// reply. What is no line of a client is answered and counted by its error line, and the worker
+/// never sees it. It isn't to be dropped: `into_worker` ends it. A contract sees the worker and
+/// what counts.
+pub struct ClientLines<K, C> {
     worker: K,
+    counter: C,
 }
 
-impl<K> ClientLines<K> {
-    /// The lines for a worker.
-    pub fn new(worker: K) -> ClientLines<K>
-        ensures { worker_of result ≡ worker }
+impl<K, C> Model for ClientLines<K, C> {
+    ghost use Rattle.lease_tcp.specs.Replying.{LinesState};
+
+    ghost Value = { LinesState K C };
+
+    ghost view = { λ l. record { worker = l.worker; counter = l.counter } };
+}
+
+impl<K, C: Drop> ClientLines<K, C> {
+    /// The lines for a worker, counted there.
+    pub fn new(worker: K, counter: C) -> ClientLines<K, C>
+        ensures { result ≡ record { worker = worker; counter = counter } }
     {
-        ClientLines { worker }
+        ClientLines { worker, counter }
     }
 
     /// The worker, once it answers no more.
     pub fn into_worker(self) -> K
-        ensures { result ≡ worker_of self }
+        ensures { result ≡ self.worker }
     {
-        let ClientLines { worker } = self;
+        let ClientLines { worker, counter: _ } = self;
         worker
     }
 }
 
-impl<K: Worker> ClientLines<K> {
+impl<K: Worker, C> ClientLines<K, C> {
     /// Lets the worker tidy.
     pub fn tidy(&mut self)
-        ensures { K.may_tidy (worker_of self.old) (worker_of self.new) }
+        ensures { HasTidied K.may_tidy self.old self.new }
     {
         self.worker.tidy();
     }
 }
 
-impl<K: Worker> Responder for ClientLines<K> {
-    ghost use Rattle.lease_tcp.specs.Replying.{worker_of, MayAnswer};
+impl<K: Worker, C: Counter> Responder for ClientLines<K, C> {
+    ghost use Rattle.lease_tcp.specs.Replying.{MayAnswer};
 
-    ghost may_answer = { λ old line text new. MayAnswer K.may_reply K.may_pass (worker_of old)
-        line text (worker_of new) };
+    ghost may_answer = { MayAnswer K.may_reply C.may_count };
 
     fn answer(&mut self, line: &[u8], out: &mut Vec<u8>) -> Result<(), AllocError> {
         out.reserve(LINE_ROOM)?;
         match Line::read(line) {
-            Ok(line) => self.worker.reply(&line).write(out),
+            Ok(line) => {
+                let reply = self.worker.reply(&line);
+                count_exchange(&mut self.counter, &line, &reply);
+                reply.write(out)
+            }
             Err(fault) => {
                 out.extend_from_slice(fault.line())?;
-                self.worker.pass_over();
+                self.counter.count(Word::Error);
                 Ok(())
             }
         }

@@ -4,6 +4,7 @@ ghost use Rattle.std.specs.Prelude.{IfSome, IsTrue, OnOk};
 ghost use Rattle.lease_proto.specs.declared.limits.TheConstants.{MOST_CPUS};
 ghost use Rattle.lease_threads.specs.Reaping.{KeepsHand, ReapsSoundly};
 ghost use Rattle.lease_threads.specs.Replying.{IsAgain, IsAnswerTo};
+ghost use Rattle.lease_threads.specs.Retiring.{RetiresSoundly};
 ghost use Rattle.lease_threads.specs.Settling.{IsSettledAsAsked};
 ghost use Rattle.lease_tcp.specs.Workers.{StaysCpu, moves_units};
 ghost use Rattle.lease_tcp.specs.declared.system_workers.TheConstants.{REAP_LIMIT};
@@ -82,6 +83,7 @@ impl<N: Name> Seat<N> {
 
     /// Gives back what its CPU's hand and magazines hold, as far as that goes.
     pub fn drain<R: Wait>(&mut self, rt: &R, system: &System<N>)
+        ensures drained { RetiresSoundly system.now.arenas self.old.cpu.hand self.new.cpu.hand }
         ensures stays { StaysCpu self.old.cpu self.new.cpu }
         ensures noted { self.new.has_moved ≡ self.old.has_moved }
     {

@@ -53,8 +53,6 @@ impl<N: Name, R: Wait> Worker for SharedWorker<'_, N, R> {
 
     ghost may_reply = { MayShareReply };
 
-    ghost may_pass = { λ old new. new ≡ old };
-
     ghost may_tidy = { λ old new. new ≡ old };
 
     fn reply(&mut self, line: &Line) -> Reply {
@@ -68,8 +66,6 @@ impl<N: Name, R: Wait> Worker for SharedWorker<'_, N, R> {
         };
         seat.answer(self.rt, cpus.system, line).reply
     }
-
-    fn pass_over(&mut self) {}
 
     // (the keeper of the system tidies, by time)
     fn tidy(&mut self) {}

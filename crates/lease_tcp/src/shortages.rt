@@ -14,3 +14,11 @@ pub trait Overseer {
     /// There was none of this for a connection.
     fn lacks(&self, what: Shortage);
 }
+
+/// No one, who is told nothing.
+#[derive(Clone, Copy)]
+pub(crate) struct NoOne;
+
+impl Overseer for NoOne {
+    fn lacks(&self, _what: Shortage) {}
+}

@@ -1,10 +1,11 @@
 //! A worker of a running system.
 ghost use Rattle.std.specs.Prelude.{◌≡◌};
 
-use crate::counts::Counted;
+use crate::arrivals::{Reception, serve_each};
 use crate::doors::Door;
-use crate::entrances::worker_loop;
 use crate::loops::TcpEntrance;
+use crate::replying::ClientLines;
+use crate::shortages::NoOne;
 use crate::tidying::{Upkeep, tidy_by};
 use crate::workers::Worker;
 use deed_table::Name;
@@ -57,12 +58,9 @@ impl<'a, N: Name, R: Wait> SystemWorker<'a, N, R> {
 }
 
 impl<N: Name, R: Wait> Worker for SystemWorker<'_, N, R> {
-    ghost use Rattle.std.specs.Prelude.{◌≡◌};
     ghost use Rattle.lease_tcp.specs.Workers.{MayReply, MayTidy};
 
     ghost may_reply = { MayReply };
-
-    ghost may_pass = { λ old new. new ≡ old };
 
     ghost may_tidy = { MayTidy };
 
@@ -73,19 +71,17 @@ impl<N: Name, R: Wait> Worker for SystemWorker<'_, N, R> {
         }
     }
 
-    fn pass_over(&mut self) {}
-
     fn tidy(&mut self) {
         tidy_by(self);
     }
 }
 
 impl<N: Name, R: Wait> Upkeep for SystemWorker<'_, N, R> {
-    ghost use Rattle.lease_tcp.specs.Workers.{MayReap, MayTick, Stays, count_of_arenas};
+    ghost use Rattle.lease_tcp.specs.Workers.{MayDrain, MayReap, MayTick, count_of_arenas};
 
     ghost arenas = { count_of_arenas };
 
-    ghost may_drain = { Stays };
+    ghost may_drain = { MayDrain };
 
     ghost may_reap = { MayReap };
 
@@ -108,7 +104,7 @@ impl<N: Name, R: Wait> Upkeep for SystemWorker<'_, N, R> {
     }
 }
 
-/// Serves one connection of the door after another by the system, as `worker_loop` does, and gives
+/// Serves one connection of the door after another by the system, as `serve_each` does, and gives
 /// the CPU back once the door is closed and the accepted connection has ended.
 pub fn accept_loop<N: Name, R: Wait + Clock>(
     rt: &R,
@@ -118,7 +114,13 @@ pub fn accept_loop<N: Name, R: Wait + Clock>(
     cpu: Cpu<N>,
 ) -> Cpu<N> {
     let tally = door.counts.at(cpu.number() as usize);
-    let worker = Counted::new(SystemWorker::new(rt, system, cpu), tally);
-    let (_, worker) = worker_loop(rt, TcpEntrance::new(rt, alloc, door), worker);
-    worker.into_worker().into_cpu()
+    let lines = ClientLines::new(SystemWorker::new(rt, system, cpu), tally);
+    let no_one = NoOne;
+    let mut reception = Reception {
+        arrivals: TcpEntrance::new(rt, alloc, door, &no_one),
+        host: lines,
+    };
+    serve_each(rt, &mut reception);
+    let Reception { arrivals: _, host } = reception;
+    host.into_worker().into_cpu()
 }

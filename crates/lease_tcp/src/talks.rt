@@ -5,12 +5,10 @@ ghost use Rattle.lease_proto.specs.Faults.{error_text};
 ghost use Rattle.lease_server.specs.Serving.{WritesFront};
 ghost use Rattle.lease_server.specs.Watching.{inner_of};
 
-use crate::arrivals::{Arrivals, next_open};
-use crate::counts::Counted;
-use crate::doors::Door;
+use crate::arrivals::begin_each;
 use crate::houses::House;
 use crate::links::{Link, let_go};
-use crate::loops::{pause, serve_begun};
+use crate::loops::{TcpEntrance, serve_begun};
 use crate::replying::ClientLines;
 use crate::rolls::{NotEntered, SharedStream};
 use crate::shared_workers::SharedWorker;
@@ -19,57 +17,16 @@ use deed_table::Name;
 use lease_proto::ErrorWord;
 use lease_server::{ServeFault, Watched, deliver};
 use std::alloc::AllocGlobal;
-use std::io::{Error, Write};
+use std::io::Write;
 use std::net::TcpStream;
 use std::sync::atomic::Ordering;
 use std::sync::{Arc, Wait};
+use std::thread;
 use std::thread::{Builder, Scope, Threads};
 use std::time::Clock;
-use std::{io, thread};
 
 /// How large a stack a connection's thread has, in bytes.
 const STACK: usize = 256 * 1024;
-
-/// The system's errors for no descriptor: none is left at all, or for this program.
-const NO_DESCRIPTOR: [i32; 2] = [23, 24];
-
-/// Who accepts the connections of a house.
-#[derive(Drop)]
-struct AtHouse<'a, R, O> {
-    rt: &'a R,
-    door: Door<'a>,
-    overseer: &'a O,
-}
-
-impl<R: Wait + Clock, O: Overseer> Arrivals for AtHouse<'_, R, O> {
-    ghost use Rattle.std.specs.Prelude.{⊤};
-
-    type Connection = TcpStream;
-
-    type Fault = Error;
-
-    // (of a socket no contract can say what it gives or takes, nor of a flag what threads make it)
-    ghost may_accept = { λ _ _ _. ⊤ };
-
-    ghost may_find = { λ _ _. ⊤ };
-
-    ghost may_miss = { λ _ _ _. ⊤ };
-
-    fn accept(&mut self) -> io::Result<TcpStream> {
-        self.door.accept()
-    }
-
-    fn is_closed(&self) -> bool {
-        self.door.is_closed()
-    }
-
-    fn miss(&mut self, error: Error) {
-        if is_short(&error) {
-            self.overseer.lacks(Shortage::Descriptor);
-        }
-        pause(self.rt);
-    }
-}
 
 /// Serves each connection of the house's door by a thread of its own, and comes back once the door
 /// is closed and all connections have ended. One that comes where there are as many as there may be
@@ -86,7 +43,7 @@ pub fn serve_talks<
     house.over.store(true, Ordering::SeqCst);
 }
 
-/// Starts a thread for each connection, as they come by `next_open`, until the door is closed.
+/// Starts a thread for each connection, as they come, until the door is closed.
 fn accept_talks<
     's,
     E,
@@ -94,25 +51,10 @@ fn accept_talks<
     R: Threads + Wait + Clock + Sync + AllocGlobal,
     O: Overseer,
 >(rt: &'s R, scope: &Scope<'s, E>, house: &'s House<'s, N>, overseer: &O) {
-    let mut at_house = AtHouse {
-        rt,
-        door: house.door,
-        overseer,
-    };
-    for _ in rt.forever() {
-        let Some(stream) = next_open(rt, &mut at_house) else {
-            break;
-        };
+    let mut entrance = TcpEntrance::new(rt, rt.alloc(), house.door, overseer);
+    begin_each(rt, &mut entrance, move |stream| {
         admit(rt, scope, house, overseer, stream);
-    }
-}
-
-/// Whether there was no descriptor.
-fn is_short(error: &Error) -> bool {
-    match error.raw_os_error() {
-        Some(code) => NO_DESCRIPTOR.contains(&code),
-        None => false,
-    }
+    });
 }
 
 /// Starts the connection's thread, or tells it that it is one too many.
@@ -172,7 +114,7 @@ fn talk<N: Name, R: Wait + Clock + AllocGlobal>(
 ) {
     let tally = house.door.counts.at(key);
     let worker = SharedWorker::new(rt, &house.cpus, key, tally);
-    let mut lines = ClientLines::new(Counted::new(worker, tally));
+    let mut lines = ClientLines::new(worker, tally);
     serve_begun(rt, rt.alloc(), &stream, &mut lines, house.door);
     drop(lines.into_worker());
     house.door.roll.leave(rt, key);

@@ -12,19 +12,12 @@ pub trait Worker {
     // More than one reply may be allowed, since other workers are at work.
     ghost may_reply: { Self → Line → Reply → Self → Type 0 };
 
-    // what a worker may be once it has passed over a line that was none
-    ghost may_pass: { Self → Self → Type 0 };
-
     // what a worker may be once it has tidied
     ghost may_tidy: { Self → Self → Type 0 };
 
     /// Answers a line. Where it is out of memory the reply says so.
     fn reply(&mut self, line: &Line) -> Reply
         ensures { may_reply self.old line.now result self.new };
-
-    /// Passes over a line that was none, and was answered by its error line.
-    fn pass_over(&mut self)
-        ensures { may_pass self.old self.new };
 
     /// Gives back what caches hold in excess, by a bounded number of steps. It is called after each
     /// connection.

@@ -5,7 +5,8 @@ ghost use Rattle.std.specs.Prelude.{◌≡◌, ⊤, true};
 
 use lease_proto::{ErrorWord, Line, Reply, Welcome};
 use lease_server::{ServeFault, Watched};
-use lease_tcp::{ClientLines, Link, Worker, serve_connection, turn_away};
+use lease_tcp::{ClientLines, Counter, Link, Worker, serve_connection, turn_away};
+use lease_watch::Word;
 use std::alloc::Global;
 use std::cell::Cell;
 use std::io;
@@ -23,8 +24,6 @@ struct Counted {
 impl Worker for Counted {
     ghost may_reply = { λ old _ _ new. new.tidies ≡ old.tidies };
 
-    ghost may_pass = { λ old new. new ≡ old };
-
     ghost may_tidy = { λ old new. new.replies ≡ old.replies };
 
     fn reply(&mut self, line: &Line) -> Reply {
@@ -39,10 +38,27 @@ impl Worker for Counted {
         }
     }
 
-    fn pass_over(&mut self) {}
-
     fn tidy(&mut self) {
         self.tidies = self.tidies.saturating_add(1);
+    }
+}
+
+/// How many error lines were counted, and how many other words.
+#[derive(Clone, Copy)]
+struct Noted<'a> {
+    errors: &'a Cell<u64>,
+    others: &'a Cell<u64>,
+}
+
+impl Counter for Noted<'_> {
+    ghost may_count = { λ _ _ _. ⊤ };
+
+    fn count(&mut self, word: Word) {
+        let count = match word {
+            Word::Error => self.errors,
+            _ => self.others,
+        };
+        count.set(count.get().saturating_add(1));
     }
 }
 
@@ -93,7 +109,12 @@ impl Link for Told {
 }
 
 /// A connection on which these lines come and all that is written arrives.
-fn talks(rt: &impl Abort, alloc: Global, lines: &mut ClientLines<Counted>, input: &[u8]) {
+fn talks(
+    rt: &impl Abort,
+    alloc: Global,
+    lines: &mut ClientLines<Counted, Noted<'_>>,
+    input: &[u8],
+) {
     let mut reader = Watched::new(input);
     let mut writer = Watched::new(Vec::new(alloc));
     let mut link = Told::new();
@@ -104,7 +125,7 @@ fn talks(rt: &impl Abort, alloc: Global, lines: &mut ClientLines<Counted>, input
 }
 
 /// A connection whose peer is gone before a line comes.
-fn is_silent(rt: &impl Abort, alloc: Global, lines: &mut ClientLines<Counted>) {
+fn is_silent(rt: &impl Abort, alloc: Global, lines: &mut ClientLines<Counted, Noted<'_>>) {
     let mut reader = Watched::new(Gone);
     let mut writer = Watched::new(Vec::new(alloc));
     let mut link = Told::new();
@@ -115,7 +136,12 @@ fn is_silent(rt: &impl Abort, alloc: Global, lines: &mut ClientLines<Counted>) {
 }
 
 /// A connection whose peer is gone before it is answered.
-fn is_deaf(rt: &impl Abort, alloc: Global, lines: &mut ClientLines<Counted>, input: &[u8]) {
+fn is_deaf(
+    rt: &impl Abort,
+    alloc: Global,
+    lines: &mut ClientLines<Counted, Noted<'_>>,
+    input: &[u8],
+) {
     let mut reader = Watched::new(input);
     let mut writer = Watched::new(Gone);
     let mut link = Told::new();
@@ -127,10 +153,16 @@ fn is_deaf(rt: &impl Abort, alloc: Global, lines: &mut ClientLines<Counted>, inp
 #[test]
 fn a_fault_ends_its_connection_alone(rt: HostRuntime) -> Result<(), Fail> {
     let alloc = rt.alloc();
-    let mut lines = ClientLines::new(Counted {
+    let (errors, others) = (Cell::new(0), Cell::new(0));
+    let noted = Noted {
+        errors: &errors,
+        others: &others,
+    };
+    let worker = Counted {
         replies: 0,
         tidies: 0,
-    });
+    };
+    let mut lines = ClientLines::new(worker, noted);
     talks(&rt, alloc, &mut lines, LINES);
     is_silent(&rt, alloc, &mut lines);
     is_deaf(&rt, alloc, &mut lines, LINES);
@@ -140,6 +172,8 @@ fn a_fault_ends_its_connection_alone(rt: HostRuntime) -> Result<(), Fail> {
         tidies: 4,
     };
     assert_eq!(rt; lines.into_worker(), wanted);
+    assert_eq!(rt; errors.get(), 9);
+    assert_eq!(rt; others.get(), 24);
     Ok(())
 }
 
@@ -165,15 +199,11 @@ struct Late<'a> {
 impl Worker for Late<'_> {
     ghost may_reply = { λ _ _ _ _. ⊤ };
 
-    ghost may_pass = { λ _ _. ⊤ };
-
     ghost may_tidy = { λ _ _. ⊤ };
 
     fn reply(&mut self, _line: &Line) -> Reply {
         Reply::Error(ErrorWord::NoArena)
     }
-
-    fn pass_over(&mut self) {}
 
     fn tidy(&mut self) {
         self.was_told = self.end.get();
@@ -184,10 +214,16 @@ impl Worker for Late<'_> {
 fn a_peer_is_told_the_end_before_its_worker_tidies(rt: HostRuntime) {
     let alloc = rt.alloc();
     let end = Cell::new(false);
-    let mut lines = ClientLines::new(Late {
+    let count = Cell::new(0);
+    let noted = Noted {
+        errors: &count,
+        others: &count,
+    };
+    let worker = Late {
         end: &end,
         was_told: false,
-    });
+    };
+    let mut lines = ClientLines::new(worker, noted);
     let mut reader = Watched::new(&b""[..]);
     let mut writer = Watched::new(Vec::new(alloc));
     let served = serve_connection(alloc, &mut reader, &mut writer, &mut Seen(&end), &mut lines);

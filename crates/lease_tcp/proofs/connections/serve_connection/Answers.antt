@@ -3,7 +3,8 @@ use Rattle.lease_server.specs.declared.faults.ServeFault.{ServeFault}
 use Rattle.lease_server.specs.Intakes.{IntakeState}
 use Rattle.lease_server.specs.Serving.{ServesAll, ServeFails}
 use Rattle.lease_server.specs.Watching.{streams_of}
-use Rattle.lease_tcp.specs.Connections.{WorkerMayAnswer, ServesConnection, BreaksOff}
+use Rattle.lease_tcp.specs.Connections.{ServesConnection, BreaksOff}
+use Rattle.lease_tcp.specs.Replying.{MayAnswer}
 use Rattle.lease_tcp.proofs.connections.serve_connection.Goals as goal
 
 -- what holds where a result is Ok, from what holds there
@@ -20,10 +21,10 @@ pub returns-clause-ok : goal.returns-clause-ok
 returns-clause-ok g c =
     let old = streams_of g.R.Read.remaining g.W.Write.contents c.args.reader.now c.args.writer.now in
     let new = streams_of g.R.Read.remaining g.W.Write.contents c.serve-served.new.reader c.serve-served.new.writer in
-    let served = λ (i : IntakeState). ServesAll (WorkerMayAnswer g.K.Worker.may_reply g.K.Worker.may_pass g.K.Worker.may_tidy) i.hand old new c.args.lines.now c.serve-served.new.responder in
+    let served = λ (i : IntakeState). ServesAll (MayAnswer g.K.Worker.may_reply g.C.Counter.may_count) i.hand old new c.args.lines.now c.serve-served.new.responder in
     at_ok c.serve-served.result
     (served c.new-input.result)
-    (ServesConnection g.K.Worker.may_reply g.K.Worker.may_pass g.K.Worker.may_tidy old new c.args.lines.now c.tidy.new.self)
+    (ServesConnection g.K.Worker.may_reply g.C.Counter.may_count g.K.Worker.may_tidy old new c.args.lines.now c.tidy.new.self)
     (λ all. (c.serve-served.new.responder, subst served c.new-input.ensures all, c.tidy.ensures))
     c.serve-served.ensures.ok
 
@@ -31,9 +32,12 @@ pub returns-clause-err : goal.returns-clause-err
 returns-clause-err g c =
     let old = streams_of g.R.Read.remaining g.W.Write.contents c.args.reader.now c.args.writer.now in
     let new = streams_of g.R.Read.remaining g.W.Write.contents c.serve-served.new.reader c.serve-served.new.writer in
-    let fails = λ (i : IntakeState) (fault : ServeFault). ServeFails (WorkerMayAnswer g.K.Worker.may_reply g.K.Worker.may_pass g.K.Worker.may_tidy) i old new c.args.lines.now c.serve-served.new.responder fault in
+    let fails = λ (i : IntakeState) (fault : ServeFault). ServeFails (MayAnswer g.K.Worker.may_reply g.C.Counter.may_count) i old new c.args.lines.now c.serve-served.new.responder fault in
     at_err c.serve-served.result
     (fails c.new-input.result)
-    (BreaksOff g.K.Worker.may_reply g.K.Worker.may_pass g.K.Worker.may_tidy old new c.args.lines.now c.tidy.new.self)
+    (BreaksOff g.K.Worker.may_reply g.C.Counter.may_count g.K.Worker.may_tidy old new c.args.lines.now c.tidy.new.self)
     (λ fault broken. (c.serve-served.new.responder, subst (λ i. fails i fault) c.new-input.ensures broken, c.tidy.ensures))
     c.serve-served.ensures.err
+
+pub returns-clause-served : goal.returns-clause-served
+returns-clause-served g c = (c.serve-served.new.responder, c.serve-served.ensures.answered, c.tidy.ensures)
