@@ -18,7 +18,10 @@ use Rattle.arena_tree.specs.declared.trees.TreeArena.{TreeArena}
 use Rattle.arena_tree.specs.declared.limits.TheConstants.{MOST_SPANS}
 use Rattle.locked_parts.specs.News.{NewArenaState, IsMadeAsSet, AreMadeAsSet, numbered_from, ranges_owned}
 use Rattle.locked_parts.specs.Growing.{HasRootsMore}
-use Rattle.lease_threads.specs.Ends.{InOrder, owner_of}
+use Rattle.std.specs.List.Sorted.{IsPermutation}
+use Rattle.std.proofs.lemmas.List.Sorted.{IsPermutation-trans}
+use Rattle.lease_threads.specs.Systems.{SystemState}
+use Rattle.lease_threads.specs.Ends.{InOrder, AreRootsIn, owner_of}
 use Rattle.lease_threads.specs.Openings.{roots_of, roots_of_first}
 
 rising : (roots : List Holding) → AllAdjacentBelow (λ x y. x.root < y.root) roots (length roots) → InOrder roots
@@ -99,4 +102,12 @@ made_more arenas made new o id is more all this = record {
 pub none_made : (arenas : List TreeArena) (made : List NewArenaState) → made ≡ [] → AreMadeAsSet arenas made
 none_made arenas made none = record {
   each = λ k a at. absurd (let e : None ≡ Some a = ap (λ (l : List NewArenaState). slice_get l k) (sym none) ∙ at in cc);
+}
+
+-- the roots in another order are still all
+pub turned : (s : SystemState) (all new : List Holding) → AreRootsIn s all → IsPermutation all new → AreRootsIn s new
+turned s all new is same = record {
+  further = is.further;
+  of_arenas = is.of_arenas;
+  each = IsPermutation-trans _ _ _ is.each same;
 }

@@ -1,7 +1,7 @@
 -- A system that comes to its end, and what is left of one that doesn't.
-use Rattle.std.specs.Prelude.{◌≡◌, ℕ, ◌/◌, ◌<◌, ◌++◌, List, [], ◌∷◌, All, AllPairs, length, map}
-use Rattle.std.specs.Prelude.{Option, Some, None}
-use Rattle.std.specs.List.Sorted.{IsPermutation}
+use Rattle.std.specs.Prelude.{◌≡◌, ℕ, ◌+◌, ◌-◌, ◌*◌, ◌^◌, ◌/◌, ◌<◌, ◌++◌, List, All, AllPairs}
+use Rattle.std.specs.Prelude.{length, map, slice_get, Option, Some, None}
+use Rattle.std.specs.List.Sorted.{IsPermutation, IsNonDecreasingBy}
 use Rattle.deed_core.specs.Extent.{Extent}
 use Rattle.deed_core.specs.Holding.{Holding}
 use Rattle.deed_core.specs.Tag.{Tag}
@@ -13,6 +13,15 @@ use Rattle.lease_threads.specs.declared.shutting.StoppedAt.TheVariants as stop
 -- the number of the arena that owns the span of this root
 abbrev pub owner_of : Holding → ℕ
 owner_of r = r.root / MOST_SPANS
+
+-- less of roots that are closed before others: those of earlier arenas, and the lower ones of an
+-- arena, which gives its lowest span first
+abbrev pub turn_of : Holding → ℕ
+turn_of r = 2 ^ 128 - 1 - (owner_of r * 2 ^ 64 + r.range.base)
+
+-- the roots stand in turn, the one that is closed next is the last
+abbrev pub InTurn : List Holding → Type 0
+InTurn roots = IsNonDecreasingBy turn_of roots
 
 -- the roots of the system's arenas: those that they were set up with, and further ones, which grow
 -- opened
@@ -63,15 +72,15 @@ pub record IsRestOf (old new : HaltedState) : Type 0 where
   pub arenas : new.system.arenas ≡ old.system.arenas
   pub roots : KeepsRoots old new.told new.system.roots
 
--- with no segment in the hand the end stops at the first root that isn't closed
-abbrev pub root_stop : List Holding → StoppedAt
-root_stop [] = stop.Parts
-root_stop (r ∷ rest) = stop.Root (owner_of r)
+-- with no segment in the hand the end stops at the root that is closed next
+abbrev pub root_stop : Option Holding → StoppedAt
+root_stop None = stop.Parts
+root_stop (Some r) = stop.Root (owner_of r)
 
 -- once the ranges are told, at a segment before any root
 abbrev pub stop_at : Option Tag → List Holding → StoppedAt
 stop_at (Some t) roots = stop.Segment t.arena
-stop_at None roots = root_stop roots
+stop_at None roots = root_stop (slice_get roots (length roots - 1))
 
 -- where the end stopped
 abbrev pub stop_when : Option (List Extent) → Option Tag → List Holding → StoppedAt

@@ -1,5 +1,7 @@
 //! How the roots of a system are closed.
 ghost use Rattle.std.specs.Prelude.{◌≡◌, ◌+◌, ◌<◌, [], length, None, IfErr, IfSome, OnOk, true};
+ghost use Rattle.std.specs.List.Sorted.{IsPermutation};
+ghost use Rattle.lease_threads.specs.Ends as ends;
 
 use crate::cpus::Cpu;
 use crate::systems::{System, owner_of};
@@ -7,25 +9,13 @@ use deed_core::{Deed, Route, Segment, insert_reserved};
 use deed_table::{Name, Root, SeatDeed, close};
 use std::sync::Wait;
 
-/// Takes the spans of the roots out of their arenas, the first arena first, and closes each root by
-/// its deed, and says whether that was done with all. A deed that isn't the whole of a root's is in
-/// the hand. An arena gives its lowest span first: the roots are put in the order of that, so that
-/// none is looked for, and those that are left in order of their numbers again.
-pub(crate) fn close_roots<N: Name, R: Wait>(
-    rt: &R,
-    system: &mut System<N>,
-    cpu: &mut Cpu<N>,
-) -> bool
-    requires hand { cpu.old.hand ≡ None }
-    ensures arenas { system.new.arenas ≡ system.old.arenas }
-    ensures all { result ≡ true → (system.new.roots ≡ []) × (cpu.new.hand ≡ None) }
+/// Puts the roots in the turn in which they are closed, the last first. An arena gives its lowest
+/// span first: so none is looked for.
+pub(crate) fn put_in_turn<N: Name>(roots: &mut Vec<Root<N>>)
+    ensures same { IsPermutation roots.old.items roots.new.items }
+    ensures turn { ends.InTurn roots.new.items }
 {
-    system.roots.sort_unstable_by_key(|root| turn_of(root));
-    if close_each(rt, system, cpu) {
-        return true;
-    }
-    system.roots.sort_unstable_by_key(|root| root.number());
-    false
+    roots.sort_unstable_by_key(|root| turn_of(root));
 }
 
 /// One more than the greatest number that a base has room for.
@@ -33,13 +23,17 @@ const ABOVE_BASES: u128 = 0x1_0000_0000_0000_0000;
 
 /// What rises by roots that come before others: those of later arenas, and the higher ones of an
 /// arena. So the last is closed first.
-fn turn_of<N: Name>(root: &Root<N>) -> u128 {
+fn turn_of<N: Name>(root: &Root<N>) -> u128
+    ensures { result ≡ ends.turn_of root.now }
+{
     let place = u128::from(owner_of(root)) * ABOVE_BASES + u128::from(root.range().base());
     u128::MAX - place
 }
 
-/// Closes each root, the last of them first.
-fn close_each<N: Name, R: Wait>(rt: &R, system: &mut System<N>, cpu: &mut Cpu<N>) -> bool
+/// Takes the spans of the roots out of their arenas, the last root first, and closes each root by
+/// its deed, and says whether that was done with all. A deed that isn't the whole of a root's is in
+/// the hand.
+pub(crate) fn close_each<N: Name, R: Wait>(rt: &R, system: &mut System<N>, cpu: &mut Cpu<N>) -> bool
     requires hand { cpu.old.hand ≡ None }
     ensures arenas { system.new.arenas ≡ system.old.arenas }
     ensures all { result ≡ true → (system.new.roots ≡ []) × (cpu.new.hand ≡ None) }

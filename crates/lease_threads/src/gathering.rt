@@ -1,8 +1,9 @@
 //! How all roots of a system are brought together and their ranges told.
-ghost use Rattle.std.specs.Prelude.{◌≡◌, ◌↔◌, ◌<◌, ◌++◌, List, [], All, length, map, IfOk, IsTrue};
+ghost use Rattle.std.specs.Prelude.{◌≡◌, ◌↔◌, ◌<◌, ◌++◌, List, [], All, length, map, IfOk, OnOk, IsTrue};
 ghost use Rattle.deed_core.specs.Holding.{Holding};
-ghost use Rattle.lease_threads.specs.Ends.{AreRangesOf, AreRootsIn, InOrder, owner_of};
+ghost use Rattle.lease_threads.specs.Ends.{AreRangesOf, AreRootsIn, InOrder, InTurn, owner_of};
 
+use crate::closing::put_in_turn;
 use crate::end_rooms::EndRoom;
 use crate::systems::System;
 use deed_core::Range;
@@ -12,10 +13,27 @@ use std::alloc::AllocError;
 use std::mem;
 use std::sync::Wait;
 
+/// Takes the roots that `grow` opened from behind the locks, tells the ranges of all, and puts the
+/// roots in the turn in which they are closed.
+#[tactic(auto, using(crate::proofs::Roots::turned))]
+pub(crate) fn gather<N: Name, R: Wait>(
+    rt: &R,
+    system: &mut System<N>,
+) -> Result<Vec<Range>, AllocError>
+    ensures arenas { system.new.arenas ≡ system.old.arenas }
+    ensures roots { AreRootsIn system.old system.new.roots }
+    ensures told { IfOk result (λ told. AreRangesOf system.old told.items) }
+    ensures turn { OnOk result (InTurn system.new.roots) }
+{
+    let told = gather_in_order(rt, system)?;
+    put_in_turn(&mut system.roots);
+    Ok(told)
+}
+
 /// Takes the roots that `grow` opened from behind the locks, puts all in order of their numbers,
 /// and tells their ranges. Room for that was made when they were opened; where it is missing all
 /// the same, and so is memory, those that were taken so far stand with the others.
-pub(crate) fn gather<N: Name, R: Wait>(
+fn gather_in_order<N: Name, R: Wait>(
     rt: &R,
     system: &mut System<N>,
 ) -> Result<Vec<Range>, AllocError>

@@ -2,11 +2,11 @@
 ghost use Rattle.std.specs.Prelude.{◌≡◌, [], IfOk, OnOk, IfErr, IfSome, IfNone, IsSome, Some, None};
 ghost use Rattle.std.specs.Prelude.{true};
 ghost use Rattle.lease_threads.specs.Ends.{AreRangesOf, AreRangesLeft, IsRestOf, begun, stop_of};
-ghost use Rattle.lease_threads.specs.Retiring.{RetiresSoundly};
+ghost use Rattle.lease_threads.specs.Retiring.{RetiresSoundly, IsDrainedOrRefused};
 ghost use Rattle.lease_threads.specs.Systems.{HoldsNothing};
 ghost use Rattle.locked_parts.specs.Kinds.{AreForSame};
 
-use crate::closing::close_roots;
+use crate::closing::close_each;
 use crate::cpus::Cpu;
 use crate::ending::end_parts;
 use crate::gathering::gather;
@@ -64,7 +64,7 @@ impl<N: Name> Halted<N> {
         if let Some(segment) = &self.cpu.hand {
             return StoppedAt::Segment(segment.arena());
         }
-        match self.system.roots.first() {
+        match self.system.roots.last() {
             Some(root) => StoppedAt::Root(owner_of(root)),
             None => StoppedAt::Parts,
         }
@@ -85,6 +85,7 @@ impl<N: Name> Halted<N> {
         ensures rest { IfErr result (λ rest. ¬ HoldsNothing rest) }
         ensures left { IfErr result
             (λ rest. RetiresSoundly self.now.system.arenas cpu.hand rest.hand) }
+        ensures refused { IfErr result (IsDrainedOrRefused self.now.system.arenas) }
     {
         self.system.retire(rt, cpu)
     }
@@ -127,14 +128,14 @@ impl<N: Name> Halted<N> {
         Ok(())
     }
 
-    /// Places all that lies in it, and closes its roots.
+    /// Places all that lies in it, and closes its roots, in the turn in which they stand.
     fn empty<R: Wait>(&mut self, rt: &R) -> bool
         ensures arenas { self.new.system.arenas ≡ self.old.system.arenas }
         ensures told { self.new.told ≡ self.old.told }
         ensures empty { result ≡ true → (self.new.system.roots ≡ []) × (self.new.segment ≡ None) }
     {
         self.system.empty_parts(rt, &mut self.cpu)
-            && close_roots(rt, &mut self.system, &mut self.cpu)
+            && close_each(rt, &mut self.system, &mut self.cpu)
     }
 }
 
