@@ -10,3 +10,5 @@ mod Owns
 mod Numbers
 mod Grows
 pub mod Sums
+mod Exchanged
+pub mod Came

@@ -13,7 +13,6 @@ use Rattle.arena_tree.specs.declared.part_faults.GrowFault.TheVariants.{NotAlign
 use Rattle.arena_tree.specs.declared.part_faults.GrowFault.TheVariants.{NoMemory}
 use Rattle.arena_tree.specs.declared.trees.TreeArena.{TreeArena}
 use Rattle.locked_parts.specs.Answers.{ArenaPartState}
-use Rattle.locked_parts.specs.declared.arena_parts.Grown.{Grown}
 
 -- the arena of this number has no source
 abbrev pub IsRootArena : List TreeArena → ℕ → Type 0
@@ -52,8 +51,13 @@ abbrev pub IsOfArena : {A : Type 0} → Result A GrowFault → Type 0
 IsOfArena (Ok _) = Unit {0}
 IsOfArena (Err f) = IsFaultOfArena f
 
--- the arena of this number opened a root of this range, and added its deed
-abbrev pub IsGrowthBy : ℕ → Extent → Grown → Type 0
+-- an arena, by its number, opened a root of a range, and added its deed
+pub record GrownState : Type 0 where
+  pub arena : ℕ
+  pub range : Extent
+
+-- this one did, of this range
+abbrev pub IsGrowthBy : ℕ → Extent → GrownState → Type 0
 IsGrowthBy id range g = (g.arena ≡ id) × (g.range ≡ range)
 
 -- nothing stands against a further root of this range, and a number is left for it

@@ -8,4 +8,5 @@ pub mod Walks
 pub mod States
 pub mod Answers
 pub mod Growing
+pub mod Words
 pub mod Saying

@@ -1,8 +1,15 @@
 -- What a contract sees of parts under their locks.
 use Rattle.std.specs.Prelude.{ℕ, List}
 use Rattle.arena_tree.specs.declared.trees.TreeArena.{TreeArena}
+use Rattle.locked_parts.specs.declared.kinds.CacheKind.{CacheKind}
 
--- the arenas by number, as they were set up, and how many of them aren't ended
+-- the quantum caches that stand beside an arena's lock, by number, from 1 on
+pub record LockedArenaState : Type 0 where
+  pub kinds : List CacheKind
+
+-- the arenas by number, as they were set up; how many of them aren't ended, and these, which are
+-- the first ones
 pub record LockedPartsState : Type 0 where
   pub arenas : List TreeArena
   pub standing : ℕ
+  pub stand : List LockedArenaState

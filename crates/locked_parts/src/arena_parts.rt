@@ -1,6 +1,7 @@
 //! An arena as its lock keeps it. What lies there when the lock is taken is known by its type
 //! alone, so that each event looks whether it is the arena that is meant.
-ghost use Rattle.std.specs.Prelude.{◌≡◌, ◌≢◌, ◌<◌, ◌≤◌, ◌↔◌, ◌++◌, ℕ, List, [], Some, Ok, IsOk};
+ghost use Rattle.std.specs.Prelude.{◌≡◌, ◌≢◌, ◌<◌, ◌≤◌, ◌↔◌, ◌++◌, List, [], Some, Ok, IsOk};
+ghost use Rattle.std.specs.Prelude.{true, false};
 ghost use Rattle.std.specs.Prelude.{OnOk, OnErr, IfOk};
 ghost use Rattle.std.specs.Prelude.{IfErr};
 ghost use Rattle.deed_core.specs.Covering.{units_held};
@@ -15,11 +16,13 @@ ghost use Rattle.arena_tree.specs.Tags.{wording_of};
 ghost use Rattle.locked_parts.specs.Answers.{AnswersSoundly};
 ghost use Rattle.locked_parts.specs.Growing.{CanGrow, HasRootsMore, IsOfArena, PartGrew};
 ghost use Rattle.locked_parts.specs.Growing.{IsGrowthBy, RefusesGrow};
-ghost use Rattle.locked_parts.specs.Saying.{IsSaidByArena};
+ghost use Rattle.locked_parts.specs.Saying.{IsOtherArena, arena_said};
 ghost use Rattle.locked_parts.specs.Sums.{ArenaTells};
+ghost use Rattle.locked_parts.specs.Words.{carve_word, free_word, span_word};
 
-use crate::gates::EventName;
+use crate::gates::NextStep;
 use crate::said::Said;
+use crate::words::{Word, word_of_carve, word_of_free, word_of_span};
 use arena_tree::{GivenFault, GrowFault, PartFault};
 use deed_core::{Range, Request, Route, Segment};
 use deed_table::{Name, Root, Roots, SeatDeed};
@@ -52,12 +55,30 @@ impl<N: Name> Model for ArenaPart<N> {
         IsArenaPart (record { source = p.source; arena = p.arena; roots = p.roots }) };
 }
 
-/// That the arena of this number was asked for an event. Only `ArenaPart` makes one, where it is
-/// asked.
+/// What the arena of this number answered, and at which step it was asked. Only `ArenaPart` makes
+/// one, where it is asked.
 #[derive(Clone, Copy, PartialEq, Eq, Debug)]
 pub struct ArenaSaid {
     arena: u32,
-    event: EventName,
+    step: NextStep,
+    word: Word,
+}
+
+impl Model for ArenaSaid {
+    ghost use Rattle.locked_parts.specs.Words.{ArenaSaidState};
+
+    ghost Value = { ArenaSaidState };
+
+    ghost view = { λ s. record { arena = s.arena; step = s.step; word = s.word } };
+
+    ghost inverse = { λ s. record { arena = s.arena; step = s.step; word = s.word } };
+}
+
+/// That it answered so.
+fn arena_says(arena: u32, step: NextStep, word: Word) -> Said
+    ensures { result ≡ arena_said arena step word }
+{
+    Said::Arena(ArenaSaid { arena, step, word })
 }
 
 /// That a root was opened for an arena, and its deed added. Only `ArenaPart::grow` makes one.
@@ -67,15 +88,28 @@ pub struct Grown {
     range: Range,
 }
 
+impl Model for Grown {
+    ghost use Rattle.locked_parts.specs.Growing.{GrownState};
+
+    ghost Value = { GrownState };
+
+    ghost view = { λ g. record { arena = g.arena; range = g.range } };
+
+    ghost inverse = { λ g. record { arena = g.arena; range = g.range } };
+}
+
 impl<N: Name> ArenaPart<N> {
-    /// That it is asked for the event.
-    fn said(&self, event: EventName) -> Said
-        ensures { (id : ℕ) → self.now.arena.id ≡ id → IsSaidByArena id event result }
+    /// Whether it is the arena of this number; another says that it is another.
+    pub(crate) fn is(&self, said: &mut Said, step: NextStep, id: u32) -> bool
+        ensures here { result ≡ true → self.now.arena.id ≡ id }
+        ensures other { result ≡ false → IsOtherArena id step said.new }
     {
-        Said::Arena(ArenaSaid {
-            arena: self.arena.id(),
-            event,
-        })
+        let own = self.arena.id();
+        if own == id {
+            return true;
+        }
+        *said = arena_says(own, step, Word::Other);
+        false
     }
 
     /// Carves a segment for the request from the arena with this number and quantum. Where another
@@ -83,6 +117,7 @@ impl<N: Name> ArenaPart<N> {
     pub(crate) fn carve(
         &mut self,
         said: &mut Said,
+        step: NextStep,
         id: u32,
         quantum: u64,
         request: &Request,
@@ -91,21 +126,25 @@ impl<N: Name> ArenaPart<N> {
         ensures sound { (nodes : List Node) → quantum_in nodes id ≡ quantum
             → AnswersSoundly nodes (Carve id request.now)
             (wording_of PartFault.Refused result) }
-        ensures said { self.old.arena.id ≡ id → IsSaidByArena id EventName.Carve said.new }
+        ensures said { self.old.arena.id ≡ id → said.new ≡ arena_said id step (carve_word result) }
         ensures event { IfOk result (λ t.
             CarveOf self.old.arena request.now (Ok t) self.new.arena) }
         ensures refused { IfErr result (λ f. self.old.arena.id ≡ id
             → self.old.arena.quantum ≡ quantum → RefusesCarve self.old.arena request.now f) }
         ensures unchanged { OnErr result (self.new ≡ self.old) }
     {
-        *said = self.said(EventName::Carve);
+        let own = self.arena.id();
         if !request.is_good(quantum) {
+            *said = arena_says(own, step, Word::BadRequest);
             return Err(ArenaFault::BadRequest);
         }
-        if self.arena.id() != id || self.arena.quantum() != quantum {
+        if own != id || self.arena.quantum() != quantum {
+            *said = arena_says(own, step, Word::NoMemory);
             return Err(ArenaFault::NoMemory);
         }
-        self.arena.xalloc(request)
+        let carved = self.arena.xalloc(request);
+        *said = arena_says(own, step, word_of_carve(&carved));
+        carved
     }
 
     /// Frees a segment of the arena, which has this source. Where another stands here, it is
@@ -113,24 +152,28 @@ impl<N: Name> ArenaPart<N> {
     pub(crate) fn free(
         &mut self,
         said: &mut Said,
+        step: NextStep,
         source: Option<u32>,
         segment: Segment<SeatDeed<N>>,
     ) -> Result<Option<Segment<SeatDeed<N>>>, Segment<SeatDeed<N>>>
         ensures sound { (nodes : List Node) → source_of nodes segment.arena ≡ source
             → AnswersSoundly nodes (Free segment) (wording_of GivenFault.Refused result) }
         ensures said { self.old.arena.id ≡ segment.arena
-            → IsSaidByArena segment.arena EventName.Free said.new }
+            → said.new ≡ arena_said segment.arena step (free_word result) }
         ensures event { IfOk result (λ back.
             FreeOf self.old.arena segment (Ok back) self.new.arena) }
         ensures refused { OnErr result (self.old.source ≡ source
             → ¬ IsTagged self.old.arena segment) }
         ensures unchanged { OnErr result (self.new ≡ self.old) }
     {
-        *said = self.said(EventName::Free);
+        let own = self.arena.id();
         if self.source != source {
+            *said = arena_says(own, step, Word::Refused);
             return Err(segment);
         }
-        self.arena.free(segment)
+        let freed = self.arena.free(segment);
+        *said = arena_says(own, step, word_of_free(&freed));
+        freed
     }
 
     /// Adds a span of its source to the arena with this number and quantum, and carves its first
@@ -138,6 +181,7 @@ impl<N: Name> ArenaPart<N> {
     pub(crate) fn add_carve(
         &mut self,
         said: &mut Said,
+        step: NextStep,
         id: u32,
         quantum: u64,
         span: Segment<SeatDeed<N>>,
@@ -149,7 +193,7 @@ impl<N: Name> ArenaPart<N> {
         ensures sound { (nodes : List Node) → quantum_in nodes id ≡ quantum
             → AnswersSoundly nodes (AddCarve id span size)
             (wording_of GivenFault.Refused result) }
-        ensures said { self.old.arena.id ≡ id → IsSaidByArena id EventName.AddCarve said.new }
+        ensures said { self.old.arena.id ≡ id → said.new ≡ arena_said id step (span_word result) }
         ensures event { IfOk result (λ t.
             ImportOf self.old.arena span (plain_of size) (Ok t) self.new.arena) }
         ensures refused { IfErr result (λ f. self.old.source ≡ Some span.arena
@@ -157,17 +201,21 @@ impl<N: Name> ArenaPart<N> {
             → RefusesSpan self.old.arena span.holding.range span f) }
         ensures unchanged { OnErr result (self.new ≡ self.old) }
     {
-        *said = self.said(EventName::AddCarve);
+        let own = self.arena.id();
         if self.source != Some(span.arena()) {
+            *said = arena_says(own, step, Word::Overlaps);
             return Err(SpanFault::Overlaps(span));
         }
-        if self.arena.id() != id || self.arena.quantum() != quantum {
+        if own != id || self.arena.quantum() != quantum {
+            *said = arena_says(own, step, Word::Overlaps);
             return Err(SpanFault::Overlaps(span));
         }
         // For its clause: what is always so of a range.
         let _ = span.range();
         let request = Request::plain(size);
-        self.arena.add_span_and_carve(span, &request)
+        let carved = self.arena.add_span_and_carve(span, &request);
+        *said = arena_says(own, step, word_of_span(&carved));
+        carved
     }
 
     /// The units of its free ranges and of its allocated ones; none where another arena stands

@@ -78,18 +78,20 @@ fn end_caches<N: Name>(alloc: Global, caches: &mut Vec<LockedCache<N>>) -> bool
 
 /// Ends a quantum cache in which no deed lies.
 fn end_cache<N: Name>(alloc: Global, cache: LockedCache<N>) -> Result<(), LockedCache<N>> {
-    let LockedCache { slab, depot } = cache;
+    let LockedCache { kind, slab, depot } = cache;
     let depot = depot.into_inner();
-    let kind = depot.kind();
+    let own = depot.kind();
     match depot.close() {
         Ok(()) => match slab.into_inner().close() {
             Ok(()) => Ok(()),
             Err(slab) => Err(LockedCache {
+                kind,
                 slab: Mutex::new(slab),
-                depot: Mutex::new(KindDepot::new(alloc, kind, FIRST_SIZE)),
+                depot: Mutex::new(KindDepot::new(alloc, own, FIRST_SIZE)),
             }),
         },
         Err(depot) => Err(LockedCache {
+            kind,
             slab,
             depot: Mutex::new(depot),
         }),

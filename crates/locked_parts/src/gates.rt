@@ -1,6 +1,6 @@
 //! Gates: who lets a request go on.
 ghost use Rattle.std.specs.Prelude.{◌≡◌, ◌⊎◌, true, false};
-ghost use Rattle.locked_parts.specs.Gates.{AsksGate, MayStop};
+ghost use Rattle.locked_parts.specs.Gates.{AsksGate, MayStop, step_after};
 
 /// What may happen next: one call on one part under its lock, or one change of the CPU's own
 /// magazines (`Pop`, `Push`, `Change`).
@@ -101,6 +101,17 @@ impl StepCount {
         }
     }
 
+    /// The next step, of this name.
+    pub fn next(&self, event: EventName) -> NextStep
+        ensures { result ≡ step_after self.now event }
+    {
+        NextStep {
+            cpu: self.cpu,
+            turn: self.turn,
+            event,
+        }
+    }
+
     /// Asks the gate before the next step, and notes a Stop.
     pub fn stops<G: Gate>(&mut self, gate: &G, event: EventName) -> bool
         ensures asks { AsksGate G.may_stop G.passed gate.now event result self.old self.new }
@@ -110,11 +121,7 @@ impl StepCount {
         ensures same { result ≡ false → self.new.noted ≡ self.old.noted }
         ensures kept { self.old.noted ≡ true → self.new.noted ≡ true }
     {
-        let step = NextStep {
-            cpu: self.cpu,
-            turn: self.turn,
-            event,
-        };
+        let step = self.next(event);
         self.turn = self.turn.saturating_add(1);
         match gate.pass(&step) {
             Pass::Go => false,

@@ -1,19 +1,21 @@
 //! A depot as its lock keeps it, and its exchanges with a CPU.
 ghost use Rattle.std.specs.Prelude.{◌≡◌, ◌≢◌, ◌<◌, ◌↔◌, [], IsOk, IfSome, IfErr};
-ghost use Rattle.std.specs.Prelude.{◌≤◌, ◌-◌, ◌^◌, true, false, None, min, ℕ};
+ghost use Rattle.std.specs.Prelude.{◌≤◌, ◌-◌, ◌^◌, true, false, None, min};
 ghost use Rattle.deed_core.specs.Covering.{units_tagged};
 ghost use Rattle.magazine_layer.specs.Magazines.{IsSize};
 ghost use Rattle.magazine_layer.specs.Depots.{new_depot, after_tick, after_resize, depot_rounds};
 ghost use Rattle.magazine_layer.specs.Calls.{DepotReapOf, ResizeOf};
 ghost use Rattle.locked_parts.specs.Kinds.{IsOfKind};
-ghost use Rattle.locked_parts.specs.Saying.{IsSaidByCache};
+ghost use Rattle.locked_parts.specs.Saying.{IsOtherDepot, depot_said};
 ghost use Rattle.locked_parts.specs.Sums.{DepotTells};
 ghost use Rattle.locked_parts.specs.Swaps.{GivesFull, GivesEmpty, TakesFull};
+ghost use Rattle.locked_parts.specs.Words.{given_word, full_word, empty_word, fresh_word};
 
-use crate::gates::EventName;
+use crate::gates::NextStep;
 use crate::kinds::CacheKind;
 use crate::own_caches::OwnCache;
 use crate::said::Said;
+use crate::words::{Word, word_of_empty, word_of_full, word_of_given};
 use arena_tree::FreshFault;
 use deed_core::{Deed, Segment};
 use magazine_layer::{Depot, EmptyFault, FullFault, Magazine, NotGreater, PutFullFault};
@@ -36,26 +38,44 @@ impl<D: Deed> Model for KindDepot<D> {
     ghost invariant = { λ d. IsKindDepot (record { kind = d.kind; depot = d.depot }) };
 }
 
-/// That the depot of this cache of an arena was asked for an event. Only `KindDepot` makes one,
-/// where it is asked.
+/// What the depot of this quantum cache answered, and at which step it was asked. Only `KindDepot`
+/// makes one, where it is asked.
 #[derive(Clone, Copy, PartialEq, Eq, Debug)]
 pub struct DepotSaid {
-    arena: u32,
-    cache: u8,
-    event: EventName,
+    kind: CacheKind,
+    step: NextStep,
+    word: Word,
+}
+
+impl Model for DepotSaid {
+    ghost use Rattle.locked_parts.specs.Words.{CacheSaidState};
+
+    ghost Value = { CacheSaidState };
+
+    ghost view = { λ s. record { kind = s.kind; step = s.step; word = s.word } };
+
+    ghost inverse = { λ s. record { kind = s.kind; step = s.step; word = s.word } };
+}
+
+/// That it answered so.
+fn depot_says(kind: CacheKind, step: NextStep, word: Word) -> Said
+    ensures { result ≡ depot_said kind step word }
+{
+    Said::Depot(DepotSaid { kind, step, word })
 }
 
 impl<D: Deed> KindDepot<D> {
-    /// That it is asked for the event.
-    fn said(&self, event: EventName) -> Said
-        ensures { (arena cache : ℕ) → self.now.kind.arena ≡ arena → self.now.kind.number ≡ cache
-            → IsSaidByCache arena cache event result }
+    /// Whether it is the depot of this quantum cache; another says that it is another.
+    pub(crate) fn is(&self, said: &mut Said, step: NextStep, kind: &CacheKind) -> bool
+        ensures here { result ≡ true → self.now.kind ≡ kind.now }
+        ensures other { result ≡ false → IsOtherDepot kind.now step said.new }
     {
-        Said::Depot(DepotSaid {
-            arena: self.kind.arena,
-            cache: self.kind.number,
-            event,
-        })
+        let own = self.kind;
+        if own.is(kind) {
+            return true;
+        }
+        *said = depot_says(own, step, Word::Other);
+        false
     }
 
     /// A depot with no magazine.
@@ -80,50 +100,80 @@ impl<D: Deed> KindDepot<D> {
 
     /// Gives a CPU of this cache, whose magazines are both empty, a full one. Another CPU finds
     /// none.
-    pub(crate) fn swap_full(&mut self, cpu: &mut OwnCache<D>) -> Result<(), FullFault>
+    pub(crate) fn swap_full(
+        &mut self,
+        said: &mut Said,
+        step: NextStep,
+        cpu: &mut OwnCache<D>,
+    ) -> Result<(), FullFault>
+        ensures said { said.new ≡ depot_said self.old.kind step (full_word result) }
         ensures event { GivesFull cpu.old self.old result cpu.new self.new }
         ensures kind { cpu.new.kind ≡ cpu.old.kind }
     {
-        if !self.kind.is(&cpu.kind) || !cpu.is_empty() {
+        let own = self.kind;
+        if !self.kind.is(&cpu.kind) || !cpu.cpu.is_empty() {
+            *said = depot_says(own, step, Word::NoneFull);
             return Err(FullFault::NoneFull);
         }
-        self.depot.swap_for_full(&mut cpu.cpu)
+        let swapped = self.depot.swap_for_full(&mut cpu.cpu);
+        *said = depot_says(own, step, word_of_full(&swapped));
+        swapped
     }
 
     /// Gives a CPU of this cache, whose magazines are both full, an empty one. Another CPU finds
     /// none.
-    pub(crate) fn swap_empty(&mut self, cpu: &mut OwnCache<D>) -> Result<(), EmptyFault>
+    pub(crate) fn swap_empty(
+        &mut self,
+        said: &mut Said,
+        step: NextStep,
+        cpu: &mut OwnCache<D>,
+    ) -> Result<(), EmptyFault>
+        ensures said { said.new ≡ depot_said self.old.kind step (empty_word result) }
         ensures event { GivesEmpty cpu.old self.old result cpu.new self.new }
         ensures kind { cpu.new.kind ≡ cpu.old.kind }
     {
+        let own = self.kind;
         if !self.kind.is(&cpu.kind) || !cpu.cpu.is_full() {
+            *said = depot_says(own, step, Word::NoneEmpty);
             return Err(EmptyFault::NoneEmpty);
         }
-        self.depot.swap_for_empty(&mut cpu.cpu)
+        let swapped = self.depot.swap_for_empty(&mut cpu.cpu);
+        *said = depot_says(own, step, word_of_empty(&swapped));
+        swapped
     }
 
     /// The same by this magazine, which is empty, in place of one that it has.
     pub(crate) fn swap_fresh(
         &mut self,
+        said: &mut Said,
+        step: NextStep,
         cpu: &mut OwnCache<D>,
         magazine: Magazine<D>,
     ) -> Result<(), FreshFault>
         requires { magazine.rounds ≡ [] }
+        ensures said { said.new ≡ depot_said self.old.kind step (fresh_word result) }
         ensures event { TakesFull magazine cpu.old self.old result cpu.new self.new }
         ensures kind { cpu.new.kind ≡ cpu.old.kind }
     {
+        let own = self.kind;
         if !self.kind.is(&cpu.kind) || !cpu.cpu.is_full() {
             end_empty(magazine);
+            *said = depot_says(own, step, Word::NotFull);
             return Err(FreshFault::NotFull);
         }
         match self.depot.put_full(&mut cpu.cpu, magazine) {
-            Ok(()) => Ok(()),
+            Ok(()) => {
+                *said = depot_says(own, step, Word::Done);
+                Ok(())
+            }
             Err(PutFullFault::OldSize(size, magazine)) => {
                 end_empty(magazine);
+                *said = depot_says(own, step, Word::OldSize(size));
                 Err(FreshFault::OldSize(size))
             }
             Err(PutFullFault::NoMemory(magazine)) => {
                 end_empty(magazine);
+                *said = depot_says(own, step, Word::NoMemory);
                 Err(FreshFault::NoMemory)
             }
         }
@@ -206,20 +256,26 @@ impl<D: Deed> KindDepot<D> {
     }
 
     /// The same of the depot of this quantum cache; another has none.
-    pub(crate) fn reap_of(&mut self, said: &mut Said, kind: &CacheKind) -> Option<Segment<D>>
+    pub(crate) fn reap_of(
+        &mut self,
+        said: &mut Said,
+        step: NextStep,
+        kind: &CacheKind,
+    ) -> Option<Segment<D>>
         ensures said { self.old.kind ≡ kind.now
-            → IsSaidByCache kind.now.arena kind.now.number EventName.DepotReap said.new }
+            → said.new ≡ depot_said kind.now step (given_word result) }
         ensures chunk { IfSome result (IsOfKind kind.now) }
         ensures reaped { self.old.kind ≡ kind.now
             → DepotReapOf self.old.depot result self.new.depot }
         ensures other { self.old.kind ≢ kind.now → (result ≡ None) × (self.new ≡ self.old) }
         ensures kind { self.new.kind ≡ self.old.kind }
     {
-        *said = self.said(EventName::DepotReap);
         if !self.kind.is(kind) {
             return None;
         }
-        self.reap()
+        let round = self.reap();
+        *said = depot_says(*kind, step, word_of_given(&round));
+        round
     }
 
     /// Ends one that has no round, and hands back one that has.
@@ -236,7 +292,7 @@ impl<D: Deed> KindDepot<D> {
 }
 
 /// Ends a magazine of no rounds.
-fn end_empty<D: Deed>(magazine: Magazine<D>)
+pub(crate) fn end_empty<D: Deed>(magazine: Magazine<D>)
     requires { magazine.rounds ≡ [] }
 {
     match magazine.discard() {

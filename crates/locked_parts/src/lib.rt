@@ -2,10 +2,11 @@
 //!
 //! Under the locks stand the parts of the stock: `ArenaPart` (arena_parts), the slab cache
 //! (slab_parts) and `KindDepot` (kind_depots). What lies there when a lock is taken is known by its
-//! type alone, so that it is looked at before an event is asked of it (reached), and each leaves a
-//! word of which part it was and what it was asked (said). `LockedParts` (parts) has them by the
-//! numbers of their arenas; they are made of arenas as they stand before their locks
-//! (new_arenas, owned_spans, new_caches), and ended by taking them from under the locks (ending).
+//! type alone, so that it is looked at before an event is asked of it (reached), and each leaves
+//! which part it was, at which step it was asked (said) and what it answered (words). `LockedParts`
+//! (parts) has them by the numbers of their arenas; they are made of arenas as they stand before
+//! their locks (new_arenas, owned_spans, new_caches), and ended by taking them from under the locks
+//! (ending).
 //!
 //! Each span that an arena owns is a root of its own, numbered by its arena and its place among the
 //! arena's spans. Those of the setup are opened before the arena comes under its lock, and their
@@ -20,9 +21,9 @@
 //!
 //! `specs/Kinds.antt` has quantum caches and what contracts see of magazines and depots,
 //! `Swaps.antt` exchanges, `Answers.antt` what an event answers, `Saying.antt` by which part it
-//! came, `Gates.antt` what a gate is asked and may say, `News.antt` what parts are made as,
-//! `Growing.antt` which arenas get further roots and why not, `Walks.antt` walks over depots,
-//! `Sums.antt` what parts tell of themselves.
+//! came, `Words.antt` the plain words by which a part says that, `Gates.antt` what a gate is asked
+//! and may say, `News.antt` what parts are made as, `Growing.antt` which arenas get further roots
+//! and why not, `Walks.antt` walks over depots, `Sums.antt` what parts tell of themselves.
 //!
 //! A part is found by its number, in constant time. An event costs what the part's own call does
 //! (`tag_arena`, `slab_layer`, `magazine_layer`) and a few looks whether it is the part that is
@@ -52,6 +53,7 @@ mod reached;
 mod running;
 mod said;
 mod slab_parts;
+mod words;
 
 pub use arena_parts::{ArenaSaid, Grown};
 pub use gates::{EventName, Gate, NextStep, OpenGate, Pass, RequestStopped, StepCount};
@@ -62,7 +64,7 @@ pub use own_caches::OwnCache;
 pub use own_rounds::{end_rounds, new_rounds};
 pub use part_sums::PartSums;
 pub use parts::{LockedArena, LockedParts};
-pub use reached::NoPart;
 pub use running::Running;
 pub use said::Said;
 pub use slab_parts::SlabSaid;
+pub use words::Word;

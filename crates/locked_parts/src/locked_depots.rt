@@ -17,14 +17,13 @@ pub(crate) struct LockedDepots<'a, N: Name, R: Wait> {
 }
 
 impl<'a, N: Name, R: Wait> LockedDepots<'a, N, R> {
-    /// Where the depot of this quantum cache is kept, if the arena was set up, and whose it is.
+    /// Where the depot of this quantum cache is kept, if it stands, and whose it is.
     fn depot(
         &self,
         arena: u32,
         cache: u8,
     ) -> Option<(CacheKind, &'a Mutex<KindDepot<SeatDeed<N>>>)> {
-        let kind = self.parts.kind(arena, cache)?;
-        let locked = self.parts.cache(arena, cache)?;
+        let (kind, locked) = self.parts.standing_cache(arena, cache)?;
         Some((kind, &locked.depot))
     }
 }

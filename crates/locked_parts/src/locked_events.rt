@@ -1,14 +1,15 @@
-//! The events of arenas, slabs and depots in a parts. Each takes one lock.
-ghost use Rattle.std.specs.Prelude.{◌≡◌, ◌<◌, ◌≤◌, ◌%◌, Some, length};
+//! The events of arenas, slabs and depots in a parts. Each takes one lock; which magazines the CPU
+//! has plays no part.
+ghost use Rattle.std.specs.Prelude.{◌≡◌, ◌<◌, ◌≤◌, ◌%◌, [], Some, length};
 ghost use Rattle.deed_core.specs.Request.{rounding_of};
 ghost use Rattle.arena_tree.specs.Chains.{source_of, quantum_in};
 ghost use Rattle.arena_tree.specs.Events.{Carve, Free, AddCarve, SlabTake, SlabPut, SlabAdd};
 ghost use Rattle.arena_tree.specs.Events.{SlabReap, DepotReap};
 ghost use Rattle.arena_tree.specs.Trees.{nodes_of};
 ghost use Rattle.locked_parts.specs.Answers.{AnswersSoundly};
-ghost use Rattle.locked_parts.specs.Saying.{IsSaid};
+ghost use Rattle.locked_parts.specs.Saying.{CameBy};
 
-use crate::gates::EventName;
+use crate::gates::NextStep;
 use crate::parts::LockedParts;
 use crate::said::Said;
 use crate::slab_parts::{add_slab, cache_number, put_chunk, reap_slab, take_chunk};
@@ -20,25 +21,27 @@ use std::sync::Wait;
 use tag_arena::{ArenaFault, SpanFault};
 
 /// Carves a segment from the arena.
+#[tactic(auto, using(crate::proofs::Came::carved))]
 pub(crate) fn carve_in<N: Name, R: Wait>(
     parts: &LockedParts<N>,
     rt: &R,
     said: &mut Said,
+    step: NextStep,
     arena: u32,
     request: &Request,
 ) -> Result<Segment<SeatDeed<N>>, PartFault<ArenaFault>>
     requires { arena < length parts.now.arenas }
     ensures sound { AnswersSoundly (nodes_of parts.now.arenas) (Carve arena request.now) result }
-    ensures said { IsSaid (Carve arena request.now) said.new }
+    ensures said { CameBy parts.now [] step (Carve arena request.now) result said.new }
 {
     let quantum = parts.tree().quantum(arena);
-    let Some(mut part) = parts.reach_arena(rt, said, EventName::Carve, arena) else {
+    let Some(mut part) = parts.reach_arena(rt, said, step, arena) else {
         if request.is_good(quantum) {
             return Err(PartFault::Refused(ArenaFault::NoMemory));
         }
         return Err(PartFault::Refused(ArenaFault::BadRequest));
     };
-    PartFault::wrap(part.carve(said, arena, quantum, request))
+    PartFault::wrap(part.carve(said, step, arena, quantum, request))
 }
 
 /// The source of an arena.
@@ -50,27 +53,31 @@ fn source_in(tree: &Tree, arena: u32) -> Option<u32>
 }
 
 /// Frees a segment in its arena.
+#[tactic(auto, using(crate::proofs::Came::freed))]
 pub(crate) fn free_in<N: Name, R: Wait>(
     parts: &LockedParts<N>,
     rt: &R,
     said: &mut Said,
+    step: NextStep,
     segment: Segment<SeatDeed<N>>,
 ) -> Result<Option<Segment<SeatDeed<N>>>, GivenFault<Segment<SeatDeed<N>>, Segment<SeatDeed<N>>>>
     ensures sound { AnswersSoundly (nodes_of parts.now.arenas) (Free segment) result }
-    ensures said { IsSaid (Free segment) said.new }
+    ensures said { CameBy parts.now [] step (Free segment) result said.new }
 {
-    let Some(mut part) = parts.reach_arena(rt, said, EventName::Free, segment.arena()) else {
+    let Some(mut part) = parts.reach_arena(rt, said, step, segment.arena()) else {
         return Err(GivenFault::Refused(segment));
     };
     let source = source_in(parts.tree(), segment.arena());
-    GivenFault::wrap(part.free(said, source, segment))
+    GivenFault::wrap(part.free(said, step, source, segment))
 }
 
 /// Adds a span that the arena imports, and carves its first units.
+#[tactic(auto, using(crate::proofs::Came::added))]
 pub(crate) fn add_carve_in<N: Name, R: Wait>(
     parts: &LockedParts<N>,
     rt: &R,
     said: &mut Said,
+    step: NextStep,
     child: u32,
     span: Segment<SeatDeed<N>>,
     size: u64,
@@ -81,61 +88,60 @@ pub(crate) fn add_carve_in<N: Name, R: Wait>(
         ≤ span.holding.range.len }
     requires direct { span.route ≡ Route.Direct }
     ensures sound { AnswersSoundly (nodes_of parts.now.arenas) (AddCarve child span size) result }
-    ensures said { IsSaid (AddCarve child span size) said.new }
+    ensures said { CameBy parts.now [] step (AddCarve child span size) result said.new }
 {
     let quantum = parts.tree().quantum(child);
-    let Some(mut part) = parts.reach_arena(rt, said, EventName::AddCarve, child) else {
+    let Some(mut part) = parts.reach_arena(rt, said, step, child) else {
         return Err(GivenFault::Refused(SpanFault::Overlaps(span)));
     };
-    GivenFault::wrap(part.add_carve(said, child, quantum, span, size))
+    GivenFault::wrap(part.add_carve(said, step, child, quantum, span, size))
 }
 
 /// Takes a chunk out of a slab of the cache.
+#[tactic(auto, using(crate::proofs::Came::taken))]
 pub(crate) fn slab_take_in<N: Name, R: Wait>(
     parts: &LockedParts<N>,
     rt: &R,
     said: &mut Said,
+    step: NextStep,
     arena: u32,
     cache: u8,
 ) -> Result<Option<Segment<SeatDeed<N>>>, Stopped>
     ensures sound { AnswersSoundly (nodes_of parts.now.arenas) (SlabTake arena cache) result }
-    ensures said { IsSaid (SlabTake arena cache) said.new }
+    ensures said { CameBy parts.now [] step (SlabTake arena cache) result said.new }
 {
-    let Some((kind, mut slab)) = parts.reach_slabs(rt, said, EventName::SlabTake, arena, cache)
-    else {
+    let Some((kind, mut slab)) = parts.reach_slabs(rt, said, step, arena, cache) else {
         return Ok(None);
     };
-    Ok(take_chunk(&mut slab, said, &kind))
+    Ok(take_chunk(&mut slab, said, step, &kind))
 }
 
 /// Puts a chunk back into its slab.
+#[tactic(auto, using(crate::proofs::Came::put_back))]
 pub(crate) fn slab_put_in<N: Name, R: Wait>(
     parts: &LockedParts<N>,
     rt: &R,
     said: &mut Said,
+    step: NextStep,
     segment: Segment<SeatDeed<N>>,
 ) -> Result<(), GivenFault<PutFault<Segment<SeatDeed<N>>>, Segment<SeatDeed<N>>>>
     ensures sound { AnswersSoundly (nodes_of parts.now.arenas) (SlabPut segment) result }
-    ensures said { IsSaid (SlabPut segment) said.new }
+    ensures said { CameBy parts.now [] step (SlabPut segment) result said.new }
 {
     let number = cache_number(segment.route());
-    let Some((_, mut slab)) = parts.reach_slabs(
-        rt,
-        said,
-        EventName::SlabPut,
-        segment.arena(),
-        number,
-    ) else {
+    let Some((kind, mut slab)) = parts.reach_slabs(rt, said, step, segment.arena(), number) else {
         return Err(GivenFault::Refused(PutFault::NotMine(segment)));
     };
-    GivenFault::wrap(put_chunk(&mut slab, said, segment))
+    GivenFault::wrap(put_chunk(&mut slab, said, step, &kind, segment))
 }
 
 /// Makes a slab of the span, and takes its first chunk.
+#[tactic(auto, using(crate::proofs::Came::slab_made))]
 pub(crate) fn slab_add_in<N: Name, R: Wait>(
     parts: &LockedParts<N>,
     rt: &R,
     said: &mut Said,
+    step: NextStep,
     arena: u32,
     cache: u8,
     span: Segment<SeatDeed<N>>,
@@ -144,47 +150,48 @@ pub(crate) fn slab_add_in<N: Name, R: Wait>(
     requires direct { span.route ≡ Route.Direct }
     requires grid { span.holding.range.base % quantum_in (nodes_of parts.now.arenas) arena ≡ 0 }
     ensures sound { AnswersSoundly (nodes_of parts.now.arenas) (SlabAdd arena cache span) result }
-    ensures said { IsSaid (SlabAdd arena cache span) said.new }
+    ensures said { CameBy parts.now [] step (SlabAdd arena cache span) result said.new }
 {
-    let Some((kind, mut slab)) = parts.reach_slabs(rt, said, EventName::SlabAdd, arena, cache)
-    else {
+    let Some((kind, mut slab)) = parts.reach_slabs(rt, said, step, arena, cache) else {
         return Err(GivenFault::Refused(AddFault::WrongSize(span)));
     };
-    GivenFault::wrap(add_slab(&mut slab, said, &kind, span))
+    GivenFault::wrap(add_slab(&mut slab, said, step, &kind, span))
 }
 
 /// Takes a slab out of which no chunk is.
+#[tactic(auto, using(crate::proofs::Came::reaped))]
 pub(crate) fn slab_reap_in<N: Name, R: Wait>(
     parts: &LockedParts<N>,
     rt: &R,
     said: &mut Said,
+    step: NextStep,
     arena: u32,
     cache: u8,
 ) -> Result<Option<Segment<SeatDeed<N>>>, Stopped>
     ensures sound { AnswersSoundly (nodes_of parts.now.arenas) (SlabReap arena cache) result }
-    ensures said { IsSaid (SlabReap arena cache) said.new }
+    ensures said { CameBy parts.now [] step (SlabReap arena cache) result said.new }
 {
-    let Some((kind, mut slab)) = parts.reach_slabs(rt, said, EventName::SlabReap, arena, cache)
-    else {
+    let Some((kind, mut slab)) = parts.reach_slabs(rt, said, step, arena, cache) else {
         return Ok(None);
     };
-    Ok(reap_slab(&mut slab, said, &kind))
+    Ok(reap_slab(&mut slab, said, step, &kind))
 }
 
 /// Takes a round that the depot may let go.
+#[tactic(auto, using(crate::proofs::Came::round_reaped))]
 pub(crate) fn depot_reap_in<N: Name, R: Wait>(
     parts: &LockedParts<N>,
     rt: &R,
     said: &mut Said,
+    step: NextStep,
     arena: u32,
     cache: u8,
 ) -> Result<Option<Segment<SeatDeed<N>>>, Stopped>
     ensures sound { AnswersSoundly (nodes_of parts.now.arenas) (DepotReap arena cache) result }
-    ensures said { IsSaid (DepotReap arena cache) said.new }
+    ensures said { CameBy parts.now [] step (DepotReap arena cache) result said.new }
 {
-    let Some((kind, mut depot)) = parts.reach_depot(rt, said, EventName::DepotReap, arena, cache)
-    else {
+    let Some((kind, mut depot)) = parts.reach_depot(rt, said, step, arena, cache) else {
         return Ok(None);
     };
-    Ok(depot.reap_of(said, &kind))
+    Ok(depot.reap_of(said, step, &kind))
 }

@@ -44,9 +44,12 @@ impl<N: Name> Model for NewCache<N> {
 
 impl<N: Name> NewCache<N> {
     /// The cache with its slabs and its depot each under a lock.
-    fn lock(self) -> LockedCache<N> {
+    fn lock(self) -> LockedCache<N>
+        ensures { result ≡ self.kind }
+    {
         let NewCache { slab, depot } = self;
         LockedCache {
+            kind: depot.kind(),
             slab: Mutex::new(slab),
             depot: Mutex::new(depot),
         }

@@ -6,6 +6,7 @@ ghost use Rattle.deed_core.specs.Request.{plain_of};
 ghost use Rattle.arena_tree.specs.Chains.{IsGrant, quantum_in};
 ghost use Rattle.arena_tree.specs.Trees.{nodes_of};
 
+use crate::gates::{EventName, NextStep};
 use crate::locked_events::{
     add_carve_in, carve_in, depot_reap_in, free_in, slab_add_in, slab_put_in, slab_reap_in,
     slab_take_in,
@@ -25,6 +26,13 @@ use std::process::Abort;
 use std::sync::Wait;
 use std::test::Fail;
 use tag_arena::{Policy, SpanFault};
+
+/// The step at which each part is asked.
+const FIRST: NextStep = NextStep {
+    cpu: 0,
+    turn: 0,
+    event: EventName::Look,
+};
 
 /// Ends the test, with what it held.
 fn stuck<X, R: Abort>(rt: &R, held: X) -> ! {
@@ -98,7 +106,7 @@ fn carved<N: Name, R: Abort + Wait>(rt: &R, parts: &LockedParts<N>) -> Segment<S
     requires { 0 < length parts.now.arenas }
     ensures { IsGrant (nodes_of parts.now.arenas) 0 (plain_of 16) result }
 {
-    match carve_in(parts, rt, &mut Said::Nothing, 0, &Request::plain(16)) {
+    match carve_in(parts, rt, &mut Said::Nothing, FIRST, 0, &Request::plain(16)) {
         Ok(segment) => segment,
         Err(_) => panic!(rt; "no segment"),
     }
@@ -106,7 +114,7 @@ fn carved<N: Name, R: Abort + Wait>(rt: &R, parts: &LockedParts<N>) -> Segment<S
 
 /// Frees the segment, which makes no span whole.
 fn freed<N: Name, R: Abort + Wait>(rt: &R, parts: &LockedParts<N>, segment: Segment<SeatDeed<N>>) {
-    match free_in(parts, rt, &mut Said::Nothing, segment) {
+    match free_in(parts, rt, &mut Said::Nothing, FIRST, segment) {
         Ok(None) => {}
         Ok(Some(other)) => stuck(rt, other),
         Err(fault) => stuck(rt, fault),
@@ -117,13 +125,13 @@ fn freed<N: Name, R: Abort + Wait>(rt: &R, parts: &LockedParts<N>, segment: Segm
 fn of_arena<N: Name, R: Abort + Wait>(rt: &R, parts: &LockedParts<N>)
     requires { 0 < length parts.now.arenas }
 {
-    let Some(locked) = parts.cache(0, 1) else {
+    let Some((_, locked)) = parts.standing_cache(0, 1) else {
         panic!(rt; "no cache")
     };
     let _slabs = locked.slab.lock(rt);
     let _depot = locked.depot.lock(rt);
     let segment = carved(rt, parts);
-    match add_carve_in(parts, rt, &mut Said::Nothing, 0, segment, 16) {
+    match add_carve_in(parts, rt, &mut Said::Nothing, FIRST, 0, segment, 16) {
         Err(GivenFault::Refused(SpanFault::Overlaps(segment))) => freed(rt, parts, segment),
         held => stuck(rt, held),
     }
@@ -152,20 +160,20 @@ fn through_slabs<N: Name, R: Abort + Wait>(
     requires direct { span.route ≡ Route.Direct }
     requires grid { span.holding.range.base % quantum_in (nodes_of parts.now.arenas) 0 ≡ 0 }
 {
-    let (Some(arena), Some(locked)) = (parts.arenas.first(), parts.cache(0, 1)) else {
+    let (Some(arena), Some((_, locked))) = (parts.arenas.first(), parts.standing_cache(0, 1)) else {
         stuck(rt, span)
     };
     let _arena = arena.part.lock(rt);
     let _depot = locked.depot.lock(rt);
-    match slab_add_in(parts, rt, &mut Said::Nothing, 0, 1, span) {
+    match slab_add_in(parts, rt, &mut Said::Nothing, FIRST, 0, 1, span) {
         Ok(chunk) => put(rt, parts, chunk),
         held => stuck(rt, held),
     }
-    match slab_take_in(parts, rt, &mut Said::Nothing, 0, 1) {
+    match slab_take_in(parts, rt, &mut Said::Nothing, FIRST, 0, 1) {
         Ok(Some(chunk)) => put(rt, parts, chunk),
         held => stuck(rt, held),
     }
-    match slab_reap_in(parts, rt, &mut Said::Nothing, 0, 1) {
+    match slab_reap_in(parts, rt, &mut Said::Nothing, FIRST, 0, 1) {
         Ok(Some(span)) => span,
         held => stuck(rt, held),
     }
@@ -173,7 +181,7 @@ fn through_slabs<N: Name, R: Abort + Wait>(
 
 /// Puts the chunk back.
 fn put<N: Name, R: Abort + Wait>(rt: &R, parts: &LockedParts<N>, chunk: Segment<SeatDeed<N>>) {
-    match slab_put_in(parts, rt, &mut Said::Nothing, chunk) {
+    match slab_put_in(parts, rt, &mut Said::Nothing, FIRST, chunk) {
         Ok(()) => {}
         held => stuck(rt, held),
     }
@@ -183,7 +191,7 @@ fn put<N: Name, R: Abort + Wait>(rt: &R, parts: &LockedParts<N>, chunk: Segment<
 fn of_depot<N: Name, R: Abort + Wait + AllocGlobal>(rt: &R, parts: &LockedParts<N>)
     requires { 0 < length parts.now.arenas }
 {
-    let (Some(arena), Some(locked)) = (parts.arenas.first(), parts.cache(0, 1)) else {
+    let (Some(arena), Some((_, locked))) = (parts.arenas.first(), parts.standing_cache(0, 1)) else {
         panic!(rt; "no cache")
     };
     let _arena = arena.part.lock(rt);
@@ -191,14 +199,14 @@ fn of_depot<N: Name, R: Abort + Wait + AllocGlobal>(rt: &R, parts: &LockedParts<
     let Ok(mut caches) = new_rounds::<N>(rt.alloc(), parts.tree()) else {
         panic!(rt; "memory")
     };
-    let full = swap_full_in(parts, rt, &mut caches, 0, 1);
-    let empty = swap_empty_in(parts, rt, &mut caches, 0, 1);
-    let fresh = swap_fresh_in(parts, rt, &mut caches, 0, 1);
+    let full = swap_full_in(parts, rt, &mut Said::Nothing, FIRST, &mut caches, 0, 1);
+    let empty = swap_empty_in(parts, rt, &mut Said::Nothing, FIRST, &mut caches, 0, 1);
+    let fresh = swap_fresh_in(parts, rt, &mut Said::Nothing, FIRST, &mut caches, 0, 1);
     if full.is_ok() || empty.is_ok() || fresh.is_ok() {
         stuck(rt, caches)
     }
     end_rounds(caches);
-    match depot_reap_in(parts, rt, &mut Said::Nothing, 0, 1) {
+    match depot_reap_in(parts, rt, &mut Said::Nothing, FIRST, 0, 1) {
         Ok(None) => {}
         Ok(Some(round)) => stuck(rt, round),
         Err(fault) => stuck(rt, fault),

@@ -6,10 +6,14 @@ ghost use Rattle.arena_tree.specs.Trees.{nodes_of};
 ghost use Rattle.locked_parts.specs.Answers.{AnswersSoundly};
 ghost use Rattle.locked_parts.specs.Kinds.{OwnCacheState, AreForSame, count_of_rounds};
 ghost use Rattle.locked_parts.specs.Owns.{IsOwnAt, HasNoOwn, OwnStep};
+ghost use Rattle.locked_parts.specs.Saying.{CameBy};
 
+use crate::gates::NextStep;
+use crate::kind_depots::end_empty;
 use crate::kinds::CacheKind;
 use crate::own_caches::OwnCache;
 use crate::parts::LockedParts;
+use crate::said::Said;
 use arena_tree::{ChangeFault, FreshFault, GivenFault, PartFault, Stopped};
 use deed_core::Segment;
 use deed_table::{Name, SeatDeed};
@@ -120,9 +124,12 @@ pub(crate) fn change_in<N: Name>(
 }
 
 /// Exchanges an empty magazine for a full one of the depot.
+#[tactic(auto, using(crate::proofs::Came::got_full))]
 pub(crate) fn swap_full_in<N: Name, R: Wait>(
     parts: &LockedParts<N>,
     rt: &R,
+    said: &mut Said,
+    step: NextStep,
     caches: &mut Vec<OwnCache<SeatDeed<N>>>,
     arena: u32,
     cache: u8,
@@ -130,23 +137,26 @@ pub(crate) fn swap_full_in<N: Name, R: Wait>(
     ensures does { OwnStep parts.now.arenas (SwapFull arena cache) result
         caches.old.items caches.new.items }
     ensures unchanged { OnErr result (caches.new.items ≡ caches.old.items) }
+    ensures said { CameBy parts.now caches.old.items step (SwapFull arena cache) result said.new }
     ensures sound { AnswersSoundly (nodes_of parts.now.arenas) (SwapFull arena cache) result }
     ensures kinds { AreForSame caches.old.items caches.new.items }
 {
     let Some(own) = own_at(parts, caches, arena, cache) else {
         return Err(PartFault::Refused(FullFault::NoneFull));
     };
-    let Some(locked) = parts.cache(arena, cache) else {
+    let Some((_, mut depot)) = parts.reach_depot(rt, said, step, arena, cache) else {
         return Err(PartFault::Refused(FullFault::NoneFull));
     };
-    let mut depot = locked.depot.lock(rt);
-    PartFault::wrap(depot.swap_full(&mut caches[own]))
+    PartFault::wrap(depot.swap_full(said, step, &mut caches[own]))
 }
 
 /// Exchanges a full magazine for an empty one of the depot.
+#[tactic(auto, using(crate::proofs::Came::got_empty))]
 pub(crate) fn swap_empty_in<N: Name, R: Wait>(
     parts: &LockedParts<N>,
     rt: &R,
+    said: &mut Said,
+    step: NextStep,
     caches: &mut Vec<OwnCache<SeatDeed<N>>>,
     arena: u32,
     cache: u8,
@@ -154,23 +164,26 @@ pub(crate) fn swap_empty_in<N: Name, R: Wait>(
     ensures does { OwnStep parts.now.arenas (SwapEmpty arena cache) result
         caches.old.items caches.new.items }
     ensures unchanged { OnErr result (caches.new.items ≡ caches.old.items) }
+    ensures said { CameBy parts.now caches.old.items step (SwapEmpty arena cache) result said.new }
     ensures sound { AnswersSoundly (nodes_of parts.now.arenas) (SwapEmpty arena cache) result }
     ensures kinds { AreForSame caches.old.items caches.new.items }
 {
     let Some(own) = own_at(parts, caches, arena, cache) else {
         return Err(PartFault::Refused(EmptyFault::NoneEmpty));
     };
-    let Some(locked) = parts.cache(arena, cache) else {
+    let Some((_, mut depot)) = parts.reach_depot(rt, said, step, arena, cache) else {
         return Err(PartFault::Refused(EmptyFault::NoneEmpty));
     };
-    let mut depot = locked.depot.lock(rt);
-    PartFault::wrap(depot.swap_empty(&mut caches[own]))
+    PartFault::wrap(depot.swap_empty(said, step, &mut caches[own]))
 }
 
 /// Exchanges a full magazine for one that is made. No memory is asked for where they aren't full.
+#[tactic(auto, using(crate::proofs::Came::got_fresh))]
 pub(crate) fn swap_fresh_in<N: Name, R: Wait>(
     parts: &LockedParts<N>,
     rt: &R,
+    said: &mut Said,
+    step: NextStep,
     caches: &mut Vec<OwnCache<SeatDeed<N>>>,
     arena: u32,
     cache: u8,
@@ -178,13 +191,11 @@ pub(crate) fn swap_fresh_in<N: Name, R: Wait>(
     ensures does { OwnStep parts.now.arenas (SwapFresh arena cache) result
         caches.old.items caches.new.items }
     ensures unchanged { OnErr result (caches.new.items ≡ caches.old.items) }
+    ensures said { CameBy parts.now caches.old.items step (SwapFresh arena cache) result said.new }
     ensures sound { AnswersSoundly (nodes_of parts.now.arenas) (SwapFresh arena cache) result }
     ensures kinds { AreForSame caches.old.items caches.new.items }
 {
     let Some(own) = own_at(parts, caches, arena, cache) else {
-        return Err(PartFault::Refused(FreshFault::NotFull));
-    };
-    let Some(locked) = parts.cache(arena, cache) else {
         return Err(PartFault::Refused(FreshFault::NotFull));
     };
     if !caches[own].is_full() {
@@ -194,6 +205,9 @@ pub(crate) fn swap_fresh_in<N: Name, R: Wait>(
     let Ok(magazine) = Magazine::new(parts.alloc, size) else {
         return Err(PartFault::Refused(FreshFault::NoMemory));
     };
-    let mut depot = locked.depot.lock(rt);
-    PartFault::wrap(depot.swap_fresh(&mut caches[own], magazine))
+    let Some((_, mut depot)) = parts.reach_depot(rt, said, step, arena, cache) else {
+        end_empty(magazine);
+        return Err(PartFault::Refused(FreshFault::NotFull));
+    };
+    PartFault::wrap(depot.swap_fresh(said, step, &mut caches[own], magazine))
 }

@@ -71,7 +71,7 @@ impl<N: Name, R: Wait> CacheUnits for LockedSlabs<'_, N, R> {
             number: cache,
             quantum: self.quantum,
         };
-        let Some(locked) = self.parts.cache(self.arena, cache) else {
+        let Some((_, locked)) = self.parts.standing_cache(self.arena, cache) else {
             return 0;
         };
         let slab = locked.slab.lock(self.rt);
@@ -102,7 +102,7 @@ impl<N: Name, R: Wait> CacheUnits for LockedRounds<'_, N, R> {
             number: cache,
             quantum: self.quantum,
         };
-        let Some(locked) = self.parts.cache(self.arena, cache) else {
+        let Some((_, locked)) = self.parts.standing_cache(self.arena, cache) else {
             return 0;
         };
         locked.depot.lock(self.rt).units_of(&kind)

@@ -1,11 +1,12 @@
 //! The parts of a system, each under its lock.
 ghost use Rattle.std.specs.Prelude.{◌≡◌, ◌+◌, ◌<◌, IfErr, IfSome, OnErr, OnOk, Err, length, true};
-ghost use Rattle.std.specs.Prelude.{IfOk};
+ghost use Rattle.std.specs.Prelude.{IfOk, IfNone};
 ghost use Rattle.arena_tree.specs.Chains.{quantum_in};
 ghost use Rattle.arena_tree.specs.Trees.{nodes_of};
 ghost use Rattle.locked_parts.specs.Kinds.{count_of_caches, caches_before, AreCachesBefore};
 ghost use Rattle.locked_parts.specs.Growing.{AnswersGrow, HasRootsMore, IsGrowthBy, IsRootArena};
 ghost use Rattle.locked_parts.specs.Growing.{MayRefuseGrow};
+ghost use Rattle.locked_parts.specs.Saying.{HasCache};
 ghost use Rattle.magazine_layer.specs.Magazines.{IsSize};
 
 use crate::arena_parts::{ArenaPart, Grown};
@@ -21,20 +22,39 @@ use std::alloc::{AllocError, Global};
 use std::marker::Model;
 use std::sync::{Mutex, Wait};
 
-/// A quantum cache: its slabs and its depot, each under its lock.
+/// A quantum cache: its slabs and its depot, each under its lock. A contract sees which it was made
+/// as.
 pub(crate) struct LockedCache<N: Name> {
+    pub(crate) kind: CacheKind,
     pub(crate) slab: Mutex<SlabCache<SeatDeed<N>>>,
     pub(crate) depot: Mutex<KindDepot<SeatDeed<N>>>,
 }
 
-/// An arena under its lock, and its quantum caches by their numbers, from 1 on.
+impl<N: Name> Model for LockedCache<N> {
+    ghost use Rattle.locked_parts.specs.declared.kinds.CacheKind.{CacheKind};
+
+    ghost Value = { CacheKind };
+
+    ghost view = { λ c. c.kind };
+}
+
+/// An arena under its lock, and its quantum caches by their numbers, from 1 on. A contract sees
+/// these.
 pub struct LockedArena<N: Name> {
     pub(crate) part: Mutex<ArenaPart<N>>,
     pub(crate) caches: Vec<LockedCache<N>>,
 }
 
+impl<N: Name> Model for LockedArena<N> {
+    ghost use Rattle.locked_parts.specs.States.{LockedArenaState};
+
+    ghost Value = { LockedArenaState };
+
+    ghost view = { λ a. record { kinds = a.caches.items } };
+}
+
 /// Arenas with their quantum caches, each part under a lock of its own. A contract sees the arenas
-/// as they were set up, and how many stand, which are the first ones.
+/// as they were set up, and those that stand, which are the first ones.
 pub struct LockedParts<N: Name> {
     pub(crate) alloc: Global,
     pub(crate) tree: Tree,
@@ -50,9 +70,25 @@ impl<N: Name> Model for LockedParts<N> {
 
     ghost Value = { LockedPartsState };
 
-    ghost view = { λ p. record { arenas = p.tree; standing = vec_len p.arenas } };
+    ghost view = { λ p.
+        record { arenas = p.tree; standing = vec_len p.arenas; stand = p.arenas.items } };
 
     ghost invariant = { λ p. AreCachesBefore p.tree p.caches_before };
+}
+
+impl<N: Name> LockedArena<N> {
+    /// Where the quantum cache of this number is kept, if it stands.
+    pub(crate) fn cache(&self, number: u8) -> Option<&LockedCache<N>>
+        ensures { IfNone result (¬ HasCache self.now number) }
+    {
+        if number == 0 {
+            return None;
+        }
+        if number as usize > self.caches.len() {
+            return None;
+        }
+        Some(&self.caches[number as usize - 1])
+    }
 }
 
 impl<N: Name> LockedParts<N> {
@@ -60,6 +96,7 @@ impl<N: Name> LockedParts<N> {
     pub fn new(alloc: Global, tree: Tree, arenas: Vec<LockedArena<N>>) -> LockedParts<N>
         ensures arenas { result.arenas ≡ tree }
         ensures standing { result.standing ≡ length arenas.items }
+        ensures stand { result.stand ≡ arenas.items }
     {
         let caches_before = all_caches_before(&tree);
         LockedParts {
@@ -82,32 +119,7 @@ impl<N: Name> LockedParts<N> {
         &self.tree
     }
 
-    /// The quantum cache of the arena with this number, if the arena was set up.
-    pub(crate) fn kind(&self, arena: u32, number: u8) -> Option<CacheKind>
-        ensures kind { IfSome result (λ k. (k.arena ≡ arena) × (k.number ≡ number)
-            × (0 < k.quantum) × (quantum_in (nodes_of self.now.arenas) arena ≡ k.quantum)) }
-    {
-        if arena as usize >= self.tree.len() {
-            return None;
-        }
-        let quantum = self.tree.quantum(arena);
-        Some(CacheKind {
-            arena,
-            number,
-            quantum,
-        })
-    }
-
-    /// Where that cache is kept.
-    pub(crate) fn cache(&self, arena: u32, number: u8) -> Option<&LockedCache<N>> {
-        if number == 0 {
-            return None;
-        }
-        let locked = self.arenas.get(arena as usize)?;
-        locked.caches.get(number as usize - 1)
-    }
-
-    /// Where a CPU keeps its magazines for that cache: after those for the caches of the arenas
+    /// Where a CPU keeps its magazines for a quantum cache: after those for the caches of the arenas
     /// before, and for the lesser ones of the arena.
     pub(crate) fn own_index(&self, arena: u32, number: u8) -> usize
         ensures { arena < length self.now.arenas → 0 < number

@@ -5,28 +5,19 @@ ghost use Rattle.std.specs.Sync.Mutex.{mutex_guard_value};
 ghost use Rattle.arena_tree.specs.Chains.{quantum_in};
 ghost use Rattle.arena_tree.specs.Trees.{nodes_of};
 ghost use Rattle.locked_parts.specs.Kinds.{AreSlabsOf};
-ghost use Rattle.locked_parts.specs.Saying.{IsSaidByArena, IsSaidByCache};
+ghost use Rattle.locked_parts.specs.Owns.{cache_of};
+ghost use Rattle.locked_parts.specs.Saying.{AreNoSlabs, IsNoArena, IsNoCache, IsNoDepot};
 
 use crate::arena_parts::ArenaPart;
-use crate::gates::EventName;
+use crate::gates::NextStep;
 use crate::kind_depots::KindDepot;
 use crate::kinds::CacheKind;
-use crate::parts::LockedParts;
+use crate::parts::{LockedCache, LockedParts};
 use crate::said::Said;
-use crate::slab_parts::is_kind;
+use crate::slab_parts::are_slabs_of;
 use deed_table::{Name, SeatDeed};
 use slab_layer::SlabCache;
 use std::sync::{MutexGuard, Wait};
-
-/// That an event was to come, but an arena has no such quantum cache, or there is no such arena,
-/// where the cache is 0: none stands there, or another. Only this module makes one, where it
-/// looked.
-#[derive(Clone, Copy, PartialEq, Eq, Debug)]
-pub struct NoPart {
-    arena: u32,
-    cache: u8,
-    event: EventName,
-}
 
 /// The slabs of a quantum cache under their lock.
 type SlabGuard<'a, N> = MutexGuard<'a, SlabCache<SeatDeed<N>>>;
@@ -35,122 +26,110 @@ type SlabGuard<'a, N> = MutexGuard<'a, SlabCache<SeatDeed<N>>>;
 type DepotGuard<'a, N> = MutexGuard<'a, KindDepot<SeatDeed<N>>>;
 
 impl<N: Name> LockedParts<N> {
-    /// The arena with this number under its lock, or says that there is none.
+    /// The arena with this number under its lock, if it was set up and stands.
     pub(crate) fn reach_arena<R: Wait>(
         &self,
         rt: &R,
         said: &mut Said,
-        event: EventName,
+        step: NextStep,
         arena: u32,
     ) -> Option<MutexGuard<'_, ArenaPart<N>>>
         ensures within { IfSome result (λ _. arena < length self.now.arenas) }
         ensures here { IfSome result (λ g. (mutex_guard_value g).arena.id ≡ arena) }
-        ensures none { IfNone result (IsSaidByArena arena event said.new) }
-    {
-        match self.standing_arena(rt, arena) {
-            Some(part) => Some(part),
-            None => {
-                *said = Said::NoPart(NoPart {
-                    arena,
-                    cache: 0,
-                    event,
-                });
-                None
-            }
-        }
-    }
-
-    /// The arena with this number, if it was set up and stands.
-    fn standing_arena<R: Wait>(&self, rt: &R, arena: u32) -> Option<MutexGuard<'_, ArenaPart<N>>>
-        ensures within { IfSome result (λ _. arena < length self.now.arenas) }
-        ensures here { IfSome result (λ g. (mutex_guard_value g).arena.id ≡ arena) }
+        ensures none { IfNone result (IsNoArena self.now arena step said.new) }
     {
         if arena as usize >= self.tree.len() {
             return None;
         }
-        let locked = self.arenas.get(arena as usize)?;
+        if arena as usize >= self.arenas.len() {
+            return None;
+        }
+        let locked = &self.arenas[arena as usize];
         let part = locked.part.lock(rt);
-        if part.arena.id() != arena {
+        if !part.is(said, step, arena) {
             return None;
         }
         Some(part)
     }
 
-    /// The slabs of that quantum cache under their lock, or says that there are none.
+    /// The quantum cache of this number, with where its parts are kept, if it stands.
+    #[tactic(auto, using(crate::proofs::Came::lacks))]
+    pub(crate) fn standing_cache(
+        &self,
+        arena: u32,
+        number: u8,
+    ) -> Option<(CacheKind, &LockedCache<N>)>
+        ensures kind { IfSome result (λ f. (f.0.arena ≡ arena) × (f.0.number ≡ number)
+            × (0 < f.0.quantum) × (quantum_in (nodes_of self.now.arenas) arena ≡ f.0.quantum)) }
+        ensures same { IfSome result (λ f. f.0 ≡ cache_of self.now.arenas arena number) }
+        ensures none { IfNone result (IsNoCache self.now arena number) }
+    {
+        if arena as usize >= self.tree.len() {
+            return None;
+        }
+        if arena as usize >= self.arenas.len() {
+            return None;
+        }
+        let locked = &self.arenas[arena as usize];
+        let Some(cache) = locked.cache(number) else {
+            return None;
+        };
+        let quantum = self.tree.quantum(arena);
+        let kind = CacheKind {
+            arena,
+            number,
+            quantum,
+        };
+        Some((kind, cache))
+    }
+
+    /// The slabs of that quantum cache under their lock.
     pub(crate) fn reach_slabs<R: Wait>(
         &self,
         rt: &R,
         said: &mut Said,
-        event: EventName,
+        step: NextStep,
         arena: u32,
         number: u8,
     ) -> Option<(CacheKind, SlabGuard<'_, N>)>
         ensures kind { IfSome result (λ f. (f.0.arena ≡ arena) × (f.0.number ≡ number)
             × (0 < f.0.quantum) × (quantum_in (nodes_of self.now.arenas) arena ≡ f.0.quantum)) }
+        ensures same { IfSome result (λ f. f.0 ≡ cache_of self.now.arenas arena number) }
         ensures here { IfSome result (λ f. AreSlabsOf f.0 (mutex_guard_value f.1)) }
-        ensures none { IfNone result (IsSaidByCache arena number event said.new) }
+        ensures none { IfNone result (AreNoSlabs self.now arena number step said.new) }
     {
-        if let Some(kind) = self.kind(arena, number) {
-            if let Some(slab) = self.standing_slabs(rt, &kind) {
-                return Some((kind, slab));
-            }
-        }
-        *said = Said::NoPart(NoPart {
-            arena,
-            cache: number,
-            event,
-        });
-        None
-    }
-
-    /// The slabs of the quantum cache, if they stand.
-    fn standing_slabs<R: Wait>(&self, rt: &R, kind: &CacheKind) -> Option<SlabGuard<'_, N>>
-        ensures { IfSome result (λ g. AreSlabsOf kind.now (mutex_guard_value g)) }
-    {
-        let locked = self.cache(kind.arena, kind.number)?;
+        let Some((kind, locked)) = self.standing_cache(arena, number) else {
+            return None;
+        };
         let slab = locked.slab.lock(rt);
-        if !is_kind(&slab, kind) {
+        if !are_slabs_of(&slab, said, step, &kind) {
             return None;
         }
-        Some(slab)
+        Some((kind, slab))
     }
 
-    /// The depot of that quantum cache under its lock, or says that there is none.
+    /// Its depot under its lock.
     pub(crate) fn reach_depot<R: Wait>(
         &self,
         rt: &R,
         said: &mut Said,
-        event: EventName,
+        step: NextStep,
         arena: u32,
         number: u8,
     ) -> Option<(CacheKind, DepotGuard<'_, N>)>
         ensures kind { IfSome result (λ f. (f.0.arena ≡ arena) × (f.0.number ≡ number)
             × (0 < f.0.quantum) × (quantum_in (nodes_of self.now.arenas) arena ≡ f.0.quantum)) }
+        ensures same { IfSome result (λ f. f.0 ≡ cache_of self.now.arenas arena number) }
         ensures here { IfSome result (λ f. (mutex_guard_value f.1).kind ≡ f.0) }
-        ensures none { IfNone result (IsSaidByCache arena number event said.new) }
+        ensures none { IfNone result (IsNoDepot self.now arena number step said.new) }
     {
-        if let Some(kind) = self.kind(arena, number) {
-            if let Some(depot) = self.standing_depot(rt, &kind) {
-                return Some((kind, depot));
-            }
-        }
-        *said = Said::NoPart(NoPart {
-            arena,
-            cache: number,
-            event,
-        });
-        None
-    }
-
-    /// The depot of the quantum cache, if it stands.
-    fn standing_depot<R: Wait>(&self, rt: &R, kind: &CacheKind) -> Option<DepotGuard<'_, N>>
-        ensures { IfSome result (λ g. (mutex_guard_value g).kind ≡ kind.now) }
-    {
-        let locked = self.cache(kind.arena, kind.number)?;
+        let Some((kind, locked)) = self.standing_cache(arena, number) else {
+            return None;
+        };
         let depot = locked.depot.lock(rt);
-        if !depot.kind().is(kind) {
+        if !depot.is(said, step, &kind) {
             return None;
         }
-        Some(depot)
+        Some((kind, depot))
     }
 }

@@ -4,10 +4,10 @@
 ghost use Rattle.std.specs.Prelude.{◌≡◌, true, false};
 ghost use Rattle.arena_tree.specs.Stops.{is_stopped};
 ghost use Rattle.arena_tree.specs.Trees.{nodes_of};
-ghost use Rattle.locked_parts.specs.Gates.{AsksGate, NotesStops, step_named};
+ghost use Rattle.locked_parts.specs.Gates.{AsksGate, NotesStops, step_after, step_named};
 ghost use Rattle.locked_parts.specs.Kinds.{AreForSame, count_of_rounds};
 ghost use Rattle.locked_parts.specs.Owns.{OwnStep};
-ghost use Rattle.locked_parts.specs.Saying.{IsSaid};
+ghost use Rattle.locked_parts.specs.Saying.{CameBy};
 
 use crate::gates::{EventName, Gate, StepCount};
 use crate::locked_events::{
@@ -78,7 +78,8 @@ impl<N: Name, R: Wait, G: Gate> Parts<Segment<SeatDeed<N>>> for Running<'_, N, R
         × (is_stopped e a ≡ true → t.steps.noted ≡ true)
         × (is_stopped e a ≡ false → t.steps.noted ≡ s.steps.noted)
         × AsksGate G.may_stop G.passed s.gate.now (step_named e) (is_stopped e a) s.steps t.steps
-        × (is_stopped e a ≡ false → IsSaid e t.said)
+        × (is_stopped e a ≡ false → CameBy s.parts.now s.caches.now.items
+        (step_after s.steps (step_named e)) e a t.said)
         × OwnStep s.parts.now.arenas e a s.caches.now.items t.caches.now.items };
 
     ghost tree = { λ s. nodes_of s.parts.now.arenas };
@@ -91,18 +92,21 @@ impl<N: Name, R: Wait, G: Gate> Parts<Segment<SeatDeed<N>>> for Running<'_, N, R
         self.count
     }
 
+    #[tactic(auto, using(crate::proofs::Came::carve_tagged))]
     fn carve(
         &mut self,
         arena: u32,
         request: &Request,
     ) -> Result<Segment<SeatDeed<N>>, PartFault<ArenaFault>> {
-        if self.steps.stops(self.gate, EventName::Carve) {
+        let step = self.steps.next(EventName::Carve);
+        if self.steps.stops(self.gate, step.event) {
             return Err(PartFault::Stopped);
         }
         self.count = self.count.saturating_add(1);
-        carve_in(self.parts, self.rt, &mut self.said, arena, request)
+        carve_in(self.parts, self.rt, &mut self.said, step, arena, request)
     }
 
+    #[tactic(auto, using(crate::proofs::Came::free_tagged))]
     fn free(
         &mut self,
         segment: Segment<SeatDeed<N>>,
@@ -110,13 +114,15 @@ impl<N: Name, R: Wait, G: Gate> Parts<Segment<SeatDeed<N>>> for Running<'_, N, R
         Option<Segment<SeatDeed<N>>>,
         GivenFault<Segment<SeatDeed<N>>, Segment<SeatDeed<N>>>,
     > {
-        if self.steps.stops(self.gate, EventName::Free) {
+        let step = self.steps.next(EventName::Free);
+        if self.steps.stops(self.gate, step.event) {
             return Err(GivenFault::Stopped(segment));
         }
         self.count = self.count.saturating_add(1);
-        free_in(self.parts, self.rt, &mut self.said, segment)
+        free_in(self.parts, self.rt, &mut self.said, step, segment)
     }
 
+    #[tactic(auto, using(crate::proofs::Came::add_tagged))]
     fn add_carve(
         &mut self,
         child: u32,
@@ -126,36 +132,50 @@ impl<N: Name, R: Wait, G: Gate> Parts<Segment<SeatDeed<N>>> for Running<'_, N, R
         Segment<SeatDeed<N>>,
         GivenFault<SpanFault<Segment<SeatDeed<N>>>, Segment<SeatDeed<N>>>,
     > {
-        if self.steps.stops(self.gate, EventName::AddCarve) {
+        let step = self.steps.next(EventName::AddCarve);
+        if self.steps.stops(self.gate, step.event) {
             return Err(GivenFault::Stopped(segment));
         }
         self.count = self.count.saturating_add(1);
-        add_carve_in(self.parts, self.rt, &mut self.said, child, segment, size)
+        add_carve_in(
+            self.parts,
+            self.rt,
+            &mut self.said,
+            step,
+            child,
+            segment,
+            size,
+        )
     }
 
+    #[tactic(auto, using(crate::proofs::Came::take_tagged))]
     fn slab_take(
         &mut self,
         arena: u32,
         cache: u8,
     ) -> Result<Option<Segment<SeatDeed<N>>>, Stopped> {
-        if self.steps.stops(self.gate, EventName::SlabTake) {
+        let step = self.steps.next(EventName::SlabTake);
+        if self.steps.stops(self.gate, step.event) {
             return Err(Stopped);
         }
         self.count = self.count.saturating_add(1);
-        slab_take_in(self.parts, self.rt, &mut self.said, arena, cache)
+        slab_take_in(self.parts, self.rt, &mut self.said, step, arena, cache)
     }
 
+    #[tactic(auto, using(crate::proofs::Came::put_tagged))]
     fn slab_put(
         &mut self,
         segment: Segment<SeatDeed<N>>,
     ) -> Result<(), GivenFault<PutFault<Segment<SeatDeed<N>>>, Segment<SeatDeed<N>>>> {
-        if self.steps.stops(self.gate, EventName::SlabPut) {
+        let step = self.steps.next(EventName::SlabPut);
+        if self.steps.stops(self.gate, step.event) {
             return Err(GivenFault::Stopped(segment));
         }
         self.count = self.count.saturating_add(1);
-        slab_put_in(self.parts, self.rt, &mut self.said, segment)
+        slab_put_in(self.parts, self.rt, &mut self.said, step, segment)
     }
 
+    #[tactic(auto, using(crate::proofs::Came::slab_tagged))]
     fn slab_add(
         &mut self,
         arena: u32,
@@ -165,59 +185,99 @@ impl<N: Name, R: Wait, G: Gate> Parts<Segment<SeatDeed<N>>> for Running<'_, N, R
         Segment<SeatDeed<N>>,
         GivenFault<AddFault<Segment<SeatDeed<N>>>, Segment<SeatDeed<N>>>,
     > {
-        if self.steps.stops(self.gate, EventName::SlabAdd) {
+        let step = self.steps.next(EventName::SlabAdd);
+        if self.steps.stops(self.gate, step.event) {
             return Err(GivenFault::Stopped(segment));
         }
         self.count = self.count.saturating_add(1);
-        slab_add_in(self.parts, self.rt, &mut self.said, arena, cache, segment)
+        slab_add_in(
+            self.parts,
+            self.rt,
+            &mut self.said,
+            step,
+            arena,
+            cache,
+            segment,
+        )
     }
 
+    #[tactic(auto, using(crate::proofs::Came::reap_tagged))]
     fn slab_reap(
         &mut self,
         arena: u32,
         cache: u8,
     ) -> Result<Option<Segment<SeatDeed<N>>>, Stopped> {
-        if self.steps.stops(self.gate, EventName::SlabReap) {
+        let step = self.steps.next(EventName::SlabReap);
+        if self.steps.stops(self.gate, step.event) {
             return Err(Stopped);
         }
         self.count = self.count.saturating_add(1);
-        slab_reap_in(self.parts, self.rt, &mut self.said, arena, cache)
+        slab_reap_in(self.parts, self.rt, &mut self.said, step, arena, cache)
     }
 
     fn swap_full(&mut self, arena: u32, cache: u8) -> Result<(), PartFault<FullFault>> {
-        if self.steps.stops(self.gate, EventName::SwapFull) {
+        let step = self.steps.next(EventName::SwapFull);
+        if self.steps.stops(self.gate, step.event) {
             return Err(PartFault::Stopped);
         }
         self.count = self.count.saturating_add(1);
-        swap_full_in(self.parts, self.rt, self.caches, arena, cache)
+        swap_full_in(
+            self.parts,
+            self.rt,
+            &mut self.said,
+            step,
+            self.caches,
+            arena,
+            cache,
+        )
     }
 
     fn swap_empty(&mut self, arena: u32, cache: u8) -> Result<(), PartFault<EmptyFault>> {
-        if self.steps.stops(self.gate, EventName::SwapEmpty) {
+        let step = self.steps.next(EventName::SwapEmpty);
+        if self.steps.stops(self.gate, step.event) {
             return Err(PartFault::Stopped);
         }
         self.count = self.count.saturating_add(1);
-        swap_empty_in(self.parts, self.rt, self.caches, arena, cache)
+        swap_empty_in(
+            self.parts,
+            self.rt,
+            &mut self.said,
+            step,
+            self.caches,
+            arena,
+            cache,
+        )
     }
 
     fn swap_fresh(&mut self, arena: u32, cache: u8) -> Result<(), PartFault<FreshFault>> {
-        if self.steps.stops(self.gate, EventName::SwapEmpty) {
+        let step = self.steps.next(EventName::SwapEmpty);
+        if self.steps.stops(self.gate, step.event) {
             return Err(PartFault::Stopped);
         }
         self.count = self.count.saturating_add(1);
-        swap_fresh_in(self.parts, self.rt, self.caches, arena, cache)
+        swap_fresh_in(
+            self.parts,
+            self.rt,
+            &mut self.said,
+            step,
+            self.caches,
+            arena,
+            cache,
+        )
     }
 
+    #[tactic(auto, using(crate::proofs::Came::round_tagged))]
     fn depot_reap(
         &mut self,
         arena: u32,
         cache: u8,
     ) -> Result<Option<Segment<SeatDeed<N>>>, Stopped> {
-        if self.steps.stops(self.gate, EventName::DepotReap) {
+        let step = self.steps.next(EventName::DepotReap);
+        if self.steps.stops(self.gate, step.event) {
             return Err(Stopped);
         }
         self.count = self.count.saturating_add(1);
-        depot_reap_in(self.parts, self.rt, &mut self.said, arena, cache)
+        depot_reap_in(self.parts, self.rt, &mut self.said, step, arena, cache)
     }
 
     fn pop(&mut self, arena: u32, cache: u8) -> Result<Option<Segment<SeatDeed<N>>>, Stopped> {

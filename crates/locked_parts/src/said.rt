@@ -1,11 +1,10 @@
 //! By which part an event came.
 use crate::arena_parts::ArenaSaid;
 use crate::kind_depots::DepotSaid;
-use crate::reached::NoPart;
 use crate::slab_parts::SlabSaid;
 
-/// What the part said that a CPU reached last: which one it was asked as, and for which event. Each
-/// of these values is made where the part is, and nowhere else.
+/// What the part said that a CPU reached last: which one it is, at which step it was asked, and
+/// what it answered. Each of these values is made where the part is, and nowhere else.
 #[derive(Clone, Copy, PartialEq, Eq, Debug)]
 pub enum Said {
     /// No part was reached yet.
@@ -13,6 +12,4 @@ pub enum Said {
     Arena(ArenaSaid),
     Slab(SlabSaid),
     Depot(DepotSaid),
-    /// There is no such part.
-    NoPart(NoPart),
 }

@@ -1,7 +1,7 @@
 //! The events of a slab cache under its lock. Each looks whether it is the cache that is meant;
 //! what is put back tells that by itself.
 ghost use Rattle.std.specs.Prelude.{◌≡◌, ◌↔◌, ◌<◌, All, IsTrue, IfSome, IfOk, IfErr, Ok, Err, Some};
-ghost use Rattle.std.specs.Prelude.{OnErr, ℕ};
+ghost use Rattle.std.specs.Prelude.{OnErr, true, false};
 ghost use Rattle.std.specs.Prelude.{IfNone};
 ghost use Rattle.slab_layer.specs.Calls.{TakeOf, AddOf, PutOf, ReapOf};
 ghost use Rattle.slab_layer.specs.Slab.{IsAllOut, IsComplete};
@@ -10,35 +10,44 @@ ghost use Rattle.deed_core.specs.Covering.{units_held};
 ghost use Rattle.arena_tree.specs.Events.{segment_of_slab_add};
 ghost use Rattle.locked_parts.specs.Answers.{IsSpanOfKind};
 ghost use Rattle.locked_parts.specs.Kinds.{IsOfKind, AreSlabsOf};
-ghost use Rattle.locked_parts.specs.Saying.{IsSaidByCache, number_of_cache};
+ghost use Rattle.locked_parts.specs.Saying.{AreOtherSlabs, number_of_cache, slabs_said};
 ghost use Rattle.locked_parts.specs.Sums.{SlabsTell};
+ghost use Rattle.locked_parts.specs.Words.{given_word, put_word, add_word};
+ghost use Rattle.locked_parts.specs.declared.kinds.CacheKind.{CacheKind};
 
-use crate::gates::EventName;
+use crate::gates::NextStep;
 use crate::kinds::CacheKind;
 use crate::said::Said;
+use crate::words::{Word, word_of_add, word_of_given, word_of_put};
 use arena_tree::GivenFault;
 use deed_core::{Deed, Route, Segment};
 use slab_layer::{AddFault, PutFault, SlabCache};
+use std::marker::Model;
 
-/// That the slabs of this cache of an arena were asked for an event. Only the functions of this
-/// module make one, where the slabs are asked.
+/// What the slabs of this quantum cache answered, and at which step they were asked. Only the
+/// functions of this module make one, where the slabs are asked.
 #[derive(Clone, Copy, PartialEq, Eq, Debug)]
 pub struct SlabSaid {
-    arena: u32,
-    cache: u8,
-    event: EventName,
+    kind: CacheKind,
+    step: NextStep,
+    word: Word,
 }
 
-/// That they are asked for the event.
-fn slabs_said<D: Deed>(slab: &SlabCache<D>, event: EventName) -> Said
-    ensures { (arena cache : ℕ) → slab.now.arena ≡ arena → slab.now.k ≡ cache
-        → IsSaidByCache arena cache event result }
+impl Model for SlabSaid {
+    ghost use Rattle.locked_parts.specs.Words.{CacheSaidState};
+
+    ghost Value = { CacheSaidState };
+
+    ghost view = { λ s. record { kind = s.kind; step = s.step; word = s.word } };
+
+    ghost inverse = { λ s. record { kind = s.kind; step = s.step; word = s.word } };
+}
+
+/// That they answered so.
+fn slabs_say(kind: CacheKind, step: NextStep, word: Word) -> Said
+    ensures { result ≡ slabs_said kind step word }
 {
-    Said::Slab(SlabSaid {
-        arena: slab.arena(),
-        cache: slab.k(),
-        event,
-    })
+    Said::Slab(SlabSaid { kind, step, word })
 }
 
 /// The number of the cache that a chunk is of; 0 of what is no chunk.
@@ -52,56 +61,93 @@ pub(crate) fn cache_number(route: Route) -> u8
 }
 
 /// Whether the cache is that.
-pub(crate) fn is_kind<D: Deed>(slab: &SlabCache<D>, kind: &CacheKind) -> bool
+fn is_kind<D: Deed>(slab: &SlabCache<D>, kind: &CacheKind) -> bool
     ensures { IsTrue result ↔ AreSlabsOf kind.now slab.now }
 {
     slab.arena() == kind.arena && slab.k() == kind.number && slab.quantum() == kind.quantum
+}
+
+/// Which quantum cache they are of.
+fn kind_of<D: Deed>(slab: &SlabCache<D>) -> CacheKind
+    ensures of { AreSlabsOf result slab.now }
+    ensures only { (kind : CacheKind) → AreSlabsOf kind slab.now → result ≡ kind }
+{
+    CacheKind {
+        arena: slab.arena(),
+        number: slab.k(),
+        quantum: slab.quantum(),
+    }
+}
+
+/// Whether the cache is that; another says that it is another.
+pub(crate) fn are_slabs_of<D: Deed>(
+    slab: &SlabCache<D>,
+    said: &mut Said,
+    step: NextStep,
+    kind: &CacheKind,
+) -> bool
+    ensures here { result ≡ true → AreSlabsOf kind.now slab.now }
+    ensures other { result ≡ false → AreOtherSlabs kind.now step said.new }
+{
+    let own = kind_of(slab);
+    if own.is(kind) {
+        return true;
+    }
+    *said = slabs_say(own, step, Word::Other);
+    false
 }
 
 /// Takes a chunk, if one is idle.
 pub(crate) fn take_chunk<D: Deed>(
     slab: &mut SlabCache<D>,
     said: &mut Said,
+    step: NextStep,
     kind: &CacheKind,
 ) -> Option<Segment<D>>
     ensures said { AreSlabsOf kind.now slab.old
-        → IsSaidByCache kind.now.arena kind.now.number EventName.SlabTake said.new }
+        → said.new ≡ slabs_said kind.now step (given_word result) }
     ensures chunk { IfSome result (IsOfKind kind.now) }
     ensures event { IfSome result (λ t. TakeOf slab.old (Some t) slab.new) }
     ensures none { IfNone result (AreSlabsOf kind.now slab.old → All IsAllOut slab.old.slabs) }
     ensures unchanged { IfNone result (slab.new ≡ slab.old) }
 {
-    *said = slabs_said(slab, EventName::SlabTake);
     if !is_kind(slab, kind) {
         return None;
     }
-    slab.take()
+    let chunk = slab.take();
+    *said = slabs_say(*kind, step, word_of_given(&chunk));
+    chunk
 }
 
 /// Puts a chunk back.
 pub(crate) fn put_chunk<D: Deed>(
     slab: &mut SlabCache<D>,
     said: &mut Said,
+    step: NextStep,
+    kind: &CacheKind,
     segment: Segment<D>,
 ) -> Result<(), PutFault<Segment<D>>>
-    ensures said { slab.old.arena ≡ segment.arena → slab.old.k ≡ number_of_cache segment.route
-        → IsSaidByCache segment.arena (number_of_cache segment.route) EventName.SlabPut said.new }
+    ensures said { AreSlabsOf kind.now slab.old
+        → said.new ≡ slabs_said kind.now step (put_word result) }
     ensures event { PutOf slab.old segment result slab.new }
 {
-    *said = slabs_said(slab, EventName::SlabPut);
-    slab.put(segment)
+    let own = kind_of(slab);
+    let put = slab.put(segment);
+    *said = slabs_say(own, step, word_of_put(&put));
+    put
 }
 
 /// Makes a slab of a span, and takes its first chunk.
 pub(crate) fn add_slab<D: Deed>(
     slab: &mut SlabCache<D>,
     said: &mut Said,
+    step: NextStep,
     kind: &CacheKind,
     span: Segment<D>,
 ) -> Result<Segment<D>, AddFault<Segment<D>>>
     requires { IsSpanOfKind kind.now span }
     ensures said { AreSlabsOf kind.now slab.old
-        → IsSaidByCache kind.now.arena kind.now.number EventName.SlabAdd said.new }
+        → said.new ≡ slabs_said kind.now step (add_word result) }
     ensures chunk { IfOk result (IsOfKind kind.now) }
     ensures event { IfOk result (λ t. AddOf slab.old span (Ok t) slab.new) }
     ensures refused { IfErr result (λ f. AreSlabsOf kind.now slab.old
@@ -109,32 +155,35 @@ pub(crate) fn add_slab<D: Deed>(
     ensures handed_back { IfErr result (λ f. segment_of_slab_add (GivenFault.Refused f) ≡ span) }
     ensures unchanged { OnErr result (slab.new ≡ slab.old) }
 {
-    *said = slabs_said(slab, EventName::SlabAdd);
     if !is_kind(slab, kind) {
         return Err(AddFault::WrongSize(span));
     }
-    slab.add(span)
+    let added = slab.add(span);
+    *said = slabs_say(*kind, step, word_of_add(&added));
+    added
 }
 
 /// Takes the span of a slab of which no chunk is out, if there is one.
 pub(crate) fn reap_slab<D: Deed>(
     slab: &mut SlabCache<D>,
     said: &mut Said,
+    step: NextStep,
     kind: &CacheKind,
 ) -> Option<Segment<D>>
     ensures said { AreSlabsOf kind.now slab.old
-        → IsSaidByCache kind.now.arena kind.now.number EventName.SlabReap said.new }
+        → said.new ≡ slabs_said kind.now step (given_word result) }
     ensures span { IfSome result (IsSpanOfKind kind.now) }
     ensures event { IfSome result (λ t. ReapOf slab.old (Some t) slab.new) }
     ensures none { IfNone result (AreSlabsOf kind.now slab.old
         → All (λ s. ¬ IsComplete s) slab.old.slabs) }
     ensures unchanged { IfNone result (slab.new ≡ slab.old) }
 {
-    *said = slabs_said(slab, EventName::SlabReap);
     if !is_kind(slab, kind) {
         return None;
     }
-    slab.reap()
+    let span = slab.reap();
+    *said = slabs_say(*kind, step, word_of_given(&span));
+    span
 }
 
 /// The units that lie in the slabs; none where they are of another cache.
