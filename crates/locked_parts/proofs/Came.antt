@@ -52,8 +52,8 @@ module _ (p : LockedPartsState) (own : List OwnCacheState) (step : NextStep) (s 
   pub round_reaped : (arena cache : ℕ) (k : CacheKind) (o : Option Tag) → k ≡ cache_of p.arenas arena cache → s ≡ depot_said k step (given_word o) → CameBy p own step (DepotReap arena cache) (Ok o) s
   round_reaped arena cache k o same said = (let e : s ≡ depot_said (cache_of p.arenas arena cache) step (given_word o) = cc in inl (o, refl, e))
 
-  pub put_back : (t : Tag) (arena number : ℕ) (k : CacheKind) (r : Result (Unit {0}) (PutFault Tag)) (a : AnswerTo (SlabPut t)) → arena ≡ t.arena → number ≡ number_of_cache t.route → k ≡ cache_of p.arenas arena number → a ≡ wording_of giving.Refused r → s ≡ slabs_said k step (put_word r) → CameBy p own step (SlabPut t) a s
-  put_back t arena number k r a of_arena of_number same told said = (let e : s ≡ slabs_said (cache_of p.arenas t.arena (number_of_cache t.route)) step (put_word r) = cc in inl (r, told, e))
+  pub put_back : (t : Tag) (arena number : ℕ) (k : CacheKind) (r : Result (Unit {0}) (PutFault Tag)) (a : AnswerTo (SlabPut t)) → a ≡ wording_of giving.Refused r → k ≡ cache_of p.arenas arena number → s ≡ slabs_said k step (put_word r) → arena ≡ t.arena → number ≡ number_of_cache t.route → CameBy p own step (SlabPut t) a s
+  put_back t arena number k r a told same said of_arena of_number = (let e : s ≡ slabs_said (cache_of p.arenas t.arena (number_of_cache t.route)) step (put_word r) = cc in inl (r, told, e))
 
   pub slab_made : (arena cache : ℕ) (t : Tag) (k : CacheKind) (r : Result Tag (AddFault Tag)) (a : AnswerTo (SlabAdd arena cache t)) → k ≡ cache_of p.arenas arena cache → a ≡ wording_of giving.Refused r → s ≡ slabs_said k step (add_word r) → CameBy p own step (SlabAdd arena cache t) a s
   slab_made arena cache t k r a same told said = (let e : s ≡ slabs_said (cache_of p.arenas arena cache) step (add_word r) = cc in inl (r, told, e))

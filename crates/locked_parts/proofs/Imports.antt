@@ -4,6 +4,7 @@ use Rattle.std.specs.Prelude.{sum_by}
 use Rattle.std.specs.Option.{option_to_list}
 use Rattle.std.proofs.lemmas.Option.{slice_get-get_or}
 use Rattle.std.proofs.lemmas.List.Elements.{All-cons, All-contains}
+use Rattle.std.proofs.lemmas.List.Sums.{sum_by-cons}
 use Rattle.deed_core.specs.Tag.{Tag}
 use Rattle.deed_core.specs.Weights.{Gains, one_at}
 use Rattle.deed_core.specs.declared.requests.Request.{Request}
@@ -27,5 +28,10 @@ freed_own source old new t (Err same) of sums all = subst (λ (a : ArenaState). 
 
 pub imported_own : (source : Option ℕ) (old new : ArenaState) (span : Tag) (q : Request) (r : Result Tag (SpanFault Tag)) → ImportOf old span q r new → OnOk r (Gains old.imported new.imported span) → source ≡ Some span.arena
     → All (λ x. source ≡ Some x.arena) old.imported → All (λ x. source ≡ Some x.arena) new.imported
-imported_own source old new span q (Ok t) of sums is all = all_less (λ x. source ≡ Some x.arena) (span ∷ old.imported) new.imported (λ f. omega (arith, sums f)) (All-cons (λ x. source ≡ Some x.arena) span old.imported is all)
+imported_own source old new span q (Ok t) of sums is all =
+    let less : (f : Tag → ℕ) → sum_by f new.imported ≤ sum_by f (span ∷ old.imported) = λ f.
+    (let more : sum_by f new.imported ≡ sum_by f old.imported + f span = sums f in
+    let with_it : sum_by f (span ∷ old.imported) ≡ f span + sum_by f old.imported = sum_by-cons f span old.imported in
+    omega (arith, more, with_it)) in
+    all_less (λ x. source ≡ Some x.arena) (span ∷ old.imported) new.imported less (All-cons (λ x. source ≡ Some x.arena) span old.imported is all)
 imported_own source old new span q (Err same) of sums is all = subst (λ (a : ArenaState). All (λ x. source ≡ Some x.arena) a.imported) (sym of.1) all

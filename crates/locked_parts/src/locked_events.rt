@@ -1,12 +1,12 @@
-//! The events of arenas, slabs and depots in a parts. Each takes one lock.
-ghost use Rattle.std.specs.Prelude.{◌≡◌, ◌<◌, ◌≤◌, ◌%◌, Some, List, length};
+//! The events of arenas, slabs and depots in a parts. Each takes one lock; which magazines the CPU
+//! has plays no part.
+ghost use Rattle.std.specs.Prelude.{◌≡◌, ◌<◌, ◌≤◌, ◌%◌, [], Some, length};
 ghost use Rattle.deed_core.specs.Request.{rounding_of};
 ghost use Rattle.arena_tree.specs.Chains.{source_of, quantum_in};
 ghost use Rattle.arena_tree.specs.Events.{Carve, Free, AddCarve, SlabTake, SlabPut, SlabAdd};
 ghost use Rattle.arena_tree.specs.Events.{SlabReap, DepotReap};
 ghost use Rattle.arena_tree.specs.Trees.{nodes_of};
 ghost use Rattle.locked_parts.specs.Answers.{AnswersSoundly};
-ghost use Rattle.locked_parts.specs.Kinds.{OwnCacheState};
 ghost use Rattle.locked_parts.specs.Saying.{CameBy};
 
 use crate::gates::NextStep;
@@ -32,8 +32,7 @@ pub(crate) fn carve_in<N: Name, R: Wait>(
 ) -> Result<Segment<SeatDeed<N>>, PartFault<ArenaFault>>
     requires { arena < length parts.now.arenas }
     ensures sound { AnswersSoundly (nodes_of parts.now.arenas) (Carve arena request.now) result }
-    ensures said { (own : List OwnCacheState)
-        → CameBy parts.now own step (Carve arena request.now) result said.new }
+    ensures said { CameBy parts.now [] step (Carve arena request.now) result said.new }
 {
     let quantum = parts.tree().quantum(arena);
     let Some(mut part) = parts.reach_arena(rt, said, step, arena) else {
@@ -63,8 +62,7 @@ pub(crate) fn free_in<N: Name, R: Wait>(
     segment: Segment<SeatDeed<N>>,
 ) -> Result<Option<Segment<SeatDeed<N>>>, GivenFault<Segment<SeatDeed<N>>, Segment<SeatDeed<N>>>>
     ensures sound { AnswersSoundly (nodes_of parts.now.arenas) (Free segment) result }
-    ensures said { (own : List OwnCacheState)
-        → CameBy parts.now own step (Free segment) result said.new }
+    ensures said { CameBy parts.now [] step (Free segment) result said.new }
 {
     let Some(mut part) = parts.reach_arena(rt, said, step, segment.arena()) else {
         return Err(GivenFault::Refused(segment));
@@ -90,8 +88,7 @@ pub(crate) fn add_carve_in<N: Name, R: Wait>(
         ≤ span.holding.range.len }
     requires direct { span.route ≡ Route.Direct }
     ensures sound { AnswersSoundly (nodes_of parts.now.arenas) (AddCarve child span size) result }
-    ensures said { (own : List OwnCacheState)
-        → CameBy parts.now own step (AddCarve child span size) result said.new }
+    ensures said { CameBy parts.now [] step (AddCarve child span size) result said.new }
 {
     let quantum = parts.tree().quantum(child);
     let Some(mut part) = parts.reach_arena(rt, said, step, child) else {
@@ -111,8 +108,7 @@ pub(crate) fn slab_take_in<N: Name, R: Wait>(
     cache: u8,
 ) -> Result<Option<Segment<SeatDeed<N>>>, Stopped>
     ensures sound { AnswersSoundly (nodes_of parts.now.arenas) (SlabTake arena cache) result }
-    ensures said { (own : List OwnCacheState)
-        → CameBy parts.now own step (SlabTake arena cache) result said.new }
+    ensures said { CameBy parts.now [] step (SlabTake arena cache) result said.new }
 {
     let Some((kind, mut slab)) = parts.reach_slabs(rt, said, step, arena, cache) else {
         return Ok(None);
@@ -130,14 +126,13 @@ pub(crate) fn slab_put_in<N: Name, R: Wait>(
     segment: Segment<SeatDeed<N>>,
 ) -> Result<(), GivenFault<PutFault<Segment<SeatDeed<N>>>, Segment<SeatDeed<N>>>>
     ensures sound { AnswersSoundly (nodes_of parts.now.arenas) (SlabPut segment) result }
-    ensures said { (own : List OwnCacheState)
-        → CameBy parts.now own step (SlabPut segment) result said.new }
+    ensures said { CameBy parts.now [] step (SlabPut segment) result said.new }
 {
     let number = cache_number(segment.route());
-    let Some((_, mut slab)) = parts.reach_slabs(rt, said, step, segment.arena(), number) else {
+    let Some((kind, mut slab)) = parts.reach_slabs(rt, said, step, segment.arena(), number) else {
         return Err(GivenFault::Refused(PutFault::NotMine(segment)));
     };
-    GivenFault::wrap(put_chunk(&mut slab, said, step, segment))
+    GivenFault::wrap(put_chunk(&mut slab, said, step, &kind, segment))
 }
 
 /// Makes a slab of the span, and takes its first chunk.
@@ -155,8 +150,7 @@ pub(crate) fn slab_add_in<N: Name, R: Wait>(
     requires direct { span.route ≡ Route.Direct }
     requires grid { span.holding.range.base % quantum_in (nodes_of parts.now.arenas) arena ≡ 0 }
     ensures sound { AnswersSoundly (nodes_of parts.now.arenas) (SlabAdd arena cache span) result }
-    ensures said { (own : List OwnCacheState)
-        → CameBy parts.now own step (SlabAdd arena cache span) result said.new }
+    ensures said { CameBy parts.now [] step (SlabAdd arena cache span) result said.new }
 {
     let Some((kind, mut slab)) = parts.reach_slabs(rt, said, step, arena, cache) else {
         return Err(GivenFault::Refused(AddFault::WrongSize(span)));
@@ -175,8 +169,7 @@ pub(crate) fn slab_reap_in<N: Name, R: Wait>(
     cache: u8,
 ) -> Result<Option<Segment<SeatDeed<N>>>, Stopped>
     ensures sound { AnswersSoundly (nodes_of parts.now.arenas) (SlabReap arena cache) result }
-    ensures said { (own : List OwnCacheState)
-        → CameBy parts.now own step (SlabReap arena cache) result said.new }
+    ensures said { CameBy parts.now [] step (SlabReap arena cache) result said.new }
 {
     let Some((kind, mut slab)) = parts.reach_slabs(rt, said, step, arena, cache) else {
         return Ok(None);
@@ -195,8 +188,7 @@ pub(crate) fn depot_reap_in<N: Name, R: Wait>(
     cache: u8,
 ) -> Result<Option<Segment<SeatDeed<N>>>, Stopped>
     ensures sound { AnswersSoundly (nodes_of parts.now.arenas) (DepotReap arena cache) result }
-    ensures said { (own : List OwnCacheState)
-        → CameBy parts.now own step (DepotReap arena cache) result said.new }
+    ensures said { CameBy parts.now [] step (DepotReap arena cache) result said.new }
 {
     let Some((kind, mut depot)) = parts.reach_depot(rt, said, step, arena, cache) else {
         return Ok(None);

@@ -124,10 +124,11 @@ pub(crate) fn put_chunk<D: Deed>(
     slab: &mut SlabCache<D>,
     said: &mut Said,
     step: NextStep,
+    kind: &CacheKind,
     segment: Segment<D>,
 ) -> Result<(), PutFault<Segment<D>>>
-    ensures said { (kind : CacheKind) → AreSlabsOf kind slab.old
-        → said.new ≡ slabs_said kind step (put_word result) }
+    ensures said { AreSlabsOf kind.now slab.old
+        → said.new ≡ slabs_said kind.now step (put_word result) }
     ensures event { PutOf slab.old segment result slab.new }
 {
     let own = kind_of(slab);

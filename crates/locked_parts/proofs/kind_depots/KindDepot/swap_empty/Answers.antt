@@ -19,7 +19,7 @@ invariant_of-cpu g c =
 
 pub returns-clause-event : goal.returns-clause-event
 returns-clause-event g c =
-    let can : BothFull c.cpu.inside.cpu = c.is_full.ensures.0 c.if-not-is_full.false in
+    let can : BothFull c.cpu.inside.cpu = c.is_full.ensures.value.0 c.if-not-is_full.false in
     subst (λ (d : KindDepotState). GivesEmpty c.args.cpu.now d c.swap_for_empty-swapped.result (record { kind = c.cpu.inside.kind; cpu = c.swap_for_empty-swapped.new.cpu }) (record { kind = c.self.inside.kind; depot = c.swap_for_empty-swapped.new.self })) c.self.view_is
     (subst (λ (o : OwnCacheState). GivesEmpty o (record { kind = c.self.inside.kind; depot = c.self.inside.depot }) c.swap_for_empty-swapped.result (record { kind = c.cpu.inside.kind; cpu = c.swap_for_empty-swapped.new.cpu }) (record { kind = c.self.inside.kind; depot = c.swap_for_empty-swapped.new.self })) c.cpu.view_is
     (gives_empty c.cpu.inside.kind c.self.inside.kind c.cpu.inside.cpu c.swap_for_empty-swapped.new.cpu c.self.inside.depot c.swap_for_empty-swapped.new.self c.swap_for_empty-swapped.result (sym (c.is.ensures.0 c.if-not-is.false)) can c.swap_for_empty-swapped.ensures.of))

@@ -19,7 +19,7 @@ invariant_of-cpu g c =
 
 pub returns-clause-event : goal.returns-clause-event
 returns-clause-event g c =
-    let can : BothEmpty c.cpu.inside.cpu = c.is_empty.ensures.0 c.if-not-is_empty.false in
+    let can : BothEmpty c.cpu.inside.cpu = c.is_empty.ensures.value.0 c.if-not-is_empty.false in
     subst (λ (d : KindDepotState). GivesFull c.args.cpu.now d c.swap_for_full-swapped.result (record { kind = c.cpu.inside.kind; cpu = c.swap_for_full-swapped.new.cpu }) (record { kind = c.self.inside.kind; depot = c.swap_for_full-swapped.new.self })) c.self.view_is
     (subst (λ (o : OwnCacheState). GivesFull o (record { kind = c.self.inside.kind; depot = c.self.inside.depot }) c.swap_for_full-swapped.result (record { kind = c.cpu.inside.kind; cpu = c.swap_for_full-swapped.new.cpu }) (record { kind = c.self.inside.kind; depot = c.swap_for_full-swapped.new.self })) c.cpu.view_is
     (gives_full c.cpu.inside.kind c.self.inside.kind c.cpu.inside.cpu c.swap_for_full-swapped.new.cpu c.self.inside.depot c.swap_for_full-swapped.new.self c.swap_for_full-swapped.result (sym (c.is.ensures.0 c.if-not-is.false)) can c.swap_for_full-swapped.ensures.of))
