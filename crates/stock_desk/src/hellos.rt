@@ -7,7 +7,7 @@ ghost use Rattle.lease_machine.specs.Picture.{IsPicture, SameSetup};
 ghost use Rattle.stock_desk.specs.Supplies.{picture_with, local_of};
 
 use crate::own_books::OwnBook;
-use crate::replies::{refused, welcome};
+use crate::replies::greeted;
 use crate::supplies::Supply;
 use arena_tree::Tree;
 use deed_core::{PlainDeed, Segment};
@@ -32,9 +32,7 @@ impl Supply {
             (picture_with book.old self.old) (picture_with book.new self.new) result }
     {
         match self.hear(book, line) {
-            Ok(Greeting::Welcome(welcomed)) => welcome(line, welcomed.protocol()),
-            Ok(Greeting::Late(fault)) => refused(line, &fault),
-            Ok(Greeting::Unswept) => unreachable!(),
+            Ok(greeting) => greeted(line, greeting),
             Err(_) => unreachable!(),
         }
     }

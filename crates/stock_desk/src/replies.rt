@@ -2,34 +2,34 @@
 ghost use Rattle.std.specs.Prelude.{◌≡◌, length};
 ghost use Rattle.lease_history.specs.Told.{IsTellable, reply_to, reply_to_answer};
 ghost use Rattle.lease_history.specs.Told.{hello_refusal};
-ghost use Rattle.lease_proto.specs.declared.replies.Reply.TheVariants as replies;
 ghost use Rattle.lease_machine.specs.Conversations.{CanName, CanTell, reply_of_outcome};
+ghost use Rattle.stock_desk.specs.Hellos.{reply_of_greeting};
 ghost use Rattle.arena_tree.specs.Trees.{arena_named};
 
 use arena_tree::Tree;
 use deed_core::PlainDeed;
 use lease_book::{Answer, HelloFault, KeptReply};
-use lease_call::Outcome;
+use lease_call::{Greeting, Outcome};
 use lease_proto::{Granted, HelloLine, Old, OutOfTurn, RefusedRequest, Reply, Welcome};
-use lease_terms::{Protocol, RequestId};
+use lease_terms::RequestId;
 
-/// The reply to a hello that is taken, by this protocol.
-pub(crate) fn welcome(hello: &HelloLine, protocol: Protocol) -> Reply
-    ensures { result ≡ replies.Welcome (record {
-      client = hello.now.client;
-      incarnation = hello.now.incarnation;
-      protocol = protocol;
-    }) }
+/// The reply to what a hello came to.
+pub(crate) fn greeted(hello: &HelloLine, greeting: Greeting<PlainDeed>) -> Reply
+    ensures { result ≡ reply_of_greeting hello.now greeting }
 {
-    Reply::Welcome(Welcome {
-        client: hello.client,
-        incarnation: hello.incarnation,
-        protocol,
-    })
+    match greeting {
+        Greeting::Welcome(welcomed) => Reply::Welcome(Welcome {
+            client: hello.client,
+            incarnation: hello.incarnation,
+            protocol: welcomed.protocol(),
+        }),
+        Greeting::Late(fault) => refused(hello, &fault),
+        Greeting::Unswept => Reply::hello_again(hello),
+    }
 }
 
 /// The reply to a hello that isn't taken.
-pub(crate) fn refused(hello: &HelloLine, fault: &HelloFault<PlainDeed>) -> Reply
+fn refused(hello: &HelloLine, fault: &HelloFault<PlainDeed>) -> Reply
     ensures { result ≡ hello_refusal hello.now fault.now }
 {
     match fault {
