@@ -23,8 +23,9 @@ use Rattle.quantum_cache.specs.declared.emptying_faults.EmptyingFault.TheVariant
 use Rattle.quantum_cache.proofs.LawProofs.{drain_tells, free_tells}
 use Rattle.lease_call.specs.Placing.{place_plan}
 use Rattle.lease_call.proofs.LawProofs.{tree_chain}
+use Rattle.locked_parts.specs.Saying.{IsSaid}
 use Rattle.locked_parts.specs.declared.said.Said.{Said}
-use Rattle.lease_threads.specs.Retiring.{CameAtAStep, EndsAtRefusal, DrainsSoundly, IsUnplaced, IsDrainedBut, IsDrainedOrRefused, IsRefused, WasRefused}
+use Rattle.lease_threads.specs.Retiring.{EndsAtRefusal, DrainsSoundly, IsUnplaced, IsDrainedBut, IsDrainedOrRefused, IsRefused, WasRefused}
 use Rattle.lease_threads.specs.Systems.{CpuState}
 use Rattle.lease_threads.proofs.Runs.{not_both}
 use Rattle.lease_threads.proofs.Reaped.{IsQuiet, path_ends}
@@ -45,7 +46,7 @@ module _ {S : Type 0} (step : S → (e : Event) → AnswerTo e → S → Type 0)
       never_stopped post (f d.1) d.0 u a (record { event = e; answer = d.1 } ∷ told) says (λ stopped. not_both (is_stopped e d.1) stopped calm.0) calm.1 (d.2.same_tree ∙ is) (tells d.1 sound) d.3
 
 -- of a path that ends with a refusal the last part's word stands at its end
-module _ {S : Type 0} (step : S → (e : Event) → AnswerTo e → S → Type 0) (tree : S → List Node) (count rounds : S → ℕ) (noted : S → Bool) (quiet : IsQuiet step noted) (said : S → Said) (says : (s t : S) (e : Event) (x : AnswerTo e) → step s e x t → is_stopped e x ≡ false → CameAtAStep e x (said t)) (nodes : List Node) where
+module _ {S : Type 0} (step : S → (e : Event) → AnswerTo e → S → Type 0) (tree : S → List Node) (count rounds : S → ℕ) (noted : S → Bool) (quiet : IsQuiet step noted) (said : S → Said) (says : (s t : S) (e : Event) (x : AnswerTo e) → step s e x t → is_stopped e x ≡ false → IsSaid e (said t)) (nodes : List Node) where
   path_says : {A : Type 0} (post : List AnsweredEvent → A → Type 0) (t : Tag) (p : Plan A) (s u : S) (a : A) (told : List AnsweredEvent) → ((last : List AnsweredEvent) → post last a → JustRefused t last) → (JustRefused t told → WasRefused t (said s)) → noted s ≡ false → tree s ≡ nodes → Tells nodes post p told → Path (Step step tree count rounds) p s u a → WasRefused t (said u)
   path_says post t (Done b) s u a told ends goes none is tells d = subst (λ z. WasRefused t (said z)) d.0 (goes (ends told (subst (post told) d.1 tells)))
   path_says post t (Ask e f) s u a told ends goes none is tells d =
@@ -94,7 +95,7 @@ module _ {S : Type 0} (step : S → (e : Event) → AnswerTo e → S → Type 0)
       (unplaced (nat_lt given.arena (length arenas)) s u r refl none seen (subst (λ xs. Path (Step step tree count rounds) (place_plan xs given) s u r) same ran.path)))
 
 -- a drain that ends before its rounds do was refused one
-pub ran_stuck : {S : Type 0} (step : S → (e : Event) → AnswerTo e → S → Type 0) (tree : S → List Node) (count rounds : S → ℕ) (noted : S → Bool) (quiet : IsQuiet step noted) (said : S → Said) → ((s t : S) (e : Event) (x : AnswerTo e) → step s e x t → is_stopped e x ≡ false → CameAtAStep e x (said t)) → (arenas drained : List TreeArena) (turns : ℕ) (t : Tag) (s u : S) (end : EmptyingEnd)
+pub ran_stuck : {S : Type 0} (step : S → (e : Event) → AnswerTo e → S → Type 0) (tree : S → List Node) (count rounds : S → ℕ) (noted : S → Bool) (quiet : IsQuiet step noted) (said : S → Said) → ((s t : S) (e : Event) (x : AnswerTo e) → step s e x t → is_stopped e x ≡ false → IsSaid e (said t)) → (arenas drained : List TreeArena) (turns : ℕ) (t : Tag) (s u : S) (end : EmptyingEnd)
     → Ran step tree count rounds (drain_plan turns drained) s u (drain_end end) → noted s ≡ false → tree s ≡ nodes_of arenas → drained ≡ arenas → end ≡ Err (emptying.Stuck t) → (cpu : CpuState) → cpu.hand ≡ Some t → cpu.refused ≡ said u → IsDrainedOrRefused arenas cpu
 ran_stuck step tree count rounds noted quiet said says arenas drained turns t s u end ran none is same stuck cpu held has =
     let path = subst (λ (r : EmptyingEnd). Path (Step step tree count rounds) (drain_plan turns arenas) s u (drain_end r)) stuck (subst (λ xs. Path (Step step tree count rounds) (drain_plan turns xs) s u (drain_end end)) same ran.path) in
@@ -119,7 +120,7 @@ IsBack (Ok u) = ⊥
 IsBack (Err (returning.Stuck t)) = ⊥
 IsBack (Err (returning.Stopped t)) = Unit {0}
 
-module _ {S : Type 0} (step : S → (e : Event) → AnswerTo e → S → Type 0) (tree : S → List Node) (count rounds : S → ℕ) (noted : S → Bool) (quiet : IsQuiet step noted) (said : S → Said) (says : (s t : S) (e : Event) (x : AnswerTo e) → step s e x t → is_stopped e x ≡ false → CameAtAStep e x (said t)) (arenas : List TreeArena) (is_tree : IsTree arenas) (given : Tag) where
+module _ {S : Type 0} (step : S → (e : Event) → AnswerTo e → S → Type 0) (tree : S → List Node) (count rounds : S → ℕ) (noted : S → Bool) (quiet : IsQuiet step noted) (said : S → Said) (says : (s t : S) (e : Event) (x : AnswerTo e) → step s e x t → is_stopped e x ≡ false → IsSaid e (said t)) (arenas : List TreeArena) (is_tree : IsTree arenas) (given : Tag) where
   word_of : (b : Bool) (s u : S) (t : Tag) → nat_lt given.arena (length arenas) ≡ b → noted s ≡ false → tree s ≡ nodes_of arenas → Path (Step step tree count rounds) (place_plan arenas given) s u (Err (returning.Stuck t)) → IsRefused arenas t (said u)
   word_of true s u t is none seen d =
       inr (path_says step tree count rounds noted quiet said says (nodes_of arenas) FreeTold t (place_plan arenas given) s u (Err (returning.Stuck t)) [] (λ told ends. ends) (λ no. absurd no) none seen (told_placing step tree count rounds noted quiet arenas is_tree given is) d)

@@ -10,10 +10,8 @@ use Rattle.arena_tree.specs.declared.part_faults.ReturnFault.TheVariants as retu
 use Rattle.arena_tree.specs.declared.trees.TreeArena.{TreeArena}
 use Rattle.lease_call.specs.Placing.{place_plan}
 use Rattle.locked_parts.specs.Answers.{AnswersSoundly}
-use Rattle.locked_parts.specs.Kinds.{OwnCacheState, kinds_of}
-use Rattle.locked_parts.specs.Saying.{CameBy}
-use Rattle.locked_parts.specs.States.{LockedPartsState}
-use Rattle.locked_parts.specs.declared.gates.NextStep.{NextStep}
+use Rattle.locked_parts.specs.Kinds.{kinds_of}
+use Rattle.locked_parts.specs.Saying.{IsSaid}
 use Rattle.locked_parts.specs.declared.said.Said.{Said}
 use Rattle.quantum_cache.specs.Drains.{drain_plan}
 use Rattle.quantum_cache.specs.Told.{PartRefuses}
@@ -51,17 +49,12 @@ RetiresSoundly arenas hand None = DrainsSoundly arenas None
 RetiresSoundly arenas hand (Some left) =
     IsUnplaced arenas hand left ⊎ DrainsSoundly arenas (Some left)
 
--- at some step of a CPU the event came by its part, with the part's own answer, or there was none
-abbrev pub CameAtAStep : (e : Event) → AnswerTo e → Said → Type 0
-CameAtAStep e a s = (parts : LockedPartsState) × (caches : List OwnCacheState)
-    × (step : NextStep) × CameBy parts caches step e a s
-
 -- by its own word a part was asked to take the segment, and refused it
 pub record WasRefused (t : Tag) (said : Said) : Type 0 where
   pub event : Event
   pub answer : AnswerTo event
   pub refuses : PartRefuses t event answer
-  pub by : CameAtAStep event answer said
+  pub by : IsSaid event said
 
 -- or the segment is of no arena of the tree
 abbrev pub IsRefused : List TreeArena → Tag → Said → Type 0

@@ -2,7 +2,6 @@ use Rattle.std.proofs.Common.{map, ap, ◌∙◌, sym, suc, arith, refl}
 use Rattle.deed_core.specs.Tag.{Tag}
 use Rattle.arena_tree.specs.Trees.{nodes_of}
 use Rattle.quantum_cache.specs.Drains.{tag_emptying}
-use Rattle.locked_parts.specs.Gates.{step_after, step_named}
 use Rattle.locked_parts.specs.Kinds.{OwnCacheState, count_of_rounds}
 use Rattle.locked_parts.specs.States.{LockedPartsState}
 use Rattle.lease_threads.specs.Systems.{CpuState, SystemState}
@@ -61,7 +60,7 @@ returns-in-Ok-clause-refused g c =
 pub returns-in-Err-Stuck-clause-refused : goal.returns-in-Err-Stuck-clause-refused
 returns-in-Err-Stuck-clause-refused g c =
     let seen = ap (λ (s : SystemState). s.arenas) c.self.view_is in
-    ran_stuck _ _ _ _ (λ s. s.steps.noted) (λ s t e x d none. never_stops _ _ _ _ _ _ (λ _ _ no. no) d.0 d.3 none) (λ s. s.said) (λ s t e x d calm. (s.parts.now, (s.caches.now.items, (step_after s.steps (step_named e), d.6 calm)))) c.args.self.now.arenas c.tree.result.now (suc (count_of_rounds c.new-running.result.caches.now.items)) _ _ _ (tag_emptying (λ (t : Tag). t) c.drain.result) (c.drain.ensures.ran (suc (count_of_rounds c.new-running.result.caches.now.items)) (omega arith)) c.new-running.ensures.unstopped (ap (λ (p : LockedPartsState). nodes_of p.arenas) c.new-running.ensures.parts ∙ ap nodes_of seen) (c.tree.ensures ∙ seen) (rw (c.in-Err-Stuck.is, c.in-Err-Stuck.field-0-is) refl) _ (ap (λ (s : CpuState). s.hand) c.hold_refused.ensures) (ap (λ (s : CpuState). s.refused) c.hold_refused.ensures)
+    ran_stuck _ _ _ _ (λ s. s.steps.noted) (λ s t e x d none. never_stops _ _ _ _ _ _ (λ _ _ no. no) d.0 d.3 none) (λ s. s.said) (λ s t e x d calm. d.6 calm) c.args.self.now.arenas c.tree.result.now (suc (count_of_rounds c.new-running.result.caches.now.items)) _ _ _ (tag_emptying (λ (t : Tag). t) c.drain.result) (c.drain.ensures.ran (suc (count_of_rounds c.new-running.result.caches.now.items)) (omega arith)) c.new-running.ensures.unstopped (ap (λ (p : LockedPartsState). nodes_of p.arenas) c.new-running.ensures.parts ∙ ap nodes_of seen) (c.tree.ensures ∙ seen) (rw (c.in-Err-Stuck.is, c.in-Err-Stuck.field-0-is) refl) _ (ap (λ (s : CpuState). s.hand) c.hold_refused.ensures) (ap (λ (s : CpuState). s.refused) c.hold_refused.ensures)
 
 pub returns-in-Err-Stopped-Some-clause-refused : goal.returns-in-Err-Stopped-Some-clause-refused
 returns-in-Err-Stopped-Some-clause-refused g c =

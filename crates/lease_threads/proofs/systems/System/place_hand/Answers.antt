@@ -2,7 +2,6 @@ use Rattle.std.proofs.Common.{map, ap, ◌∙◌, sym, subst, refl}
 use Rattle.deed_core.specs.Tag.{Tag}
 use Rattle.arena_tree.specs.Tags.{tag_return}
 use Rattle.arena_tree.specs.Trees.{nodes_of, IsTree}
-use Rattle.locked_parts.specs.Gates.{step_after, step_named}
 use Rattle.locked_parts.specs.Kinds.{OwnCacheState}
 use Rattle.locked_parts.specs.States.{LockedPartsState}
 use Rattle.lease_threads.specs.Systems.{CpuState, SystemState}
@@ -42,9 +41,9 @@ returns-in-Err-Stopped-clause-unplaced g c =
 pub returns-in-Err-Stuck-clause-refused : goal.returns-in-Err-Stuck-clause-refused
 returns-in-Err-Stuck-clause-refused g c =
     λ _. (let same = c.tree-tree.ensures ∙ ap (λ (s : SystemState). s.arenas) c.self.view_is in
-    ran_refused _ _ _ _ (λ s. s.steps.noted) (λ s t e x d none. never_stops _ _ _ _ _ _ (λ _ _ no. no) d.0 d.3 none) (λ s. s.said) (λ s t e x d calm. (s.parts.now, (s.caches.now.items, (step_after s.steps (step_named e), d.6 calm)))) c.args.self.now.arenas (subst IsTree same c.len.ensures.tree) c.in-Some.segment c.tree-tree.result.now _ _ _ (tag_return (λ (t : Tag). t) c.place.result) c.place.ensures.ran c.new-running.ensures.unstopped (ap (λ (p : LockedPartsState). nodes_of p.arenas) c.new-running.ensures.parts ∙ ap (λ (s : SystemState). nodes_of s.arenas) c.self.view_is) same (rw (c.in-Err-Stuck.is, c.in-Err-Stuck.field-0-is) refl) c.hold_refused.new.self (ap (λ (s : CpuState). s.hand) c.hold_refused.ensures) (ap (λ (s : CpuState). s.refused) c.hold_refused.ensures))
+    ran_refused _ _ _ _ (λ s. s.steps.noted) (λ s t e x d none. never_stops _ _ _ _ _ _ (λ _ _ no. no) d.0 d.3 none) (λ s. s.said) (λ s t e x d calm. d.6 calm) c.args.self.now.arenas (subst IsTree same c.len.ensures.tree) c.in-Some.segment c.tree-tree.result.now _ _ _ (tag_return (λ (t : Tag). t) c.place.result) c.place.ensures.ran c.new-running.ensures.unstopped (ap (λ (p : LockedPartsState). nodes_of p.arenas) c.new-running.ensures.parts ∙ ap (λ (s : SystemState). nodes_of s.arenas) c.self.view_is) same (rw (c.in-Err-Stuck.is, c.in-Err-Stuck.field-0-is) refl) c.hold_refused.new.self (ap (λ (s : CpuState). s.hand) c.hold_refused.ensures) (ap (λ (s : CpuState). s.refused) c.hold_refused.ensures))
 
 pub returns-in-Err-Stopped-clause-refused : goal.returns-in-Err-Stopped-clause-refused
 returns-in-Err-Stopped-clause-refused g c =
     λ _. (let same = c.tree-tree.ensures ∙ ap (λ (s : SystemState). s.arenas) c.self.view_is in
-    absurd (ran_back _ _ _ _ (λ s. s.steps.noted) (λ s t e x d none. never_stops _ _ _ _ _ _ (λ _ _ no. no) d.0 d.3 none) (λ s. s.said) (λ s t e x d calm. (s.parts.now, (s.caches.now.items, (step_after s.steps (step_named e), d.6 calm)))) c.args.self.now.arenas (subst IsTree same c.len.ensures.tree) c.in-Some.segment c.tree-tree.result.now _ _ (tag_return (λ (t : Tag). t) c.place.result) c.place.ensures.ran c.new-running.ensures.unstopped (ap (λ (p : LockedPartsState). nodes_of p.arenas) c.new-running.ensures.parts ∙ ap (λ (s : SystemState). nodes_of s.arenas) c.self.view_is) same (rw (c.in-Err-Stopped.is, c.in-Err-Stopped.field-0-is) tt)))
+    absurd (ran_back _ _ _ _ (λ s. s.steps.noted) (λ s t e x d none. never_stops _ _ _ _ _ _ (λ _ _ no. no) d.0 d.3 none) (λ s. s.said) (λ s t e x d calm. d.6 calm) c.args.self.now.arenas (subst IsTree same c.len.ensures.tree) c.in-Some.segment c.tree-tree.result.now _ _ (tag_return (λ (t : Tag). t) c.place.result) c.place.ensures.ran c.new-running.ensures.unstopped (ap (λ (p : LockedPartsState). nodes_of p.arenas) c.new-running.ensures.parts ∙ ap (λ (s : SystemState). nodes_of s.arenas) c.self.view_is) same (rw (c.in-Err-Stopped.is, c.in-Err-Stopped.field-0-is) tt)))
