@@ -6,5 +6,4 @@ mod LineLaws
 mod Roots
 mod Reaped
 mod Retired
-mod Drained
 mod Told

@@ -1,5 +1,5 @@
 -- What emptying a CPU that was gone through comes to.
-use Rattle.std.proofs.Common.{◌≡◌, ◌∙◌, ◌≤◌, ℕ, Bool, true, false, List, [], ◌∷◌, length, Option, Some, None, Result, Ok, Err, inl, inr, sym, subst, refl, ap, nat_lt, if◌then◌else◌}
+use Rattle.std.proofs.Common.{◌≡◌, ◌∙◌, ℕ, Bool, true, false, List, [], ◌∷◌, length, Option, Some, None, Result, Ok, Err, inl, inr, sym, subst, refl, ap, nat_lt, if◌then◌else◌}
 use Rattle.deed_core.specs.Tag.{Tag}
 use Rattle.std.specs.Prelude.{IfSome}
 use Rattle.std.proofs.lemmas.Bool.{ltb-true, ltb-false}
@@ -23,10 +23,7 @@ use Rattle.quantum_cache.specs.declared.emptying_faults.EmptyingFault.TheVariant
 use Rattle.quantum_cache.proofs.LawProofs.{drain_tells, free_tells}
 use Rattle.lease_call.specs.Placing.{place_plan}
 use Rattle.lease_call.proofs.LawProofs.{tree_chain}
-use Rattle.locked_parts.specs.Saying.{IsSaid}
-use Rattle.locked_parts.specs.declared.said.Said.{Said}
-use Rattle.lease_threads.specs.Retiring.{EndsAtRefusal, DrainsSoundly, IsUnplaced, IsDrainedBut, IsDrainedOrRefused, IsRefused, WasRefused}
-use Rattle.lease_threads.specs.Systems.{CpuState}
+use Rattle.lease_threads.specs.Retiring.{EndsAtRefusal, DrainsSoundly, IsUnplaced}
 use Rattle.lease_threads.proofs.Runs.{not_both}
 use Rattle.lease_threads.proofs.Reaped.{IsQuiet, path_ends}
 
@@ -44,15 +41,6 @@ module _ {S : Type 0} (step : S → (e : Event) → AnswerTo e → S → Type 0)
       let calm = quiet s d.0 e d.1 d.2.does none in
       let sound = subst (λ n. Sound n e d.1) is d.2.sound in
       never_stopped post (f d.1) d.0 u a (record { event = e; answer = d.1 } ∷ told) says (λ stopped. not_both (is_stopped e d.1) stopped calm.0) calm.1 (d.2.same_tree ∙ is) (tells d.1 sound) d.3
-
--- of a path that ends with a refusal the last part's word stands at its end
-module _ {S : Type 0} (step : S → (e : Event) → AnswerTo e → S → Type 0) (tree : S → List Node) (count rounds : S → ℕ) (noted : S → Bool) (quiet : IsQuiet step noted) (said : S → Said) (says : (s t : S) (e : Event) (x : AnswerTo e) → step s e x t → is_stopped e x ≡ false → IsSaid e (said t)) (nodes : List Node) where
-  path_says : {A : Type 0} (post : List AnsweredEvent → A → Type 0) (t : Tag) (p : Plan A) (s u : S) (a : A) (told : List AnsweredEvent) → ((last : List AnsweredEvent) → post last a → JustRefused t last) → (JustRefused t told → WasRefused t (said s)) → noted s ≡ false → tree s ≡ nodes → Tells nodes post p told → Path (Step step tree count rounds) p s u a → WasRefused t (said u)
-  path_says post t (Done b) s u a told ends goes none is tells d = subst (λ z. WasRefused t (said z)) d.0 (goes (ends told (subst (post told) d.1 tells)))
-  path_says post t (Ask e f) s u a told ends goes none is tells d =
-      let calm = quiet s d.0 e d.1 d.2.does none in
-      let sound = subst (λ n. Sound n e d.1) is d.2.sound in
-      path_says post t (f d.1) d.0 u a (record { event = e; answer = d.1 } ∷ told) ends (λ r. record { event = e; answer = d.1; refuses = r; by = says s d.0 e d.1 d.2.does calm.0 }) calm.1 (d.2.same_tree ∙ is) (tells d.1 sound) d.3
 
 -- a drain that was gone through leaves a round that a part refused, or none; more turns than there are
 -- rounds never run out
@@ -93,53 +81,3 @@ module _ {S : Type 0} (step : S → (e : Event) → AnswerTo e → S → Type 0)
       subst (λ (o : Option Tag). IfSome left (IsUnplaced arenas o)) (sym held)
       (subst (λ (o : Option Tag). IfSome o (IsUnplaced arenas (Some given))) (sym has)
       (unplaced (nat_lt given.arena (length arenas)) s u r refl none seen (subst (λ xs. Path (Step step tree count rounds) (place_plan xs given) s u r) same ran.path)))
-
--- a drain that ends before its rounds do was refused one
-pub ran_stuck : {S : Type 0} (step : S → (e : Event) → AnswerTo e → S → Type 0) (tree : S → List Node) (count rounds : S → ℕ) (noted : S → Bool) (quiet : IsQuiet step noted) (said : S → Said) → ((s t : S) (e : Event) (x : AnswerTo e) → step s e x t → is_stopped e x ≡ false → IsSaid e (said t)) → (arenas drained : List TreeArena) (turns : ℕ) (t : Tag) (s u : S) (end : EmptyingEnd)
-    → Ran step tree count rounds (drain_plan turns drained) s u (drain_end end) → noted s ≡ false → tree s ≡ nodes_of arenas → drained ≡ arenas → end ≡ Err (emptying.Stuck t) → (cpu : CpuState) → cpu.hand ≡ Some t → cpu.refused ≡ said u → IsDrainedOrRefused arenas cpu
-ran_stuck step tree count rounds noted quiet said says arenas drained turns t s u end ran none is same stuck cpu held has =
-    let path = subst (λ (r : EmptyingEnd). Path (Step step tree count rounds) (drain_plan turns arenas) s u (drain_end r)) stuck (subst (λ xs. Path (Step step tree count rounds) (drain_plan turns xs) s u (drain_end end)) same ran.path) in
-    let word = path_says step tree count rounds noted quiet said says (nodes_of arenas) (DrainTold arenas) t (drain_plan turns arenas) s u (Err (Some (emptying.Stuck t))) [] (λ told ends. ends) (λ no. absurd no) none is (drain_tells turns arenas (nodes_of arenas)) path in
-    subst (λ h. IsDrainedBut arenas h cpu) (sym held) (inr (subst (WasRefused t) (sym has) word))
-
-abbrev pub IsStop : EmptyingEnd → Type 0
-IsStop (Ok u) = ⊥
-IsStop (Err (emptying.Stuck t)) = ⊥
-IsStop (Err (emptying.Stopped o)) = Unit {0}
-
--- and is never stopped
-pub ran_on : {S : Type 0} (step : S → (e : Event) → AnswerTo e → S → Type 0) (tree : S → List Node) (count rounds : S → ℕ) (noted : S → Bool) (quiet : IsQuiet step noted) → (arenas drained : List TreeArena) (turns : ℕ) (s u : S) (end : EmptyingEnd)
-    → Ran step tree count rounds (drain_plan turns drained) s u (drain_end end) → noted s ≡ false → tree s ≡ nodes_of arenas → drained ≡ arenas → IsStop end → ⊥
-ran_on step tree count rounds noted quiet arenas drained turns s u (Ok x) ran none is same stopped = stopped
-ran_on step tree count rounds noted quiet arenas drained turns s u (Err (emptying.Stuck t)) ran none is same stopped = stopped
-ran_on step tree count rounds noted quiet arenas drained turns s u (Err (emptying.Stopped o)) ran none is same stopped =
-    never_stopped step tree count rounds noted quiet (nodes_of arenas) (DrainTold arenas) (drain_plan turns arenas) s u (Err (Some (emptying.Stopped o))) [] (λ told says. says) (λ x. x) none is (drain_tells turns arenas (nodes_of arenas)) (subst (λ xs. Path (Step step tree count rounds) (drain_plan turns xs) s u (Err (Some (emptying.Stopped o)))) same ran.path)
-
-abbrev pub IsBack : ReturnEnd → Type 0
-IsBack (Ok u) = ⊥
-IsBack (Err (returning.Stuck t)) = ⊥
-IsBack (Err (returning.Stopped t)) = Unit {0}
-
-module _ {S : Type 0} (step : S → (e : Event) → AnswerTo e → S → Type 0) (tree : S → List Node) (count rounds : S → ℕ) (noted : S → Bool) (quiet : IsQuiet step noted) (said : S → Said) (says : (s t : S) (e : Event) (x : AnswerTo e) → step s e x t → is_stopped e x ≡ false → IsSaid e (said t)) (arenas : List TreeArena) (is_tree : IsTree arenas) (given : Tag) where
-  word_of : (b : Bool) (s u : S) (t : Tag) → nat_lt given.arena (length arenas) ≡ b → noted s ≡ false → tree s ≡ nodes_of arenas → Path (Step step tree count rounds) (place_plan arenas given) s u (Err (returning.Stuck t)) → IsRefused arenas t (said u)
-  word_of true s u t is none seen d =
-      inr (path_says step tree count rounds noted quiet said says (nodes_of arenas) FreeTold t (place_plan arenas given) s u (Err (returning.Stuck t)) [] (λ told ends. ends) (λ no. absurd no) none seen (told_placing step tree count rounds noted quiet arenas is_tree given is) d)
-  word_of false s u t is none seen d =
-      inl (let e : Err (returning.Stuck given) ≡ Err (returning.Stuck t) = outside step tree count rounds noted quiet arenas is_tree given s u (Err (returning.Stuck t)) is d in let same : given ≡ t = cc in subst (λ (z : Tag). length arenas ≤ z.arena) same (ltb-false given.arena (length arenas) is))
-
-  -- a segment that isn't placed was refused
-  pub ran_refused : (placed : List TreeArena) (s u : S) (t : Tag) (r : ReturnEnd) → Ran step tree count rounds (place_plan placed given) s u r → noted s ≡ false → tree s ≡ nodes_of arenas → placed ≡ arenas → r ≡ Err (returning.Stuck t) → (cpu : CpuState) → cpu.hand ≡ Some t → cpu.refused ≡ said u → IfSome cpu.hand (λ z. IsRefused arenas z cpu.refused)
-  ran_refused placed s u t r ran none seen same stuck cpu held has =
-      let path = subst (Path (Step step tree count rounds) (place_plan arenas given) s u) stuck (subst (λ xs. Path (Step step tree count rounds) (place_plan xs given) s u r) same ran.path) in
-      subst (λ (h : Option Tag). IfSome h (λ z. IsRefused arenas z cpu.refused)) (sym held) (subst (IsRefused arenas t) (sym has) (word_of (nat_lt given.arena (length arenas)) s u t refl none seen path))
-
-  back : (b : Bool) (s u : S) (t : Tag) → nat_lt given.arena (length arenas) ≡ b → noted s ≡ false → tree s ≡ nodes_of arenas → Path (Step step tree count rounds) (place_plan arenas given) s u (Err (returning.Stopped t)) → ⊥
-  back true s u t is none seen d = never_stopped step tree count rounds noted quiet (nodes_of arenas) FreeTold (place_plan arenas given) s u (Err (returning.Stopped t)) [] (λ told ends. ends) (λ x. x) none seen (told_placing step tree count rounds noted quiet arenas is_tree given is) d
-  back false s u t is none seen d = (let e : Err (returning.Stuck given) ≡ Err (returning.Stopped t) = outside step tree count rounds noted quiet arenas is_tree given s u (Err (returning.Stopped t)) is d in absurd (cc))
-
-  -- none is stopped
-  pub ran_back : (placed : List TreeArena) (s u : S) (r : ReturnEnd) → Ran step tree count rounds (place_plan placed given) s u r → noted s ≡ false → tree s ≡ nodes_of arenas → placed ≡ arenas → IsBack r → ⊥
-  ran_back placed s u (Ok x) ran none seen same stopped = stopped
-  ran_back placed s u (Err (returning.Stuck t)) ran none seen same stopped = stopped
-  ran_back placed s u (Err (returning.Stopped t)) ran none seen same stopped =
-      back (nat_lt given.arena (length arenas)) s u t refl none seen (subst (λ xs. Path (Step step tree count rounds) (place_plan xs given) s u (Err (returning.Stopped t))) same ran.path)

@@ -1,23 +1,19 @@
 -- What emptying the CPU of a running system comes to, as far as can be told where nothing is known
 -- of what lies behind the locks.
-use Rattle.std.specs.Prelude.{◌≡◌, ◌⊎◌, ℕ, ◌≤◌, List, length, map, Option, Some, None, Ok, Err}
+use Rattle.std.specs.Prelude.{◌≡◌, ◌⊎◌, ℕ, ◌≤◌, List, length, Option, Some, None, Ok, Err}
 use Rattle.deed_core.specs.Tag.{Tag}
 use Rattle.arena_tree.specs.Chains.{Node}
-use Rattle.arena_tree.specs.Events.{Event, AnswerTo}
+use Rattle.arena_tree.specs.Events.{AnswerTo}
 use Rattle.arena_tree.specs.Plans.{Plan, Done, Ask}
 use Rattle.arena_tree.specs.Trees.{nodes_of}
 use Rattle.arena_tree.specs.declared.part_faults.ReturnFault.TheVariants as returning
 use Rattle.arena_tree.specs.declared.trees.TreeArena.{TreeArena}
 use Rattle.lease_call.specs.Placing.{place_plan}
 use Rattle.locked_parts.specs.Answers.{AnswersSoundly}
-use Rattle.locked_parts.specs.Kinds.{kinds_of}
-use Rattle.locked_parts.specs.Saying.{IsSaid}
-use Rattle.locked_parts.specs.declared.said.Said.{Said}
 use Rattle.quantum_cache.specs.Drains.{drain_plan}
 use Rattle.quantum_cache.specs.Told.{PartRefuses}
 use Rattle.quantum_cache.specs.declared.emptying_faults.EmptyingFault.TheVariants as emptying
 use Rattle.lease_threads.specs.Reaping.{EndsSoundly}
-use Rattle.lease_threads.specs.Systems.{CpuState, HoldsNothing}
 
 -- some sound answers of the parts, none of them a Stop, lead the list of steps to this end, and by
 -- the last one a part refuses the segment; `refused` says whether the one before did
@@ -48,24 +44,3 @@ abbrev pub RetiresSoundly : List TreeArena → (hand left : Option Tag) → Type
 RetiresSoundly arenas hand None = DrainsSoundly arenas None
 RetiresSoundly arenas hand (Some left) =
     IsUnplaced arenas hand left ⊎ DrainsSoundly arenas (Some left)
-
--- by its own word a part was asked to take the segment, and refused it
-pub record WasRefused (t : Tag) (said : Said) : Type 0 where
-  pub event : Event
-  pub answer : AnswerTo event
-  pub refuses : PartRefuses t event answer
-  pub by : IsSaid event said
-
--- or the segment is of no arena of the tree
-abbrev pub IsRefused : List TreeArena → Tag → Said → Type 0
-IsRefused arenas t said = (length arenas ≤ t.arena) ⊎ WasRefused t said
-
--- a CPU that was drained: where its hand is empty nothing is left in it, if its magazines are those
--- for the tree's quantum caches; else the hand was refused
-abbrev pub IsDrainedBut : List TreeArena → (hand : Option Tag) → CpuState → Type 0
-IsDrainedBut arenas None cpu =
-    map (λ r. r.kind) cpu.caches ≡ kinds_of arenas → HoldsNothing cpu
-IsDrainedBut arenas (Some t) cpu = IsRefused arenas t cpu.refused
-
-abbrev pub IsDrainedOrRefused : List TreeArena → CpuState → Type 0
-IsDrainedOrRefused arenas cpu = IsDrainedBut arenas cpu.hand cpu

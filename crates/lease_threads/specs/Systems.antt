@@ -7,7 +7,6 @@ use Rattle.deed_core.specs.Tag.{Tag}
 use Rattle.magazine_layer.specs.Magazines.{BothEmpty, cache_rounds}
 use Rattle.arena_tree.specs.declared.trees.TreeArena.{TreeArena}
 use Rattle.locked_parts.specs.Kinds.{OwnCacheState}
-use Rattle.locked_parts.specs.declared.said.Said.{Said}
 
 -- its arenas by number, and the roots that they were set up with, by arena and then in order of
 -- adding: what stands beside the locks
@@ -15,11 +14,10 @@ pub record SystemState : Type 0 where
   pub arenas : List TreeArena
   pub roots : List Holding
 
--- a CPU: its number, its hand, what the part said that refused the hand last, and its magazines
+-- a CPU: its number, its hand, and its magazines
 pub record CpuState : Type 0 where
   pub number : ℕ
   pub hand : Option Tag
-  pub refused : Said
   pub caches : List OwnCacheState
 
 -- the units of its hand and of all its rounds

@@ -5,23 +5,21 @@ ghost use Rattle.magazine_layer.specs.Magazines.{BothEmpty};
 ghost use Rattle.lease_proto.specs.declared.limits.TheConstants.{MOST_CPUS};
 ghost use Rattle.locked_parts.specs.Kinds.{kinds_of, new_own};
 ghost use Rattle.lease_threads.specs.Systems.{cpu_units};
-ghost use Rattle.locked_parts.specs.declared.said.Said.TheVariants as saying;
 
 use crate::systems::System;
 use deed_core::Segment;
 use deed_table::{Name, SeatDeed};
 use lease_proto::MOST_CPUS;
-use locked_parts::{OwnCache, Said, end_rounds, new_rounds};
+use locked_parts::{OwnCache, end_rounds, new_rounds};
 use std::alloc::{AllocError, Global};
 use std::marker::Model;
 
 /// A worker's own: its number, its hand, which is the one segment that it is moving, and two
-/// magazines for each quantum cache. It needs no lock. Where a part refused the hand, the CPU keeps
-/// what that said. It is never copied or dropped: the system takes it back by `retire`.
+/// magazines for each quantum cache. It needs no lock. It is never copied or dropped: the system
+/// takes it back by `retire`.
 pub struct Cpu<N: Name> {
     number: u32,
     pub(crate) hand: Option<Segment<SeatDeed<N>>>,
-    refused: Said,
     pub(crate) caches: Vec<OwnCache<SeatDeed<N>>>,
 }
 
@@ -30,12 +28,7 @@ impl<N: Name> Model for Cpu<N> {
 
     ghost Value = { CpuState };
 
-    ghost view = { λ c. record {
-      number = c.number;
-      hand = c.hand;
-      refused = c.refused;
-      caches = c.caches.items;
-    } };
+    ghost view = { λ c. record { number = c.number; hand = c.hand; caches = c.caches.items } };
 }
 
 impl<N: Name> Cpu<N> {
@@ -55,7 +48,6 @@ impl<N: Name> Cpu<N> {
         Ok(Some(Cpu {
             number,
             hand: None,
-            refused: Said::Nothing,
             caches,
         }))
     }
@@ -67,7 +59,6 @@ impl<N: Name> Cpu<N> {
         Cpu {
             number: 0,
             hand: None,
-            refused: Said::Nothing,
             caches: Vec::new(alloc),
         }
     }
@@ -96,27 +87,9 @@ impl<N: Name> Cpu<N> {
     /// Takes a segment into the empty hand.
     pub(crate) fn hold(&mut self, segment: Segment<SeatDeed<N>>)
         requires { self.old.hand ≡ None }
-        ensures { self.new ≡ record {
-          number = self.old.number;
-          hand = Some segment;
-          refused = saying.Nothing;
-          caches = self.old.caches;
-        } }
+        ensures { self.new
+            ≡ record { number = self.old.number; hand = Some segment; caches = self.old.caches } }
     {
-        self.hold_refused(segment, Said::Nothing);
-    }
-
-    /// Takes one into it that the part refused which said this.
-    pub(crate) fn hold_refused(&mut self, segment: Segment<SeatDeed<N>>, said: Said)
-        requires { self.old.hand ≡ None }
-        ensures { self.new ≡ record {
-          number = self.old.number;
-          hand = Some segment;
-          refused = said;
-          caches = self.old.caches;
-        } }
-    {
-        self.refused = said;
         match self.hand.replace(segment) {
             None => {}
             Some(_) => unreachable!(),
@@ -126,16 +99,12 @@ impl<N: Name> Cpu<N> {
     /// Takes what a list of steps left, if it left anything, into the empty hand.
     pub(crate) fn hold_left(&mut self, left: Option<Segment<SeatDeed<N>>>)
         requires { self.old.hand ≡ None }
-        ensures { self.new ≡ record {
-          number = self.old.number;
-          hand = left;
-          refused = saying.Nothing;
-          caches = self.old.caches;
-        } }
+        ensures { self.new
+            ≡ record { number = self.old.number; hand = left; caches = self.old.caches } }
     {
         match left {
             Some(segment) => self.hold(segment),
-            None => self.refused = Said::Nothing,
+            None => {}
         }
     }
 
@@ -154,7 +123,6 @@ impl<N: Name> Cpu<N> {
         let Cpu {
             number: _,
             hand,
-            refused: _,
             caches,
         } = self;
         end_rounds(caches);

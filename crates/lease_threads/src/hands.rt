@@ -1,7 +1,7 @@
 //! What a request or another call left in a CPU's hand goes back.
 ghost use Rattle.std.specs.Prelude.{◌≡◌, ◌≢◌, None, IfSome, true, false};
 ghost use Rattle.locked_parts.specs.Kinds.{AreForSame};
-ghost use Rattle.lease_threads.specs.Retiring.{IsUnplaced, IsRefused};
+ghost use Rattle.lease_threads.specs.Retiring.{IsUnplaced};
 
 use crate::cpus::Cpu;
 use crate::systems::System;
@@ -20,8 +20,6 @@ impl<N: Name> System<N> {
         ensures held_on { result ≡ false → (cpu.old.hand ≢ None) × (cpu.new.hand ≢ None) }
         ensures unplaced { result ≡ false
             → IfSome cpu.new.hand (IsUnplaced self.now.arenas cpu.old.hand) }
-        ensures refused { result ≡ false
-            → IfSome cpu.new.hand (λ t. IsRefused self.now.arenas t cpu.new.refused) }
     {
         let Some(segment) = cpu.hand.take() else {
             return true;
@@ -34,8 +32,7 @@ impl<N: Name> System<N> {
         match place(&mut running, tree, segment) {
             Ok(()) => true,
             Err(ReturnFault::Stuck(segment)) => {
-                let said = running.said;
-                cpu.hold_refused(segment, said);
+                cpu.hold(segment);
                 false
             }
             Err(ReturnFault::Stopped(segment)) => {

@@ -2,7 +2,7 @@
 ghost use Rattle.std.specs.Prelude.{◌≡◌, None, IfErr};
 ghost use Rattle.lease_threads.specs.Systems.{HoldsNothing};
 ghost use Rattle.locked_parts.specs.Kinds.{AreForSame};
-ghost use Rattle.lease_threads.specs.Retiring.{DrainsSoundly, RetiresSoundly, IsDrainedOrRefused};
+ghost use Rattle.lease_threads.specs.Retiring.{DrainsSoundly, RetiresSoundly};
 
 use crate::cpus::Cpu;
 use crate::systems::System;
@@ -13,14 +13,12 @@ use std::sync::Wait;
 
 impl<N: Name> System<N> {
     /// Places the hand and all rounds of a CPU, which then ends. Where a part refuses one of them,
-    /// the CPU comes back with what it still has and with what that part said, and this may be tried
-    /// again; so does one of another system's, with its rounds.
+    /// the CPU comes back with what it still has, and this may be tried again.
     pub fn retire<R: Wait>(&self, rt: &R, cpu: Cpu<N>) -> Result<(), Cpu<N>>
         ensures number { IfErr result (λ rest. rest.number ≡ cpu.number) }
         ensures magazines { IfErr result (λ rest. AreForSame cpu.caches rest.caches) }
         ensures rest { IfErr result (λ rest. ¬ HoldsNothing rest) }
         ensures left { IfErr result (λ rest. RetiresSoundly self.now.arenas cpu.hand rest.hand) }
-        ensures refused { IfErr result (IsDrainedOrRefused self.now.arenas) }
     {
         let mut cpu = cpu;
         self.drain(rt, &mut cpu);
@@ -38,18 +36,16 @@ impl<N: Name> System<N> {
         ensures magazines { IfErr result (λ rest. AreForSame cpu.caches rest.caches) }
         ensures rest { IfErr result (λ rest. ¬ HoldsNothing rest) }
         ensures left { IfErr result (λ rest. RetiresSoundly self.now.arenas cpu.hand rest.hand) }
-        ensures refused { IfErr result (IsDrainedOrRefused self.now.arenas) }
     {
         self.retire(rt, cpu)
     }
 
     /// Places the hand, and then all rounds of the CPU, as far as that goes: one that a part
-    /// refuses is the hand then, with what that part said.
+    /// refuses is the hand then.
     pub fn drain<R: Wait>(&self, rt: &R, cpu: &mut Cpu<N>)
         ensures number { cpu.new.number ≡ cpu.old.number }
         ensures magazines { AreForSame cpu.old.caches cpu.new.caches }
         ensures left { RetiresSoundly self.now.arenas cpu.old.hand cpu.new.hand }
-        ensures refused { IsDrainedOrRefused self.now.arenas cpu.new }
     {
         if self.place_hand(rt, cpu) {
             self.drain_rounds(rt, cpu);
@@ -62,16 +58,12 @@ impl<N: Name> System<N> {
         ensures number { cpu.new.number ≡ cpu.old.number }
         ensures magazines { AreForSame cpu.old.caches cpu.new.caches }
         ensures left { DrainsSoundly self.now.arenas cpu.new.hand }
-        ensures refused { IsDrainedOrRefused self.now.arenas cpu.new }
     {
         let number = cpu.number();
         let mut running = Running::new(&self.parts, rt, &OpenGate, number, &mut cpu.caches);
         match drain(&mut running, self.parts.tree()) {
             Ok(()) => {}
-            Err(EmptyingFault::Stuck(segment)) => {
-                let said = running.said;
-                cpu.hold_refused(segment, said);
-            }
+            Err(EmptyingFault::Stuck(segment)) => cpu.hold(segment),
             Err(EmptyingFault::Stopped(Some(segment))) => cpu.hold(segment),
             Err(EmptyingFault::Stopped(None)) => {}
         }
