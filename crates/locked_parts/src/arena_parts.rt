@@ -266,6 +266,7 @@ impl<N: Name> ArenaPart<N> {
         ensures refused { IfErr result (λ f. self.old.arena.id ≡ id
             → RefusesGrow self.old range f) }
         ensures unchanged { OnErr result (self.new ≡ self.old) }
+        ensures mine { OnOk result (self.old.arena.id ≡ id) }
     {
         if self.arena.id() != id {
             return Err(GrowFault::NoMemory);
