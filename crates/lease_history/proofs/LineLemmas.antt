@@ -15,20 +15,10 @@ use Rattle.lease_book.specs.History.{outcome_of}
 use Rattle.lease_book.proofs.LawProofs.{outcomes_stay}
 use Rattle.lease_client.specs.declared.held.HeldSegment.{HeldSegment}
 use Rattle.lease_client.specs.ClientState.{ClientState, IsSoundClient, is_numbered, line_at, AreRequests, AreOwn}
-use Rattle.lease_client.proofs.LawProofs.{found_own}
+use Rattle.lease_client.proofs.LawProofs.{found_own, found_above}
 use Rattle.lease_history.specs.Known.{weight_kept, weight_due, one_ending, ending_at}
 use Rattle.lease_history.proofs.Sums.{sum_one}
 use Rattle.lease_history.proofs.PlaceLemmas.{ending_same}
-
--- what waits has at least the least number
-not_below : (c i from next n : ℕ) (ls : List Line) (line : Line) → AreRequests c i from next ls → line_at n ls ≡ Some line → from ≤ n
-not_below c i from next n [] line are waits = absurd cc
-not_below c i from next n (lines.Hello h ∷ ls) line are waits = absurd are
-not_below c i from next n (lines.Request id op ∷ ls) line are waits = by (nat_eq n id.number) refl waits (not_below c i (id.number + 1) next n ls line are.4)
-  where
-    by : (b : Bool) → nat_eq n id.number ≡ b → cond b (Some (lines.Request id op)) (line_at n ls) ≡ Some line → (line_at n ls ≡ Some line → id.number + 1 ≤ n) → from ≤ n
-    by true is waits rest = omega (arith, eqb-true n id.number is, are.2)
-    by false is waits rest = omega (arith, rest waits, are.2)
 
 -- where a request waits, all that wait are requests of an open client, in the window
 window_at : (c i : ℕ) (p : Protocol) (next n : ℕ) (o : Bool) (ls : List Line) (id : RequestId) (op : Op) → AreOwn c i p next o ls
@@ -43,7 +33,7 @@ window_at c i p next n o (lines.Request first asks ∷ ls) id op own waits = (ow
     from_first = (own.1.0, own.1.1, omega arith, own.1.3, own.1.4)
 
     least : first.number ≤ n
-    least = not_below c i first.number next n (lines.Request first asks ∷ ls) (lines.Request id op) from_first waits
+    least = found_above c i first.number next n (lines.Request first asks ∷ ls) (lines.Request id op) from_first waits
 
 -- where a request waits, all that wait are requests
 pub requests_of : (c i : ℕ) (p : Protocol) (next n : ℕ) (o : Bool) (ls : List Line) (id : RequestId) (op : Op) → AreOwn c i p next o ls

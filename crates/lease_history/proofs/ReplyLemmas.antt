@@ -1,6 +1,6 @@
 -- What a client gets keeps it known.
 use Rattle.std.proofs.Common.{◌≡◌, inl, inr, ℕ, ◌+◌, ◌<◌, ◌≤◌, ◌==◌, ◌&&◌, Bool, true, false, not, cond, List, [], ◌∷◌, ◌++◌, Some, None, sum_by, nat_lt, refl, sym, ap, subst, ◌∙◌, arith}
-use Rattle.std.proofs.lemmas.Bool.{false≢true, and_parts, eqb-true, ltb-true, cond-true, cond_both, or_cases, both_ways, or_from, false_from_ne_true, not_from_false}
+use Rattle.std.proofs.lemmas.Bool.{false≢true, and_parts, eqb-true, ltb-true, cond-true, cond_both, or_cases, both_ways, false_from_ne_true, not_from_false}
 use Rattle.lease_terms.specs.Requests.{RequestId}
 use Rattle.lease_terms.specs.declared.protocols.Protocol.{Protocol}
 use Rattle.lease_terms.specs.declared.protocols.Protocol.TheVariants.{One, Two}
@@ -21,10 +21,10 @@ use Rattle.lease_book.specs.History.{incarnation, first_protocol, outcome_of, le
 use Rattle.lease_book.proofs.LawProofs.{outcomes_stay}
 use Rattle.lease_client.specs.declared.held.HeldSegment.{HeldSegment}
 use Rattle.lease_client.specs.Answers.{is_same_request, is_same_protocol, answers, answers_one, unanswered}
-use Rattle.lease_client.specs.ClientState.{ClientState, IsSoundClient, is_numbered, line_at, AreRequests, AreOwn}
+use Rattle.lease_client.specs.ClientState.{ClientState, IsSoundClient, is_numbered, line_at, AreOwn}
 use Rattle.lease_client.specs.Replies.{is_ahead, accepts, after_accept, after_reply, segment_of}
 use Rattle.lease_client.specs.Runs.{Get}
-use Rattle.lease_client.proofs.LawProofs.{moves_keep_sound}
+use Rattle.lease_client.proofs.LawProofs.{moves_keep_sound, no_request, answers_none}
 use Rattle.lease_history.specs.Known.{weight_told, weight_kept, weight_due, one_ending, ending_at, weight_left, IsKnown}
 use Rattle.lease_history.specs.Told.{reply_to, IsOutcome, MayTell}
 use Rattle.lease_history.specs.Laws.{RepliesKeepKnown, ToldStaysTold, RepliesAgree}
@@ -144,15 +144,10 @@ same_protocol Two Two is = refl
 same_protocol One Two is = absurd (false≢true is)
 same_protocol Two One is = absurd (false≢true is)
 
-none_welcomed : (w : Welcome) (c i from next : ℕ) (ls : List Line) → AreRequests c i from next ls → answers_one (replies.Welcome w) ls ≡ false
-none_welcomed w c i from next [] are = refl
-none_welcomed w c i from next (lines.Hello h ∷ ls) are = absurd are
-none_welcomed w c i from next (lines.Request id op ∷ ls) are = none_welcomed w c i (id.number + 1) next ls are.4
-
 welcomed_own : (w : Welcome) (c i : ℕ) (p : Protocol) (next : ℕ) (o : Bool) (ls : List Line) → AreOwn c i p next o ls → answers_one (replies.Welcome w) ls ≡ true
     → w ≡ record { client = c; incarnation = i; protocol = p }
 welcomed_own w c i p next o [] own one = absurd (false≢true one)
-welcomed_own w c i p next o (lines.Request id op ∷ ls) own one = absurd (both_ways (answers_one (replies.Welcome w) ls) (none_welcomed w c i 1 next (lines.Request id op ∷ ls) own.1) one)
+welcomed_own w c i p next o (lines.Request id op ∷ ls) own one = absurd (both_ways (answers_one (replies.Welcome w) ls) (no_request w c i 1 next (lines.Request id op ∷ ls) own.1) one)
 welcomed_own w c i p next o (lines.Hello h ∷ ls) own one =
     let none : answers_one (replies.Welcome w) ls ≡ false = ap (answers_one (replies.Welcome w)) own.5 in
     elim (or_cases (answers (replies.Welcome w) (lines.Hello h)) (answers_one (replies.Welcome w) ls) one) as (λ _. w ≡ record { client = c; incarnation = i; protocol = p }) [
@@ -199,10 +194,6 @@ refused_ends : (names : ℕ → List ℕ) (es : List Entry) (r : _) → IsOutcom
     → answers (replies.Refused r) line ≡ true → IsSettled es line
 refused_ends names es r told (lines.Hello h) is = tt
 refused_ends names es r told (lines.Request id op) is = (told.0, told_outcome names es r.id id (replies.Refused r) is told)
-
-answers_none : (reply : Reply) → ((line : Line) → answers reply line ≡ false) → (ls : List Line) → answers_one reply ls ≡ false
-answers_none reply none [] = refl
-answers_none reply none (line ∷ ls) = or_from (answers reply line) (answers_one reply ls) (none line) (answers_none reply none ls)
 
 -- a reply that answers no line isn't accepted, and an `old` from the book isn't news
 never : (names : ℕ → List ℕ) (es : List Entry) (c : ClientState) (reply : Reply) → accepts reply c ≡ answers_one reply c.outstanding
