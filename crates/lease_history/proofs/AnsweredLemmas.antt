@@ -7,11 +7,11 @@ use Rattle.lease_terms.specs.declared.protocols.Protocol.TheVariants.{One}
 use Rattle.lease_proto.specs.declared.lines.Line.TheVariants as lines
 use Rattle.lease_proto.specs.declared.lines.Op.{Op}
 use Rattle.lease_book.specs.Receipts.{Kept}
-use Rattle.lease_book.specs.Replies.{kept_at, recent}
+use Rattle.lease_book.specs.Replies.{kept_at}
 use Rattle.lease_book.specs.Entry.{Entry}
 use Rattle.lease_book.specs.Account.{Account, last_number, window_in}
 use Rattle.lease_book.specs.Answers.{IsNew}
-use Rattle.lease_book.specs.History.{incarnation, settled_in, last_in, low_in, first_protocol, or_else, protocol_in, reach_in, outcome_of, account, AreOrderly}
+use Rattle.lease_book.specs.History.{incarnation, last_in, low_in, first_protocol, or_else, protocol_in, account, AreOrderly}
 use Rattle.lease_book.proofs.LawProofs.{kept_outcomes, numbers_settled_once}
 use Rattle.lease_client.specs.ClientState.{ClientState, line_at}
 use Rattle.lease_history.specs.Known.{IsKnown, IsAnswerable}
@@ -49,15 +49,8 @@ module _ (names : ℕ → List ℕ) (es : List Entry) (c : ClientState) (id : Re
   window_now : window_in of_client ≡ window_of c.protocol
   window_now = ap (λ (n : ℕ). window_in (account es n)) one.client ∙ ap window_of agree.1
 
-  window : reach_in id.client id.incarnation es ≡ window_of c.protocol
-  window = ap (λ (n : ℕ). reach_in id.client n es) current ∙ window_now
-
   low_now : of_client.low ≡ low_in id.client id.incarnation es
   low_now = ap (λ (n : ℕ). low_in id.client n es) (sym current)
-
-  kept_now : of_client.kept ≡ recent (window_of c.protocol) (settled_in id.client id.incarnation es)
-  kept_now = ap (λ (n : ℕ). recent (reach_in id.client n es) (settled_in id.client n es)) (sym current)
-      ∙ ap (λ (w : ℕ). recent w (settled_in id.client id.incarnation es)) window
 
   -- all that is settled has a smaller number than the next one
   last_below : last_in id.client id.incarnation es < c.next
@@ -86,9 +79,6 @@ module _ (names : ℕ → List ℕ) (es : List Entry) (c : ClientState) (id : Re
 
       least : RequestId
       least = record { client = id.client; incarnation = id.incarnation; number = suc low }
-
-  kept_or_none : kept_at id.number of_client.kept ≡ outcome_of id es
-  kept_or_none = ap (kept_at id.number) kept_now ∙ kept_outcomes.all es id (window_of c.protocol) (omega (arith, last_below, one.near))
 
   answered : IsNew of_client id ⊎ ((k : Kept) × (kept_at id.number of_client.kept ≡ Some k))
   answered = by (kept_at id.number of_client.kept) refl
