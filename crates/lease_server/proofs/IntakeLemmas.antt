@@ -247,9 +247,6 @@ hand_whole h whole =
     let begun : begun_at h ≡ rest_in [] h.rest = rw whole refl in
     (frames ∙ ap (λ f. frame_of h.line ∷ f) (sym (hand_in-frames [] h.rest)), hand_in-begun [] h.rest ∙ ap (take LINE_ROOM) (sym begun))
 
-pub hand_none : (h : AtHand) → h.whole ≡ false → (frames_at h ≡ []) × (begun_at h ≡ h.line)
-hand_none h unended = (rw unended refl, rw unended refl)
-
 pub passes_less : (h : AtHand) → h.whole ≡ true → size_at (hand_in [] h.rest) < size_at h
 passes_less h whole =
     let less = hand_in-size [] h.rest in

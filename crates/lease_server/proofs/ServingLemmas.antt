@@ -1,13 +1,13 @@
 -- Lemmas on what is written for frames, one stretch after another.
-use Rattle.std.proofs.Common.{◌≡◌, ℕ, List, [], ◌∷◌, ◌++◌, take, refl, sym, ◌∙◌, ap, subst, append_assoc, arith, length, drop, ◌-◌, take-append-drop, Ok, Err, Option, Some, None, IfSome, Result, OnOk, OnErr}
-use Rattle.std.proofs.lemmas.List.{append-nil, take_all, take-take, take_rest}
+use Rattle.std.proofs.Common.{◌≡◌, ℕ, List, [], ◌∷◌, ◌++◌, take, refl, sym, ◌∙◌, ap, subst, append_assoc, length, drop, ◌-◌, take-append-drop, Ok, Err, Option, Some, None, IfSome, Result, OnOk, OnErr}
+use Rattle.std.proofs.lemmas.List.{append-nil, take_rest}
 use Rattle.std.specs.Io.KnownBytes.{Consumes, IsAtEnd}
 use Rattle.std.proofs.KnownBytes.{Appends-trans, Consumes-all, Consumes-trans}
 use Rattle.lease_proto.specs.declared.limits.TheConstants.{LINE_ROOM}
 use Rattle.lease_proto.specs.Frames.{Frame, frames_in, rest_in, frames_of, frames_of_rest}
 use Rattle.lease_proto.specs.declared.faults.LineFault.{LineFault}
 use Rattle.lease_proto.specs.Faults.{error_line}
-use Rattle.lease_proto.proofs.LawProofs.{frames_in-take, rest_in-take, frames_of_rest-take, frames_in-append, rest_in-append}
+use Rattle.lease_proto.proofs.LawProofs.{frames_in-take, rest_in-take, frames_of_rest-take, frames_in-append}
 use Rattle.lease_proto.specs.Serving.{ServesLines}
 use Rattle.lease_server.specs.Serving.{SameFront, WritesFront, Answers, AnswersBefore, HasAnswered, Writes, WritesBefore, Stops}
 
@@ -127,36 +127,6 @@ moves_front all done rest n e =
     e ∙ ap (λ l. done ++ l) (sym (take-append-drop n rest)) ∙ sym (append_assoc done (take n rest) (drop n rest))
     ∙ ap (λ l. (done ++ take n rest) ++ l) (sym (take_rest rest n))
 
--- the reader took all of the rest, and no line ended
-pub taken_on : (line cur new done rest : List ℕ) (n : ℕ) → SameFront cur (rest_in line done)
-    → (n ≡ length rest) × (frames_in cur rest ≡ []) × (new ≡ take LINE_ROOM (rest_in cur rest))
-    → SameFront new (rest_in line (done ++ take n rest)) × (frames_in line (done ++ take n rest) ≡ frames_in line done)
-taken_on line cur new done rest n same (all, frames, held) =
-    let whole : take n rest ≡ rest = take_all n rest (omega arith) in
-    let on : SameFront (rest_in cur rest) (rest_in (rest_in line done) rest) = rest_in-same cur (rest_in line done) rest same in (
-      ap (take LINE_ROOM) held ∙ take-take LINE_ROOM LINE_ROOM (rest_in cur rest) (omega arith) ∙ on
-          ∙ ap (take LINE_ROOM) (sym (rest_in-append line done rest) ∙ ap (λ t. rest_in line (done ++ t)) (sym whole)),
-      ap (λ t. frames_in line (done ++ t)) whole ∙ frames_in-append line done rest
-          ∙ ap (λ t. frames_in line done ++ t) (sym (frames_in-same cur (rest_in line done) rest same) ∙ frames) ∙ append-nil _,
-    )
-
--- the reader took the rest up to a line feed
-pub taken_one : (line cur done rest : List ℕ) (n : ℕ) (frame : Frame) → SameFront cur (rest_in line done)
-    → (frames_in cur (take n rest) ≡ frame ∷ []) × (rest_in cur (take n rest) ≡ [])
-    → SameFront [] (rest_in line (done ++ take n rest)) × (frames_in line (done ++ take n rest) ≡ frames_in line done ++ frame ∷ [])
-taken_one line cur done rest n frame same (frames, none) = (
-  ap (take LINE_ROOM) (sym none) ∙ rest_in-same cur (rest_in line done) (take n rest) same ∙ ap (take LINE_ROOM) (sym (rest_in-append line done (take n rest))),
-  frames_in-append line done (take n rest)
-      ∙ ap (λ t. frames_in line done ++ t) (sym (frames_in-same cur (rest_in line done) (take n rest) same) ∙ frames),
-)
-
--- what was taken tells the first frames of all
-pub first_frames : (line all done rest : List ℕ) (n : ℕ) → all ≡ done ++ rest
-    → frames_in line all ≡ frames_in line (done ++ take n rest) ++ frames_in (rest_in line (done ++ take n rest)) (drop n rest)
-first_frames line all done rest n e =
-    ap (frames_in line) (e ∙ ap (λ l. done ++ l) (sym (take-append-drop n rest)) ∙ sym (append_assoc done (take n rest) (drop n rest)))
-    ∙ frames_in-append line (done ++ take n rest) (drop n rest)
-
 known : (a : Option (List ℕ)) (input : List ℕ) (P : List ℕ → Type 0) → IfSome a (λ xs. input ≡ xs) → P input → IfSome a P
 known None input P e holds = tt
 known (Some xs) input P e holds = subst P e holds
@@ -180,14 +150,3 @@ pub frames_of-append : (input left : List ℕ)
 frames_of-append input left =
     ap (λ f. f ++ frames_of_rest (rest_in [] (input ++ left))) (frames_in-append [] input left)
     ∙ append_assoc (frames_in [] input) (frames_in (rest_in [] input) left) (frames_of_rest (rest_in [] (input ++ left)))
-
--- one more piece of the input
-pub more_frames : (cur input piece : List ℕ) → SameFront cur (rest_in [] input)
-    → frames_in [] (input ++ piece) ≡ frames_in [] input ++ frames_in cur piece
-more_frames cur input piece same =
-    frames_in-append [] input piece ∙ ap (λ f. frames_in [] input ++ f) (sym (frames_in-same cur (rest_in [] input) piece same))
-
-pub more_rest : (new cur input piece : List ℕ) → SameFront cur (rest_in [] input) → SameFront new (rest_in cur piece)
-    → SameFront new (rest_in [] (input ++ piece))
-more_rest new cur input piece same held =
-    held ∙ rest_in-same cur (rest_in [] input) piece same ∙ ap (take LINE_ROOM) (sym (rest_in-append [] input piece))
