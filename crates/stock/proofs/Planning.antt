@@ -2,7 +2,7 @@
 use Rattle.std.proofs.Common.{◌≡◌, ℕ, suc, zero, ◌+◌, ◌*◌, ◌/◌, ◌%◌, ◌<◌, ◌≤◌, refl, sym, subst, ap, ◌∙◌, inl, inr, List, [], ◌∷◌, ◌++◌, map, length, set, take, replicate, get_or, All, IfSome, Option, Some, None, arith}
 use Rattle.std.specs.Prelude.{slice_get}
 use Rattle.std.proofs.Math.Nat.{mul-le-mul_left, mod_self}
-use Rattle.std.proofs.lemmas.List.{length-map, length-replicate, length-take-le, length_push, map-set, replicate_more, take_more}
+use Rattle.std.proofs.lemmas.List.{length-map, length-replicate, length-take-le, length_push, map_push, map-set, replicate_more, take_more}
 use Rattle.std.proofs.lemmas.List.Elements.{All-push, All-weaker, All-set}
 use Rattle.std.proofs.lemmas.Bool.{cases_lt}
 use Rattle.std.proofs.lemmas.Option.{slice_get_within, slice_get-get_or}
@@ -17,10 +17,6 @@ use Rattle.stock.specs.Steps.{CanImportFrom, HasRoomForCache, GainsCache, new_ca
 use Rattle.stock.specs.Setups.{plan_for, plans_for, IsNewSpace}
 use Rattle.stock.specs.Endings.{IsBareCache, IsBare}
 use Rattle.std.specs.List.{flat_map}
-
-map-push : {X Y : Type 0} (f : X → Y) (xs : List X) (y : X) → map f (xs ++ y ∷ []) ≡ map f xs ++ f y ∷ []
-map-push f [] y = refl
-map-push f (x ∷ xs) y = ap (λ ys. f x ∷ ys) (map-push f xs y)
 
 times : (k m n : ℕ) → m ≤ n → k * m ≤ k * n
 times k m n le = mul-le-mul_left k le
@@ -46,7 +42,7 @@ pub record IsPlanning (rounds : ℕ) (x : TreeArena) (first spaces : List SpaceS
 module _ (rounds : ℕ) (x : TreeArena) (first : List SpaceState) where
   pub begun : (spaces : List SpaceState) → spaces ≡ first ++ new_space (length first) x.source x.quantum x.policy ∷ [] → IsPlanning rounds x first spaces 0
   begun spaces is = record {
-    planned = ap plans_of is ∙ map-push plan_of first (new_space (length first) x.source x.quantum x.policy);
+    planned = ap plans_of is ∙ map_push plan_of first (new_space (length first) x.source x.quantum x.policy);
     unused = λ all. subst (λ (xs : List SpaceState). All (IsNewSpace rounds) xs) (sym is) (All-push (IsNewSpace rounds) first (new_space (length first) x.source x.quantum x.policy) all (record { arena = refl; caches = λ j c at. absurd (let e : None ≡ Some c = at in cc) }));
   }
 
@@ -94,7 +90,7 @@ module _ (rounds : ℕ) (x : TreeArena) (first : List SpaceState) where
         here = last on.space on.at
 
         sizes : map slab_size_of (on.space.caches ++ c ∷ []) ≡ replicate (n + 1) x.slab_size
-        sizes = map-push slab_size_of on.space.caches c ∙ ap (λ (ks : List ℕ). ks ++ x.slab_size ∷ []) (ap (λ (p : SpacePlan). p.slab_sizes) here) ∙ replicate_more n x.slab_size
+        sizes = map_push slab_size_of on.space.caches c ∙ ap (λ (ks : List ℕ). ks ++ x.slab_size ∷ []) (ap (λ (p : SpacePlan). p.slab_sizes) here) ∙ replicate_more n x.slab_size
 
         planned_now : plan_of now ≡ so_far x (n + 1)
         planned_now i = record { source = (here i).source; quantum = (here i).quantum; policy = (here i).policy; slab_sizes = sizes i }
@@ -132,7 +128,7 @@ module _ (arenas : List TreeArena) (spaces : List SpaceState) (id : ℕ) (within
   pub front_more : (x : TreeArena) (after : List SpaceState) → slice_get arenas id ≡ Some x → plans_of after ≡ plans_of spaces ++ plan_for x ∷ [] → plans_of after ≡ plans_for (take (id + 1) arenas)
   front_more x after at is =
       let read : get_or arenas id x ≡ x = slice_get_one arenas id (get_or arenas id x) x (slice_get-get_or arenas id x within) at in
-      is ∙ ap (λ (ps : List SpacePlan). ps ++ plan_for x ∷ []) planned ∙ sym (map-push plan_for (take id arenas) x) ∙ ap (λ (xs : List TreeArena). plans_for xs) (ap (λ (z : TreeArena). take id arenas ++ z ∷ []) (sym read) ∙ sym (take_more arenas id x within))
+      is ∙ ap (λ (ps : List SpacePlan). ps ++ plan_for x ∷ []) planned ∙ sym (map_push plan_for (take id arenas) x) ∙ ap (λ (xs : List TreeArena). plans_for xs) (ap (λ (z : TreeArena). take id arenas ++ z ∷ []) (sym read) ∙ sym (take_more arenas id x within))
 
 -- what has nothing can end
 bare_cache : (arena k quantum slab_size rounds : ℕ) (c : QuantumCacheState) → c ≡ new_cache arena k quantum slab_size rounds → IsBareCache c

@@ -2,7 +2,7 @@
 use Rattle.std.proofs.Common.{◌≡◌, ℕ, ◌+◌, ◌%◌, ◌<◌, refl, sym, subst, ap, ◌∙◌, inl, inr, List, [], ◌∷◌, ◌++◌, map, length, set, Option, Some, None, arith}
 use Rattle.std.specs.Prelude.{slice_get, sum_by}
 use Rattle.std.proofs.lemmas.Option.{slice_get_within}
-use Rattle.std.proofs.lemmas.List.{length-map}
+use Rattle.std.proofs.lemmas.List.{length-map, map_push, nil_from_length}
 use Rattle.std.proofs.lemmas.List.Elements.{All-nil}
 use Rattle.std.proofs.lemmas.List.Sums.{sum_by_push}
 use Rattle.deed_core.specs.Tag.{Tag}
@@ -24,17 +24,9 @@ use Rattle.stock.specs.Accounts.{weight_allocated, weight_imported, slabs_in, ch
 use Rattle.stock.specs.Steps.{CanImportFrom, next_cache, GainsCache, new_space}
 use Rattle.stock.proofs.Moving.{Opens, is_written}
 
-map-push : {X Y : Type 0} (f : X → Y) (xs : List X) (y : X) → map f (xs ++ y ∷ []) ≡ map f xs ++ f y ∷ []
-map-push f [] y = refl
-map-push f (x ∷ xs) y = ap (λ ys. f x ∷ ys) (map-push f xs y)
-
-nil_of : {X : Type 0} (xs : List X) → length xs ≡ 0 → xs ≡ []
-nil_of [] none = refl
-nil_of (x ∷ xs) none = absurd (omega (arith, none))
-
 -- nothing is allocated at first
 no_ranges : ranges_of finmap.empty ≡ []
-no_ranges = ap (map (λ (e : ℕ × Holding). e.1)) (nil_of (entries {R = nat_cmp} finmap.empty) (sym (len-entries {R = nat_cmp} finmap.empty) ∙ len-empty nat_cmp Holding))
+no_ranges = ap (map (λ (e : ℕ × Holding). e.1)) (nil_from_length (entries {R = nat_cmp} finmap.empty) (sym (len-entries {R = nat_cmp} finmap.empty) ∙ len-empty nat_cmp Holding))
 
 -- an arena more
 module _ (spaces : List SpaceState) (source : Option ℕ) (quantum : ℕ) (policy : Policy) (sound : IsSoundArena (empty_arena (length spaces) quantum policy)) (can : CanImportFrom spaces source quantum) where
@@ -45,7 +37,7 @@ module _ (spaces : List SpaceState) (source : Option ℕ) (quantum : ℕ) (polic
   old_quantum : (p q : ℕ) → p < length spaces → slice_get (quanta_of (spaces ++ s ∷ [])) p ≡ Some q → (y : SpaceState) × (slice_get spaces p ≡ Some y) × (q ≡ quantum_of y)
   old_quantum p q lt at =
       let y = slice_get_some spaces p lt in
-      let there : slice_get (quanta_of spaces ++ quantum_of s ∷ []) p ≡ Some q = ap (λ xs. slice_get xs p) (sym (map-push quantum_of spaces s)) ∙ at in (
+      let there : slice_get (quanta_of spaces ++ quantum_of s ∷ []) p ≡ Some q = ap (λ xs. slice_get xs p) (sym (map_push quantum_of spaces s)) ∙ at in (
         y.0,
         y.1,
         elim (pushed (quanta_of spaces) p (quantum_of s) q there) [
