@@ -3,20 +3,15 @@ use Rattle.std.proofs.Common.{◌≡◌, ℕ, suc, zero, ◌+◌, ◌*◌, ◌/�
 use Rattle.std.specs.Prelude.{slice_get}
 use Rattle.std.proofs.Math.Nat.{mul-le-mul_left, mod_self}
 use Rattle.std.proofs.lemmas.List.{length-map, length-replicate, length-take-le, length_push, map_push, map-set, replicate_more, take_more}
-use Rattle.std.proofs.lemmas.List.Elements.{All-push, All-weaker, All-set}
+use Rattle.std.proofs.lemmas.List.Elements.{All-push, All-set}
 use Rattle.std.proofs.lemmas.Bool.{cases_lt}
 use Rattle.std.proofs.lemmas.Option.{slice_get_within, slice_get-get_or}
-use Rattle.deed_core.proofs.LawProofs.{pushed, slice_get_one, slice_get_mapped, all_at, all_from, smaller_power_divides}
-use Rattle.tag_arena.specs.ArenaState.{spans_of}
-use Rattle.magazine_layer.specs.Depots.{depot_rounds}
-use Rattle.slab_layer.specs.Slab.{deeds_in}
+use Rattle.deed_core.proofs.LawProofs.{pushed, slice_get_one, slice_get_mapped, all_at, smaller_power_divides}
 use Rattle.arena_tree.specs.declared.trees.TreeArena.{TreeArena}
 use Rattle.arena_tree.specs.Trees.{HasCaches, IsArena, IsTree, ImportsFrom}
 use Rattle.stock.specs.Spaces.{SpaceState, QuantumCacheState, SpacePlan, slab_size_of, plan_of, plans_of, with_caches}
 use Rattle.stock.specs.Steps.{CanImportFrom, HasRoomForCache, GainsCache, new_cache, next_cache, new_space}
 use Rattle.stock.specs.Setups.{plan_for, plans_for, IsNewSpace}
-use Rattle.stock.specs.Endings.{IsBareCache, IsBare}
-use Rattle.std.specs.List.{flat_map}
 
 times : (k m n : ℕ) → m ≤ n → k * m ≤ k * n
 times k m n le = mul-le-mul_left k le
@@ -129,10 +124,3 @@ module _ (arenas : List TreeArena) (spaces : List SpaceState) (id : ℕ) (within
   front_more x after at is =
       let read : get_or arenas id x ≡ x = slice_get_one arenas id (get_or arenas id x) x (slice_get-get_or arenas id x within) at in
       is ∙ ap (λ (ps : List SpacePlan). ps ++ plan_for x ∷ []) planned ∙ sym (map_push plan_for (take id arenas) x) ∙ ap (λ (xs : List TreeArena). plans_for xs) (ap (λ (z : TreeArena). take id arenas ++ z ∷ []) (sym read) ∙ sym (take_more arenas id x within))
-
--- what has nothing can end
-bare_cache : (arena k quantum slab_size rounds : ℕ) (c : QuantumCacheState) → c ≡ new_cache arena k quantum slab_size rounds → IsBareCache c
-bare_cache arena k quantum slab_size rounds c new = record { slab = ap (λ (x : QuantumCacheState). flat_map deeds_in x.slab.slabs) new; depot = ap (λ (x : QuantumCacheState). depot_rounds x.depot) new }
-
-pub new_is_bare : (rounds : ℕ) (spaces : List SpaceState) → All (IsNewSpace rounds) spaces → All IsBare spaces
-new_is_bare rounds spaces all = All-weaker (IsNewSpace rounds) IsBare (λ s new. record { spans = ap spans_of new.arena; caches = all_from IsBareCache s.caches (λ j c at. bare_cache s.arena.id (j + 1) s.arena.quantum c.slab.slab_size rounds c (new.caches j c at)) }) spaces all
