@@ -1,11 +1,10 @@
 -- What a line may be answered, as far as can be told where nothing is known of the book.
-use Rattle.std.specs.Prelude.{◌≡◌, ◌≢◌, ℕ, ◌+◌, ◌<◌, List, Option, Some, None}
-use Rattle.std.specs.Prelude.{length, slice_get}
+use Rattle.std.specs.Prelude.{◌≡◌, ◌≢◌, ℕ, ◌+◌, ◌<◌, List, Option, Some, None, length}
 use Rattle.lease_terms.specs.Requests.{RequestId}
 use Rattle.arena_tree.specs.declared.limits.TheConstants.{MOST_ROOTS}
 use Rattle.arena_tree.specs.declared.trees.TreeArena.{TreeArena}
 use Rattle.arena_tree.specs.Chains.{quantum_in}
-use Rattle.arena_tree.specs.Trees.{nodes_of}
+use Rattle.arena_tree.specs.Trees.{arena_named, nodes_of}
 use Rattle.lease_book.specs.Receipts.{ReceiptState, IsEarned}
 use Rattle.lease_book.specs.declared.answers.Answer.{Answer}
 use Rattle.lease_book.specs.declared.answers.Answer.TheVariants as answer
@@ -20,6 +19,7 @@ use Rattle.lease_proto.specs.declared.lines.Line.TheVariants as lines
 use Rattle.lease_proto.specs.declared.lines.HelloLine.{HelloLine}
 use Rattle.lease_proto.specs.declared.replies.Reply.{Reply}
 use Rattle.lease_proto.specs.declared.replies.Reply.TheVariants as reply
+use Rattle.lease_history.specs.Told.{IsTellable, reply_to, reply_to_answer}
 
 -- a receipt of the system's book for this request: a grant meets the request that it was made for
 pub record IsReceiptOf (id : RequestId) (v : ReceiptState) : Type 0 where
@@ -43,14 +43,10 @@ abbrev pub IsLateHello : {D : Type 0} → ℕ → HelloFault D → Type 0
 IsLateHello incarnation (fault.Old current) = incarnation < current
 IsLateHello incarnation fault.NoMemory = Unit {0}
 
--- the reply to the request says what was settled; an arena is told by its name
+-- the reply to the request says what was settled, by the name of one of these arenas
 abbrev pub TellsSettled : List TreeArena → RequestId → KeptReply → Reply → Type 0
-TellsSettled arenas id (kept.Granted arena base len) r = (x : TreeArena)
-    × (slice_get arenas arena ≡ Some x)
-    × (r ≡ reply.Granted (record { id = id; arena = x.name; base = base; len = len }))
-TellsSettled arenas id (kept.Released arena base) r = r ≡ reply.Released id
-TellsSettled arenas id (kept.Refused why) r =
-    r ≡ reply.Refused (record { id = id; refusal = why })
+TellsSettled arenas id k r =
+    IsTellable (length arenas) k × (r ≡ reply_to (arena_named arenas) id k)
 
 -- a grant was made by the quantum of its arena
 abbrev pub IsByQuantum : List TreeArena → KeptReply → Option Terms → Type 0
@@ -89,18 +85,12 @@ abbrev pub IsToldAs : List TreeArena → RequestId → ReceiptState → Reply �
 IsToldAs arenas id v r (Some w) = (w ≡ v) × TellsSettled arenas id v.reply r
 IsToldAs arenas id v r None = IsForeign arenas v.reply v.terms × (r ≡ again_of id)
 
--- what the book's answer to the request is told as, by its cases
+-- what the book's answer to the request is told as; without a receipt by the reply that it is
 abbrev pub TellsAnswer : {D : Type 0} → List TreeArena → RequestId → Answer D
     → Reply → Option ReceiptState → Type 0
 TellsAnswer arenas id (answer.Kept v) r w = IsToldAs arenas id v r w
 TellsAnswer arenas id (answer.Refused v) r w = IsToldAs arenas id v r w
-TellsAnswer arenas id (answer.Old current) r w =
-    (r ≡ reply.Old (record { client = id.client; current = current })) × (w ≡ None)
-TellsAnswer arenas id (answer.Stale greatest) r w =
-    (r ≡ reply.Stale (record { id = id; last = greatest })) × (w ≡ None)
-TellsAnswer arenas id (answer.Gap low) r w =
-    (r ≡ reply.Gap (record { id = id; last = low })) × (w ≡ None)
-TellsAnswer arenas id answer.Again r w = (r ≡ again_of id) × (w ≡ None)
+TellsAnswer arenas id a r w = (r ≡ reply_to_answer (arena_named arenas) id a) × (w ≡ None)
 
 abbrev pub IsReplyTo : List TreeArena → RequestId → Reply → Option ReceiptState → Type 0
 IsReplyTo arenas id r (Some v) = IsSettledBy arenas id r v
