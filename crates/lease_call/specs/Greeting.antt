@@ -1,11 +1,16 @@
--- A hello, as a list of steps.
+-- A hello, as a list of steps, and the reply to what it comes to.
 use Rattle.std.specs.Prelude.{ℕ, zero, suc, List, Option, Some, None, Result, Ok, Err}
 use Rattle.deed_core.specs.Tag.{Tag}
 use Rattle.lease_terms.specs.Requests.{RequestId}
 use Rattle.arena_tree.specs.declared.part_faults.Stopped.{Stopped}
 use Rattle.arena_tree.specs.declared.trees.TreeArena.{TreeArena}
+use Rattle.lease_proto.specs.Requests.{hello_again_of}
 use Rattle.lease_proto.specs.declared.lines.HelloLine.{HelloLine}
+use Rattle.lease_proto.specs.declared.replies.Reply.{Reply}
+use Rattle.lease_proto.specs.declared.replies.Reply.TheVariants as reply
 use Rattle.lease_book.specs.Words.{Greeted}
+use Rattle.lease_book.specs.declared.answers.HelloFault.{HelloFault}
+use Rattle.lease_book.specs.declared.answers.HelloFault.TheVariants as fault
 use Rattle.lease_call.specs.Calls.{Hello, Sweep}
 use Rattle.lease_call.specs.CallPlans.{CallPlan, Done, Call}
 use Rattle.lease_call.specs.Hands.{hand_first, place_first}
@@ -19,6 +24,19 @@ use Rattle.lease_call.specs.declared.outcomes.Greeting.TheVariants.{Welcome, Lat
 -- what a hello ends with
 abbrev pub HelloEnd : Type 0 → Type 0
 HelloEnd D = Result (Greeting D) (CallFault Tag)
+
+-- the reply to a hello that isn't taken
+abbrev pub hello_refusal : {D : Type 0} → HelloLine → HelloFault D → Reply
+hello_refusal h (fault.Old current) = reply.Old (record { client = h.client; current = current })
+hello_refusal h fault.NoMemory = hello_again_of h
+
+-- the reply to what a hello came to, a welcome by the protocol that stands; where leases of older
+-- incarnations may be left, the hello may be sent once more
+abbrev pub reply_of_greeting : {D : Type 0} → HelloLine → Greeting D → Reply
+reply_of_greeting h (Welcome w) = reply.Welcome
+    (record { client = h.client; incarnation = h.incarnation; protocol = w.protocol })
+reply_of_greeting h (Late f) = hello_refusal h f
+reply_of_greeting h Unswept = hello_again_of h
 
 -- a lease ended, and what it was of goes back, and so on; where none is left, the hello that was
 -- taken is welcome

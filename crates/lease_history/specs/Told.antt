@@ -3,8 +3,7 @@ use Rattle.std.specs.Prelude.{◌≡◌, ℕ, ◌<◌, ◌≤◌, List, Some}
 use Rattle.lease_terms.specs.Requests.{RequestId}
 use Rattle.lease_proto.specs.declared.replies.Reply.{Reply}
 use Rattle.lease_proto.specs.declared.replies.Reply.TheVariants as replies
-use Rattle.lease_proto.specs.Requests.{again_of, hello_again_of}
-use Rattle.lease_proto.specs.declared.lines.HelloLine.{HelloLine}
+use Rattle.lease_proto.specs.Requests.{again_of}
 use Rattle.lease_book.specs.declared.receipts.KeptReply.{KeptReply}
 use Rattle.lease_book.specs.declared.receipts.KeptReply.TheVariants as kept
 use Rattle.lease_book.specs.Receipts.{Kept, ReceiptState}
@@ -13,8 +12,6 @@ use Rattle.lease_book.specs.Answers.{IsRepeated, IsOld, IsStale, IsGap}
 use Rattle.lease_book.specs.History.{incarnation, first_protocol, outcome_of}
 use Rattle.lease_book.specs.declared.answers.Answer.{Answer}
 use Rattle.lease_book.specs.declared.answers.Answer.TheVariants as answer
-use Rattle.lease_book.specs.declared.answers.HelloFault.{HelloFault}
-use Rattle.lease_book.specs.declared.answers.HelloFault.TheVariants as fault
 use Rattle.lease_book.specs.Entry.{Entry, Settlement, kept_reply_of}
 
 -- the reply to a request, of the book's reply, where arenas have these names
@@ -59,12 +56,6 @@ IsKnownReply names book id (replies.Stale o) =
 IsKnownReply names book id (replies.Gap o) =
     (o.id ≡ id) × IsGap (account_in id.client book) id o.last
 IsKnownReply names book id reply = IsKeptReply names book id reply
-
--- the reply to a hello that the book doesn't take
-abbrev pub hello_refusal : {D : Type 0} → HelloLine → HelloFault D → Reply
-hello_refusal h (fault.Old current) =
-    replies.Old (record { client = h.client; current = current })
-hello_refusal h fault.NoMemory = hello_again_of h
 
 -- the request was settled so
 abbrev pub IsOutcome : (ℕ → List ℕ) → List Entry → RequestId → Reply → Type 0

@@ -24,14 +24,13 @@ use Rattle.local_calls.specs.Runs.{SoundStep}
 use Rattle.local_parts.specs.States.{LocalState}
 use Rattle.lease_call.specs.BookEvents.{IsGreeted}
 use Rattle.lease_call.specs.Calls.{Hello, Sweep}
-use Rattle.lease_call.specs.Greeting.{HelloEnd, on_hello, on_sweep, sweep_plan}
+use Rattle.lease_call.specs.Greeting.{HelloEnd, hello_refusal, on_hello, on_sweep, sweep_plan}
 use Rattle.lease_call.specs.Hands.{on_place, place_first}
 use Rattle.lease_call.specs.Placing.{place_plan}
 use Rattle.lease_call.specs.declared.call_faults.NotGreeted.{NotGreeted}
 use Rattle.lease_call.specs.declared.call_faults.NotGreeted.TheVariants as greeting
 use Rattle.lease_call.specs.declared.outcomes.Greeting.TheVariants.{Welcome, Late}
 use Rattle.lease_call.proofs.LawProofs.{path_under}
-use Rattle.lease_history.specs.Told.{hello_refusal}
 use Rattle.lease_machine.specs.Conversations.{BookDoes, RunsCall, AnswersHello, HelloRuns}
 use Rattle.lease_machine.specs.Held.{parts_in, with_parts}
 use Rattle.lease_machine.specs.Machine.{HelloStep, Sweeps}

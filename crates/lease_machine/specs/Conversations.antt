@@ -17,13 +17,13 @@ use Rattle.local_calls.specs.Runs.{SoundStep}
 use Rattle.lease_call.specs.BookEvents.{BookEvent}
 use Rattle.lease_call.specs.Calls.{BookCall, AnswerOf}
 use Rattle.lease_call.specs.CallPlans.{CallPlan, CallPath}
-use Rattle.lease_call.specs.Greeting.{HelloEnd, greet_plan}
+use Rattle.lease_call.specs.Greeting.{HelloEnd, greet_plan, hello_refusal}
 use Rattle.lease_call.specs.Releasing.{CallEnd}
 use Rattle.lease_call.specs.Requesting.{op_plan}
 use Rattle.lease_call.specs.declared.outcomes.Greeting.TheVariants.{Welcome, Late, Unswept}
 use Rattle.lease_call.specs.declared.outcomes.Outcome.{Outcome}
 use Rattle.lease_call.specs.declared.outcomes.Outcome.TheVariants.{Settled, Answered, Again}
-use Rattle.lease_history.specs.Told.{IsTellable, reply_to, reply_to_answer, hello_refusal}
+use Rattle.lease_history.specs.Told.{IsTellable, reply_to, reply_to_answer}
 use Rattle.lease_machine.specs.Held.{parts_in, with_parts}
 use Rattle.lease_machine.specs.Machine.{RequestStep, HelloStep}
 use Rattle.lease_machine.specs.Picture.{Picture, IsPicture, SameSetup}

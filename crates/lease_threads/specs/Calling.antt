@@ -16,12 +16,11 @@ use Rattle.lease_proto.specs.declared.lines.Line.{Line}
 use Rattle.lease_proto.specs.declared.lines.Line.TheVariants as lines
 use Rattle.lease_proto.specs.declared.lines.Op.{Op}
 use Rattle.lease_proto.specs.declared.replies.Reply.{Reply}
-use Rattle.lease_proto.specs.declared.replies.Reply.TheVariants as reply
 use Rattle.lease_call.specs.Answered.{GoneThrough}
 use Rattle.lease_call.specs.BookEvents.{BookEvent}
 use Rattle.lease_call.specs.CallPlans.{CallPlan}
 use Rattle.lease_call.specs.Calls.{BookCall, AnswerOf, Look, Settle, Refuse, Release, Hello, Sweep}
-use Rattle.lease_call.specs.Greeting.{HelloEnd, hello_plan}
+use Rattle.lease_call.specs.Greeting.{HelloEnd, hello_plan, reply_of_greeting}
 use Rattle.lease_call.specs.Kept.{call_left}
 use Rattle.lease_call.specs.Releasing.{CallEnd}
 use Rattle.lease_call.specs.Requesting.{request_plan}
@@ -32,7 +31,6 @@ use Rattle.lease_call.specs.declared.outcomes.Greeting.{Greeting}
 use Rattle.lease_call.specs.declared.outcomes.Greeting.TheVariants.{Welcome, Late, Unswept}
 use Rattle.lease_call.specs.declared.outcomes.Outcome.{Outcome}
 use Rattle.lease_call.specs.declared.outcomes.Outcome.TheVariants.{Settled, Answered, Again}
-use Rattle.lease_history.specs.Told.{hello_refusal}
 use Rattle.locked_parts.specs.Answers.{AnswersSoundly}
 use Rattle.locked_parts.specs.Gates.{CountsStep, step_after}
 use Rattle.locked_parts.specs.declared.gates.EventName.{EventName}
@@ -154,16 +152,9 @@ IsGreetedSo h (Welcome w) = (w.client ≡ h.client) × (w.incarnation ≡ h.inca
 IsGreetedSo h (Late f) = IsLateHello h.incarnation f
 IsGreetedSo h Unswept = Unit {0}
 
--- and is told so, a welcome by the protocol that stands in the book; where leases of older
--- incarnations may be left, the hello may be sent once more
-abbrev pub greeting_of : {D : Type 0} → HelloLine → Greeting D → Reply
-greeting_of h (Welcome w) = reply.Welcome
-    (record { client = h.client; incarnation = h.incarnation; protocol = w.protocol })
-greeting_of h (Late f) = hello_refusal h f
-greeting_of h Unswept = hello_again_of h
-
+-- and is told so
 abbrev pub greeting_end : {D : Type 0} → HelloLine → HelloEnd D → Reply
-greeting_end h (Ok g) = greeting_of h g
+greeting_end h (Ok g) = reply_of_greeting h g
 greeting_end h (Err e) = hello_again_of h
 
 -- a hello's list of steps, with a sweep for each lease that a client may have and one more

@@ -5,12 +5,12 @@ ghost use Rattle.lease_threads.specs.Replying.{TellsSettled, IsUnsettledTo, IsRe
 ghost use Rattle.lease_threads.specs.Replying.{TellsAnswer, IsForeign};
 ghost use Rattle.lease_threads.specs.Words.{IsBacked};
 ghost use Rattle.lease_proto.specs.Requests.{again_of};
-ghost use Rattle.lease_history.specs.Told.{hello_refusal};
+ghost use Rattle.lease_call.specs.Greeting.{hello_refusal, reply_of_greeting};
 ghost use Rattle.lease_threads.specs.Replying.{IsByQuantum, IsLateHello};
 ghost use Rattle.lease_threads.specs.Replying.{IsReceiptOf, IsBookAnswerTo, IsGreeting, IsAgain};
 ghost use Rattle.lease_threads.specs.Settling.{TellsNew, new_receipt};
 ghost use Rattle.lease_threads.specs.Calling.{IsOutcomeOf, TellsOutcome, outcome_receipt};
-ghost use Rattle.lease_threads.specs.Calling.{IsGreetedSo, greeting_of};
+ghost use Rattle.lease_threads.specs.Calling.{IsGreetedSo};
 
 use arena_tree::Tree;
 use deed_table::{Name, SeatDeed};
@@ -56,7 +56,7 @@ pub(crate) type HelloTold<N> = (Reply, Option<BookWord<SeatDeed<N>>>);
 pub(crate) fn greeted<N: Name>(hello: &HelloLine, greeting: Greeting<SeatDeed<N>>) -> HelloTold<N>
     requires { IsGreetedSo hello.now greeting }
     ensures greeting { IsGreeting hello.now result.0 }
-    ensures exactly { result.0 ≡ greeting_of hello.now greeting }
+    ensures exactly { result.0 ≡ reply_of_greeting hello.now greeting }
     ensures backed { IsBacked result.0 None result.1 }
 {
     match greeting {

@@ -5,7 +5,7 @@ use Rattle.lease_call.specs.declared.outcomes.Greeting.{Greeting}
 use Rattle.lease_call.specs.declared.outcomes.Greeting.TheVariants.{Welcome, Late, Unswept}
 use Rattle.lease_machine.specs.Conversations.{Greets, AnswersHello}
 use Rattle.lease_machine.specs.Picture.{Picture}
-use Rattle.stock_desk.specs.Hellos.{reply_of_greeting}
+use Rattle.lease_call.specs.Greeting.{reply_of_greeting}
 
 pub greets : {D : Type 0} (h : HelloLine) (old new : Picture) (g : Greeting D) → AnswersHello h old new (Ok g) → Greets h old new (reply_of_greeting h g)
 greets h old new (Welcome w) answers = answers

@@ -1,9 +1,8 @@
 //! Replies to requests and hellos.
 ghost use Rattle.std.specs.Prelude.{◌≡◌, length};
 ghost use Rattle.lease_history.specs.Told.{IsTellable, reply_to, reply_to_answer};
-ghost use Rattle.lease_history.specs.Told.{hello_refusal};
+ghost use Rattle.lease_call.specs.Greeting.{hello_refusal, reply_of_greeting};
 ghost use Rattle.lease_machine.specs.Conversations.{CanName, CanTell, reply_of_outcome};
-ghost use Rattle.stock_desk.specs.Hellos.{reply_of_greeting};
 ghost use Rattle.arena_tree.specs.Trees.{arena_named};
 
 use arena_tree::Tree;
