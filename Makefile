@@ -1,7 +1,7 @@
 # make        proves what the program stands on, several crates at a time, and leaves the program as bin/vmemd
-# make try    compiles the program and runs it on examples/first.script, with no proof: about a minute;
+# make try    compiles the program and runs it on examples/first.script, with no proof: a minute or two;
 #             make try SCRIPT=FILE runs another script
-# make quick  leaves a program at full speed as bin/vmemd-quick, with no proof: about a minute
+# make quick  leaves a program at full speed as bin/vmemd-quick, with no proof: a minute or two
 # make test   the gate: every proof from nothing, the must-fail edits, the tests, the program's cases,
 #             random scripts against a slow model, growths refused in turn, the Python client's tests
 # make edits  tries all edits, those of more-edits/ too, of JOBS=1 crates at a time, several

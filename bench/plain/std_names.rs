@@ -145,6 +145,10 @@ impl<T> Vec<T> {
     pub fn clear(&mut self) {
         self.0.clear()
     }
+    #[inline]
+    pub fn retain<P: FnMut(&T) -> bool>(&mut self, keep: P) {
+        self.0.retain(keep)
+    }
     pub fn truncate(&mut self, len: usize) {
         self.0.truncate(len)
     }
