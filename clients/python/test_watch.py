@@ -3,6 +3,7 @@ import html.parser
 import http.client
 import json
 import os
+import re
 import resource
 import shutil
 import socket
@@ -11,6 +12,7 @@ import time
 import unittest
 import urllib.parse
 import urllib.request
+from concurrent.futures import ThreadPoolExecutor
 
 import vmemd_top
 from ports import free_port
@@ -184,6 +186,9 @@ class Watched(Watching):
             prometheus.has("min_over_time(up{}[1h])", {(): 1})
             prometheus.has("sum(vmemd_lines_total)", {(): self.lines()})
             prometheus.has(f"count_over_time(up[1h]) >= bool {SECONDS / 2}", {(): 1})
+            # what is told as done lately is so of a minute, where one looks each second
+            lately = re.search(rb"In the last ([0-9]+) seconds: [1-9]", self.asked("GET", "/")[2])
+            self.assertLess(int(lately[1]), 65)
 
     def test_units_sum_to_the_span(self):
         with self.client(1) as client:
@@ -280,6 +285,16 @@ class Watched(Watching):
                 ends = [it["client"] for it in self.rows("/clients?from=1&count=700")]
                 self.assertEqual(ends, [1] * 600 + [2] * 100)
 
+    def test_leases_of_many_clients_are_counted(self):
+        # (those of 256 clients are counted under one look at the book)
+        lines = (b"hello %d 1\nlease %d 1 1 m 2\n" % (it, it) for it in range(1, 601))
+        told = self.ask(b"".join(lines))
+        self.assertEqual(told.count(b"granted"), 600)
+        now = self.samples()
+        self.assertEqual((now["vmemd_clients", ()], now["vmemd_leases", ()]), (600, 600))
+        ends = [it["client"] for it in self.rows("/clients?from=255&count=1000")]
+        self.assertEqual(ends, list(range(255, 601)))
+
     def test_bad_queries(self):
         for query in ("", "?", "?arena=m", "?arena=m&from=0", "?from=0&count=1",
                       "?arena=M&from=0&count=1", "?arena=&from=0&count=1",
@@ -325,12 +340,31 @@ class Watched(Watching):
             status, fields, _ = self.asked(method, "/metrics", b"x")
             self.assertEqual((status, fields["allow"]), (405, "GET, HEAD"))
             self.assertEqual(self.asked(method, "/no")[0], 404)
+        for length, status in ((1024, 405), (1025, 413)):
+            self.assertEqual(self.asked("POST", "/", b"x" * length)[0], status)
+
+    def test_a_silent_connection_is_ended_in_time(self):
+        with socket.create_connection(("127.0.0.1", self.watched), 20) as silent:
+            began = time.monotonic()
+            # (one is answered at a time, so this one after it)
+            self.assertEqual(self.asked("GET", "/healthz")[0], 200)
+            self.assertTrue(4 < time.monotonic() - began < 7)
+            self.assertEqual(silent.recv(100), b"")
 
     def test_half_a_request_is_ended_in_time(self):
-        for half in (b"", b"GET /metrics HTTP/1.1\r\nHost: x\r\n"):
-            told, seconds = self.sent(half)
-            self.assertEqual(told, b"")
-            self.assertTrue(4 < seconds < 7, seconds)
+        with socket.create_connection(("127.0.0.1", self.watched), 0.3) as link:
+            began, told = time.monotonic(), None
+            link.sendall(b"GET /metrics HTTP/1.1\r\nHost: ")
+            # (however often a further byte comes)
+            while told is None and time.monotonic() - began < 9:
+                try:
+                    told = link.recv(100)
+                except TimeoutError:
+                    link.sendall(b"x")
+                except ConnectionError:
+                    told = b""
+        self.assertEqual(told, b"")
+        self.assertTrue(4 < time.monotonic() - began < 7)
 
     def test_a_request_that_is_too_long_is_answered_or_ended(self):
         told, seconds = self.sent(b"GET /" + b"x" * 100_000 + b" HTTP/1.1\r\nHost: x\r\n\r\n")
@@ -351,6 +385,8 @@ class Watched(Watching):
     def test_lines_are_no_requests(self):
         told, _ = self.sent(b"hello 1 1\n")
         self.assertIn(told[:12], (b"", b"HTTP/1.1 400"))
+        # (nor is a request a line)
+        self.assertEqual(self.ask(b"GET /metrics HTTP/1.1\r\n\r\n"), b"error badline\n" * 2)
 
     def test_leases_go_on_beside_a_slow_scrape(self):
         with socket.create_connection(("127.0.0.1", self.watched)):
@@ -389,6 +425,23 @@ class WatchedTalks(Watched):
                          [1, 1, 1])
 
 
+class WatchedCpu(Watching):
+    """What is told of connections that share one CPU."""
+
+    workers, connections = 1, 16
+
+    def test_lines_that_wait_are_counted(self):
+        waits, ends = ("vmemd_cpu_waits_total", ()), time.monotonic() + 20
+        self.opened(1)
+        self.assertEqual(self.samples()[waits], 0)
+        texts = [b"hello %d 1\n" % it * 2000 for it in range(1, 9)]
+        while not self.samples()[waits]:
+            self.assertLess(time.monotonic(), ends)
+            with ThreadPoolExecutor(len(texts)) as threads:
+                list(threads.map(self.ask, texts))
+        self.assertLess(self.samples()[waits], self.lines())
+
+
 class WatchedTree(Watching):
     """What is told of an arena that imports, and of one with caches."""
 
@@ -415,28 +468,10 @@ class WatchedTree(Watching):
                                   label("c", "", "1", "5")])
         self.assertIn(b', imports from <a href="#a">a</a>', self.asked("GET", "/")[2])
 
-
-class Top(unittest.TestCase):
-    """What vmemd_top makes of samples."""
-
-    TEXT = ('# HELP vmemd_units Units.\n# TYPE vmemd_units gauge\n'
-            'vmemd_arena_info{arena="pid",source="space",quantum="4",qmax="16"} 1\n'
-            + "".join(f'vmemd_units{{arena="pid",home="{home}"}} {n}\n' for home, n in
-                      (("span", 100), ("free", 20), ("slab", 10), ("magazine", 20),
-                       ("exported", 10), ("leased", 40))))
-
-    def test_bars(self):
-        look = vmemd_top.Look(1.0, vmemd_top.samples_in(self.TEXT))
-        (labels, units), = vmemd_top.arenas(look)
-        self.assertEqual(labels["source"], "space")
-        self.assertEqual(vmemd_top.bar(units, 10), "####+++=..")
-        self.assertEqual(vmemd_top.bar({it: 0 for it in units}, 5), ".....")
-        shown = list(vmemd_top.lines_of(None, look, 11))
-        self.assertIn("pid from space: 40 leased, 30 cached, 10 exported, 20 free of 100", shown)
-
-    def test_no_sample(self):
-        with self.assertRaises(ValueError):
-            vmemd_top.samples_in("<html>\n")
+    def test_a_silent_watcher_keeps_it_from_its_end_no_longer(self):
+        with socket.create_connection(("127.0.0.1", self.watched)):
+            time.sleep(0.5)
+            self.stops_between(0, 7)
 
 
 if __name__ == "__main__":

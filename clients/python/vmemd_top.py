@@ -20,6 +20,9 @@ LABEL = re.compile(r'([a-z]+)="([a-z0-9.]*)"(?:,|$)')
 # what a bar is made of, from its begin on: the homes and the sign of each
 PARTS = ((("leased",), "#"), (("slab", "magazine"), "+"), (("exported",), "="), (("free",), "."))
 
+# (a server is asked itself, whatever proxy there is for others)
+OPENER = urllib.request.build_opener(urllib.request.ProxyHandler({}))
+
 # why there may be no look at a server
 FAULTS = (OSError, ValueError, http.client.HTTPException)
 
@@ -41,7 +44,7 @@ def samples_in(text):
 
 def look_at(address, timeout=5):
     """What the server shows now."""
-    with urllib.request.urlopen(f"http://{address}/metrics", timeout=timeout) as answer:
+    with OPENER.open(f"http://{address}/metrics", timeout=timeout) as answer:
         return Look(time.monotonic(), samples_in(answer.read().decode("ascii")))
 
 
@@ -86,7 +89,7 @@ def rate(before, now, name):
 
 
 def lines_of(before, now, width):
-    """What is shown of two looks, as lines of text of at most this width."""
+    """What is shown of two looks, as lines of text, with bars for this width."""
     value = lambda name: now.samples.get((name, ()), 0)
     version = next((dict(labels)["version"] for name, labels in now.samples
                     if name == "vmemd_build_info"), "")
