@@ -1,5 +1,5 @@
 -- Lemmas on words and numbers.
-use Rattle.std.proofs.Common.{◌^◌, ◌≡◌, ◌≢◌, ◌==◌, ℕ, ◌≤◌, ◌<◌, ◌+◌, ◌-◌, ◌*◌, Bool, true, false, cond, nat_lt, position, List, [], ◌∷◌, ◌++◌, length, take, drop, get_or, Some, None, refl, sym, ◌∙◌, ap, arith, zero, suc, inl, inr, take-append-drop, decimal, rules, nat_le}
+use Rattle.std.proofs.Common.{◌^◌, ◌≡◌, ◌≢◌, ◌==◌, ℕ, ◌≤◌, ◌<◌, ◌+◌, ◌-◌, ◌*◌, Bool, true, false, cond, nat_lt, position, List, [], ◌∷◌, ◌++◌, length, take, drop, get_or, Some, None, refl, sym, ◌∙◌, ap, append_assoc, arith, zero, suc, inl, inr, take-append-drop, decimal, rules, nat_le}
 use Rattle.std.proofs.lemmas.List.{drop_more, take_rest, length-take, get_or-take}
 use Rattle.std.proofs.lemmas.Bool.{lt-leb, le-leb, leb-true, ne_eqb, eq-eqb, cases_Bool, and_parts, cases_eq, and_from, eqb-true, ltb-false}
 use Rattle.std.proofs.lemmas.List.Elements.{All-from_recursion}
@@ -132,3 +132,7 @@ numbers word n = (
 
 pub decimal_is_digits : (n : ℕ) → n < 2 ^ 64 → all_ascii_digits (decimal n) ≡ true
 decimal_is_digits n small = digits_decimal own n small
+
+-- a number of one digit, after a space
+pub one_digit : (xs : List ℕ) (n : ℕ) → n < 10 → (xs ++ 32 ∷ []) ++ (48 + n) ∷ [] ≡ xs ++ 32 ∷ decimal n
+one_digit xs n h = rw (decimal_digit n h) (append_assoc xs (32 ∷ []) ((48 + n) ∷ []))

@@ -293,9 +293,9 @@ impl Line {
     pub fn read(bytes: &[u8]) -> Result<Line, LineFault>
         ensures { result ≡ line_of bytes.now }
     {
-        let line = Line::of_parts(parts(bytes)?);
-        if let Err(fault) = line {
-            return Err(first_fault(bytes, fault));
+        let mut line = Line::of_parts(parts(bytes)?);
+        if let Err(fault) = &mut line {
+            *fault = first_fault(bytes, *fault);
         }
         line
     }

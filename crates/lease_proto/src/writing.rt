@@ -31,6 +31,7 @@ pub(crate) fn push_text(out: &mut Vec<u8>, text: &[u8])
 }
 
 /// A space and a word.
+#[inline(always)]
 pub(crate) fn push_word(out: &mut Vec<u8>, word: &[u8])
     requires { vec_len out.old + (length word.now + 1) ≤ vec_capacity out.old }
     ensures text { out.new.items ≡ out.old.items ++ (32 ∷ word.now) }
@@ -51,15 +52,21 @@ pub(crate) fn push_name(out: &mut Vec<u8>, name: &ArenaName)
     push_word(out, name.as_slice());
 }
 
-/// A space and a number.
+/// A space and a number. One digit needs no buffer.
+#[tactic(auto, using(crate::proofs::WordLemmas::one_digit))]
 pub(crate) fn push_number(out: &mut Vec<u8>, number: u64)
     requires { vec_len out.old + NUMBER_ROOM ≤ vec_capacity out.old }
     ensures text { out.new.items ≡ out.old.items ++ (32 ∷ decimal number) }
     ensures len { vec_len out.new ≤ vec_len out.old + NUMBER_ROOM }
     ensures capacity { vec_capacity out.old ≤ vec_capacity out.new }
 {
-    let mut buffer = Buffer::new();
-    push_word(out, buffer.format(number).as_bytes());
+    if number < 10 {
+        out.push_reserved(b' ');
+        out.push_reserved(b'0' + number as u8);
+    } else {
+        let mut buffer = Buffer::new();
+        push_word(out, buffer.format(number).as_bytes());
+    }
 }
 
 /// A request's id: a space and a number, three times.

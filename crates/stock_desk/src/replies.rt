@@ -62,9 +62,9 @@ fn settled(tree: &Tree, id: RequestId, reply: KeptReply) -> Reply
 
 /// The reply that the book's answer is.
 #[cold]
-fn answered(tree: &Tree, id: RequestId, answer: Answer<PlainDeed>) -> Reply
-    requires { CanName tree.now answer }
-    ensures { result ≡ reply_to_answer (arena_named tree.now) id answer }
+fn answered(tree: &Tree, id: RequestId, answer: &Answer<PlainDeed>) -> Reply
+    requires { CanName tree.now answer.now }
+    ensures { result ≡ reply_to_answer (arena_named tree.now) id answer.now }
 {
     match answer {
         Answer::Kept(receipt) => settled(tree, id, receipt.reply()),
@@ -86,9 +86,9 @@ fn answered(tree: &Tree, id: RequestId, answer: Answer<PlainDeed>) -> Reply
 }
 
 /// The reply to what a request came to.
-pub(crate) fn told(tree: &Tree, id: RequestId, outcome: Outcome<PlainDeed>) -> Reply
-    requires { CanTell tree.now outcome }
-    ensures { result ≡ reply_of_outcome tree.now id outcome }
+pub(crate) fn told(tree: &Tree, id: RequestId, outcome: &Outcome<PlainDeed>) -> Reply
+    requires { CanTell tree.now outcome.now }
+    ensures { result ≡ reply_of_outcome tree.now id outcome.now }
 {
     match outcome {
         Outcome::Settled(receipt) => settled(tree, id, receipt.reply()),

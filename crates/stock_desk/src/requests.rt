@@ -33,7 +33,7 @@ impl Supply {
             (picture_with book.old self.old) (picture_with book.new self.new) result }
     {
         match self.ask(book, id, op) {
-            Ok(outcome) => told(&self.tree, id, outcome),
+            Ok(outcome) => told(&self.tree, id, &outcome),
             Err(_) => unreachable!(),
         }
     }

@@ -15,11 +15,11 @@ pub returns-in-Err : goal.returns-in-Err
 unfolding line_of
 returns-in-Err c =
     let words = c.in_ok-parts.field-0 in
-    ap Err c.first_fault.ensures ∙ sym (parts_refused c.args.bytes.now words line_in c.in-Err.fault (sym c.parts.ensures ∙ c.in_ok-parts.was) (sym c.in-Err.ensures))
+    ap Err c.first_fault.ensures ∙ sym (parts_refused c.args.bytes.now words line_in c.in-Err.fault (sym c.parts.ensures ∙ c.in_ok-parts.was) (sym c.of_parts-line.ensures ∙ c.in-Err.is))
 
-pub returns : goal.returns
+pub returns-in_default : goal.returns-in_default
 unfolding line_of
-returns c =
+returns-in_default c =
     let words = c.in_ok-parts.field-0 in
     let line = c.in_default.field-0 in
-    c.in_default.is ∙ sym (parts_read c.args.bytes.now words line_in line (sym c.parts.ensures ∙ c.in_ok-parts.was) (words_of_line words line (sym c.in_default.ensures)) (sym c.in_default.ensures))
+    c.in_default.is ∙ sym (parts_read c.args.bytes.now words line_in line (sym c.parts.ensures ∙ c.in_ok-parts.was) (words_of_line words line (sym c.of_parts-line.ensures ∙ c.in_default.is)) (sym c.of_parts-line.ensures ∙ c.in_default.is))
