@@ -6,4 +6,5 @@ mod LineLaws
 mod Roots
 mod Reaped
 mod Retired
+mod Drained
 mod Told

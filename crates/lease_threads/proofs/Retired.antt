@@ -81,3 +81,16 @@ module _ {S : Type 0} (step : S → (e : Event) → AnswerTo e → S → Type 0)
       subst (λ (o : Option Tag). IfSome left (IsUnplaced arenas o)) (sym held)
       (subst (λ (o : Option Tag). IfSome o (IsUnplaced arenas (Some given))) (sym has)
       (unplaced (nat_lt given.arena (length arenas)) s u r refl none seen (subst (λ xs. Path (Step step tree count rounds) (place_plan xs given) s u r) same ran.path)))
+
+abbrev pub IsStop : EmptyingEnd → Type 0
+IsStop (Ok u) = ⊥
+IsStop (Err (emptying.Stuck t)) = ⊥
+IsStop (Err (emptying.Stopped o)) = Unit {0}
+
+-- and is never stopped
+pub ran_on : {S : Type 0} (step : S → (e : Event) → AnswerTo e → S → Type 0) (tree : S → List Node) (count rounds : S → ℕ) (noted : S → Bool) (quiet : IsQuiet step noted) → (arenas drained : List TreeArena) (turns : ℕ) (s u : S) (end : EmptyingEnd)
+    → Ran step tree count rounds (drain_plan turns drained) s u (drain_end end) → noted s ≡ false → tree s ≡ nodes_of arenas → drained ≡ arenas → IsStop end → ⊥
+ran_on step tree count rounds noted quiet arenas drained turns s u (Ok x) ran none is same stopped = stopped
+ran_on step tree count rounds noted quiet arenas drained turns s u (Err (emptying.Stuck t)) ran none is same stopped = stopped
+ran_on step tree count rounds noted quiet arenas drained turns s u (Err (emptying.Stopped o)) ran none is same stopped =
+    never_stopped step tree count rounds noted quiet (nodes_of arenas) (DrainTold arenas) (drain_plan turns arenas) s u (Err (Some (emptying.Stopped o))) [] (λ told says. says) (λ x. x) none is (drain_tells turns arenas (nodes_of arenas)) (subst (λ xs. Path (Step step tree count rounds) (drain_plan turns xs) s u (Err (Some (emptying.Stopped o)))) same ran.path)

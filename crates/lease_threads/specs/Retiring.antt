@@ -1,6 +1,6 @@
 -- What emptying the CPU of a running system comes to, as far as can be told where nothing is known
 -- of what lies behind the locks.
-use Rattle.std.specs.Prelude.{◌≡◌, ◌⊎◌, ℕ, ◌≤◌, List, length, Option, Some, None, Ok, Err}
+use Rattle.std.specs.Prelude.{◌≡◌, ◌≢◌, ◌⊎◌, ℕ, ◌≤◌, List, length, map, Option, Some, None, Ok, Err}
 use Rattle.deed_core.specs.Tag.{Tag}
 use Rattle.arena_tree.specs.Chains.{Node}
 use Rattle.arena_tree.specs.Events.{AnswerTo}
@@ -10,10 +10,12 @@ use Rattle.arena_tree.specs.declared.part_faults.ReturnFault.TheVariants as retu
 use Rattle.arena_tree.specs.declared.trees.TreeArena.{TreeArena}
 use Rattle.lease_call.specs.Placing.{place_plan}
 use Rattle.locked_parts.specs.Answers.{AnswersSoundly}
+use Rattle.locked_parts.specs.Kinds.{kinds_of}
 use Rattle.quantum_cache.specs.Drains.{drain_plan}
 use Rattle.quantum_cache.specs.Told.{PartRefuses}
 use Rattle.quantum_cache.specs.declared.emptying_faults.EmptyingFault.TheVariants as emptying
 use Rattle.lease_threads.specs.Reaping.{EndsSoundly}
+use Rattle.lease_threads.specs.Systems.{CpuState, HoldsNothing}
 
 -- some sound answers of the parts, none of them a Stop, lead the list of steps to this end, and by
 -- the last one a part refuses the segment; `refused` says whether the one before did
@@ -44,3 +46,15 @@ abbrev pub RetiresSoundly : List TreeArena → (hand left : Option Tag) → Type
 RetiresSoundly arenas hand None = DrainsSoundly arenas None
 RetiresSoundly arenas hand (Some left) =
     IsUnplaced arenas hand left ⊎ DrainsSoundly arenas (Some left)
+
+-- its magazines are those for the quantum caches of these arenas
+abbrev pub IsCpuOf : List TreeArena → CpuState → Type 0
+IsCpuOf arenas cpu = map (λ r. r.kind) cpu.caches ≡ kinds_of arenas
+
+-- where the hand of a drained CPU is empty, nothing is left in it
+abbrev pub IsDrained : List TreeArena → CpuState → Type 0
+IsDrained arenas cpu = cpu.hand ≡ None → IsCpuOf arenas cpu → HoldsNothing cpu
+
+-- and one that doesn't end has a segment in its hand
+abbrev pub IsStuck : List TreeArena → CpuState → Type 0
+IsStuck arenas cpu = IsCpuOf arenas cpu → cpu.hand ≢ None

@@ -2,7 +2,7 @@
 ghost use Rattle.std.specs.Prelude.{◌≡◌, None, IfErr};
 ghost use Rattle.lease_threads.specs.Systems.{HoldsNothing};
 ghost use Rattle.locked_parts.specs.Kinds.{AreForSame};
-ghost use Rattle.lease_threads.specs.Retiring.{DrainsSoundly, RetiresSoundly};
+ghost use Rattle.lease_threads.specs.Retiring.{DrainsSoundly, RetiresSoundly, IsDrained, IsStuck};
 
 use crate::cpus::Cpu;
 use crate::systems::System;
@@ -19,6 +19,7 @@ impl<N: Name> System<N> {
         ensures magazines { IfErr result (λ rest. AreForSame cpu.caches rest.caches) }
         ensures rest { IfErr result (λ rest. ¬ HoldsNothing rest) }
         ensures left { IfErr result (λ rest. RetiresSoundly self.now.arenas cpu.hand rest.hand) }
+        ensures stuck { IfErr result (IsStuck self.now.arenas) }
     {
         let mut cpu = cpu;
         self.drain(rt, &mut cpu);
@@ -36,6 +37,7 @@ impl<N: Name> System<N> {
         ensures magazines { IfErr result (λ rest. AreForSame cpu.caches rest.caches) }
         ensures rest { IfErr result (λ rest. ¬ HoldsNothing rest) }
         ensures left { IfErr result (λ rest. RetiresSoundly self.now.arenas cpu.hand rest.hand) }
+        ensures stuck { IfErr result (IsStuck self.now.arenas) }
     {
         self.retire(rt, cpu)
     }
@@ -46,6 +48,7 @@ impl<N: Name> System<N> {
         ensures number { cpu.new.number ≡ cpu.old.number }
         ensures magazines { AreForSame cpu.old.caches cpu.new.caches }
         ensures left { RetiresSoundly self.now.arenas cpu.old.hand cpu.new.hand }
+        ensures drained { IsDrained self.now.arenas cpu.new }
     {
         if self.place_hand(rt, cpu) {
             self.drain_rounds(rt, cpu);
@@ -58,6 +61,7 @@ impl<N: Name> System<N> {
         ensures number { cpu.new.number ≡ cpu.old.number }
         ensures magazines { AreForSame cpu.old.caches cpu.new.caches }
         ensures left { DrainsSoundly self.now.arenas cpu.new.hand }
+        ensures drained { IsDrained self.now.arenas cpu.new }
     {
         let number = cpu.number();
         let mut running = Running::new(&self.parts, rt, &OpenGate, number, &mut cpu.caches);

@@ -2,7 +2,7 @@
 ghost use Rattle.std.specs.Prelude.{◌≡◌, [], IfOk, OnOk, IfErr, IfSome, IfNone, IsSome, Some, None};
 ghost use Rattle.std.specs.Prelude.{true};
 ghost use Rattle.lease_threads.specs.Ends.{AreRangesOf, AreRangesLeft, IsRestOf, begun, stop_of};
-ghost use Rattle.lease_threads.specs.Retiring.{RetiresSoundly};
+ghost use Rattle.lease_threads.specs.Retiring.{RetiresSoundly, IsStuck};
 ghost use Rattle.lease_threads.specs.Systems.{HoldsNothing};
 ghost use Rattle.locked_parts.specs.Kinds.{AreForSame};
 
@@ -85,6 +85,7 @@ impl<N: Name> Halted<N> {
         ensures rest { IfErr result (λ rest. ¬ HoldsNothing rest) }
         ensures left { IfErr result
             (λ rest. RetiresSoundly self.now.system.arenas cpu.hand rest.hand) }
+        ensures stuck { IfErr result (IsStuck self.now.system.arenas) }
     {
         self.system.retire(rt, cpu)
     }

@@ -1,4 +1,4 @@
-use Rattle.std.proofs.Common.{map, ap, ◌∙◌, sym, suc, arith}
+use Rattle.std.proofs.Common.{map, ap, ◌∙◌, sym, suc, arith, refl}
 use Rattle.deed_core.specs.Tag.{Tag}
 use Rattle.arena_tree.specs.Trees.{nodes_of}
 use Rattle.quantum_cache.specs.Drains.{tag_emptying}
@@ -6,7 +6,8 @@ use Rattle.locked_parts.specs.Kinds.{OwnCacheState, count_of_rounds}
 use Rattle.locked_parts.specs.States.{LockedPartsState}
 use Rattle.lease_threads.specs.Systems.{CpuState, SystemState}
 use Rattle.lease_threads.proofs.Reaped.{never_stops}
-use Rattle.lease_threads.proofs.Retired.{ran_drains}
+use Rattle.lease_threads.proofs.Drained.{ran_empties}
+use Rattle.lease_threads.proofs.Retired.{ran_drains, ran_on}
 use Rattle.lease_threads.proofs.Runs.{ran_leaves}
 use Rattle.lease_threads.proofs.systems.System.drain_rounds.Goals as goal
 
@@ -44,3 +45,13 @@ pub returns-in-Err-Stopped-None-clause-left : goal.returns-in-Err-Stopped-None-c
 returns-in-Err-Stopped-None-clause-left g c =
     let seen = ap (λ (s : SystemState). s.arenas) c.self.view_is in
     ran_drains _ _ _ _ (λ s. s.steps.noted) (λ s t e x d none. never_stops _ _ _ _ _ _ (λ _ _ no. no) d.0 d.3 none) c.args.self.now.arenas c.tree.result.now (suc (count_of_rounds c.new-running.result.caches.now.items)) c.cpu.inside.hand _ _ (tag_emptying (λ (t : Tag). t) c.drain.result) (c.drain.ensures.ran (suc (count_of_rounds c.new-running.result.caches.now.items)) (omega arith)) c.new-running.ensures.unstopped (ap (λ (p : LockedPartsState). nodes_of p.arenas) c.new-running.ensures.parts ∙ ap nodes_of seen) (c.tree.ensures ∙ seen) (rw (c.in-Err-Stopped-None.is, c.in-Err-Stopped-None.field-0-is, c.in-Err-Stopped-None.field-0-0-is) (ap (λ (s : CpuState). s.hand) c.cpu.view_is ∙ c.requires))
+
+pub returns-in-Ok-clause-drained : goal.returns-in-Ok-clause-drained
+returns-in-Ok-clause-drained g c =
+    let seen = ap (λ (s : SystemState). s.arenas) c.self.view_is in
+    ran_empties _ _ _ _ (λ s. s.parts.now.arenas) (λ s. s.caches.now.items) (λ s. refl) (λ s t e x d. d.7) (λ s t e x d. d.2) c.args.self.now.arenas c.tree.result.now (suc (count_of_rounds c.new-running.result.caches.now.items)) _ _ _ (c.drain.ensures.ran (suc (count_of_rounds c.new-running.result.caches.now.items)) (omega arith)) (rw c.in-Ok.is refl) (ap (λ (p : LockedPartsState). nodes_of p.arenas) c.new-running.ensures.parts ∙ ap nodes_of seen) (c.tree.ensures ∙ seen) c.cpu.inside.number c.cpu.inside.hand _ refl
+
+pub returns-in-Err-Stopped-None-clause-drained : goal.returns-in-Err-Stopped-None-clause-drained
+returns-in-Err-Stopped-None-clause-drained g c =
+    let seen = ap (λ (s : SystemState). s.arenas) c.self.view_is in
+    absurd (ran_on _ _ _ _ (λ s. s.steps.noted) (λ s t e x d none. never_stops _ _ _ _ _ _ (λ _ _ no. no) d.0 d.3 none) c.args.self.now.arenas c.tree.result.now (suc (count_of_rounds c.new-running.result.caches.now.items)) _ _ (tag_emptying (λ (t : Tag). t) c.drain.result) (c.drain.ensures.ran (suc (count_of_rounds c.new-running.result.caches.now.items)) (omega arith)) c.new-running.ensures.unstopped (ap (λ (p : LockedPartsState). nodes_of p.arenas) c.new-running.ensures.parts ∙ ap nodes_of seen) (c.tree.ensures ∙ seen) (rw (c.in-Err-Stopped-None.is, c.in-Err-Stopped-None.field-0-is) tt))
