@@ -1,5 +1,5 @@
 -- What a drain that was gone through leaves in a CPU's magazines.
-use Rattle.std.proofs.Common.{◌≡◌, ◌∙◌, ◌⊎◌, ◌+◌, ◌-◌, ◌<◌, ◌≤◌, ◌++◌, ℕ, zero, suc, Bool, false, List, [], ◌∷◌, length, map, Option, Some, None, Result, Ok, Err, inl, inr, sym, subst, refl, ap, arith, slice_set, All}
+use Rattle.std.proofs.Common.{◌≡◌, ◌∙◌, ◌⊎◌, ◌+◌, ◌-◌, ◌<◌, ◌≤◌, ◌++◌, ℕ, zero, suc, List, [], ◌∷◌, length, map, Option, Some, None, Result, Ok, Err, inl, inr, sym, subst, refl, ap, arith, slice_set, All}
 use Rattle.std.specs.Prelude.{slice_get, slice_index_or}
 use Rattle.std.proofs.lemmas.Option.{slice_get-map, slice_get_within, slice_get-get_or}
 use Rattle.std.proofs.lemmas.List.{length-append, length-map}
@@ -17,14 +17,13 @@ use Rattle.arena_tree.specs.Sound.{Sound}
 use Rattle.arena_tree.specs.Told.{AnsweredEvent, Tells}
 use Rattle.arena_tree.specs.Trees.{nodes_of, node_of, caches_up_to, level_of}
 use Rattle.quantum_cache.specs.Caches.{chain_in, over_caches, over_arenas, if_ok}
-use Rattle.quantum_cache.specs.Drains.{EmptyingEnd, Turn, DrainEnd, on_put_back, on_drain_pop, drain_turn, on_turn, drain_cache_plan, drain_arena_plan, drain_plan}
-use Rattle.quantum_cache.specs.declared.emptying_faults.EmptyingFault.{EmptyingFault}
+use Rattle.quantum_cache.specs.Drains.{Turn, DrainEnd, on_put_back, on_drain_pop, drain_turn, on_turn, drain_cache_plan, drain_arena_plan, drain_plan}
 use Rattle.quantum_cache.specs.Frees.{put_chunk}
-use Rattle.quantum_cache.specs.Looks.{WasLast, OfEachCache, DrainTold}
+use Rattle.quantum_cache.specs.Looks.{WasLast, DrainTold}
 use Rattle.quantum_cache.specs.Sizes.{caches_in}
 use Rattle.quantum_cache.proofs.LawProofs.{drain_tells}
 use Rattle.locked_parts.specs.Kinds.{OwnCacheState, IsCacheOf, caches_if, count_of_caches, kinds_up_to, kinds_of_first, kinds_of, caches_before}
-use Rattle.locked_parts.specs.Owns.{cache_of, OnOwn, OnOwnOr, OwnPops, OwnStep}
+use Rattle.locked_parts.specs.Owns.{cache_of, OnOwn, OwnPops, OwnStep}
 use Rattle.locked_parts.specs.declared.kinds.CacheKind.{CacheKind}
 use Rattle.lease_threads.specs.Retiring.{IsDrained}
 use Rattle.lease_threads.proofs.Runs.{ran_leaves}
