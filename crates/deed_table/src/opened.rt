@@ -1,5 +1,6 @@
 //! An opener with the roots that it opened.
-ghost use Rattle.std.specs.Prelude.{◌≡◌, ◌+◌, ◌<◌, ◌≤◌, ◌^◌, [], ◌++◌, OnErr, OnOk, length};
+ghost use Rattle.std.specs.Prelude.{◌≡◌, ◌+◌, ◌<◌, ◌≤◌, ◌^◌, [], ◌++◌, OnErr, OnOk, IsOk, length};
+ghost use Rattle.std.specs.Prelude.{vec_len, vec_capacity};
 ghost use Rattle.deed_table.specs.Opened.{OpensNext, RunFrom};
 
 use crate::deeds::SeatDeed;
@@ -60,7 +61,7 @@ impl<N: Name> Roots<N> {
     }
 
     /// Moves its roots behind others, and goes on with the numbers that are left. `Err` is out of
-    /// memory.
+    /// memory, which is taken only where there is no room for them.
     pub fn hand_over(&mut self, to: &mut Vec<Root<N>>) -> Result<(), AllocError>
         ensures moved { OnOk result (to.new.items ≡ to.old.items ++ self.old.roots) }
         ensures rest { OnOk result (self.new ≡ record self.old {
@@ -68,6 +69,7 @@ impl<N: Name> Roots<N> {
           roots = [];
         }) }
         ensures unchanged { OnErr result ((to.new.items ≡ to.old.items) × (self.new ≡ self.old)) }
+        ensures enough { vec_len to.old + length self.old.roots ≤ vec_capacity to.old → IsOk result }
     {
         to.append(&mut self.roots)?;
         self.base = self.opener.first();

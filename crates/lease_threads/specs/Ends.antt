@@ -1,11 +1,13 @@
 -- A system that comes to its end, and what is left of one that doesn't.
-use Rattle.std.specs.Prelude.{◌≡◌, ℕ, ◌+◌, ◌-◌, ◌*◌, ◌^◌, ◌/◌, ◌<◌, ◌++◌, List, All, AllPairs}
-use Rattle.std.specs.Prelude.{length, map, slice_get, Option, Some, None}
+use Rattle.std.specs.Prelude.{◌≡◌, ℕ, ◌-◌, ◌^◌, ◌/◌, ◌<◌, ◌++◌, List, [], All, AllPairs}
+use Rattle.std.specs.Prelude.{length, map, nat_lt, position, slice_get, Option, Some, None}
+use Rattle.std.specs.Global.{Vec}
 use Rattle.std.specs.List.Sorted.{IsPermutation, IsNonDecreasingBy}
 use Rattle.deed_core.specs.Extent.{Extent}
 use Rattle.deed_core.specs.Holding.{Holding}
 use Rattle.deed_core.specs.Tag.{Tag}
 use Rattle.arena_tree.specs.declared.limits.TheConstants.{MOST_SPANS}
+use Rattle.locked_parts.specs.Growing.{AreRootsOf}
 use Rattle.lease_threads.specs.Systems.{SystemState}
 use Rattle.lease_threads.specs.declared.shutting.StoppedAt.{StoppedAt}
 use Rattle.lease_threads.specs.declared.shutting.StoppedAt.TheVariants as stop
@@ -14,38 +16,73 @@ use Rattle.lease_threads.specs.declared.shutting.StoppedAt.TheVariants as stop
 abbrev pub owner_of : Holding → ℕ
 owner_of r = r.root / MOST_SPANS
 
--- less of roots that are closed before others: those of earlier arenas, and the lower ones of an
--- arena, which gives its lowest span first
+-- less of an arena's roots that are closed before others: the lower ones, since it gives its lowest
+-- span first
 abbrev pub turn_of : Holding → ℕ
-turn_of r = 2 ^ 128 - 1 - (owner_of r * 2 ^ 64 + r.range.base)
+turn_of r = 2 ^ 64 - 1 - r.range.base
 
--- the roots stand in turn, the one that is closed next is the last
+-- the roots of an arena stand in turn, the one that is closed next is the last
 abbrev pub InTurn : List Holding → Type 0
 InTurn roots = IsNonDecreasingBy turn_of roots
 
--- the roots of the system's arenas: those that they were set up with, and further ones, which grow
--- opened
-pub record AreRootsIn (s : SystemState) (all : List Holding) : Type 0 where
-  pub further : List Holding
-  pub of_arenas : All (λ r. owner_of r < length s.arenas) further
-  pub each : IsPermutation (s.roots ++ further) all
+-- those of the first arenas, so many, do
+abbrev pub AreInTurn : ℕ → List (Vec Holding) → Type 0
+AreInTurn count roots = (id : ℕ) (r : Vec Holding) → slice_get roots id ≡ Some r → id < count
+    → InTurn r.items
 
--- the numbers of the roots rise: each stands there once, by arena in order of setup, and those of
--- an arena in order of adding
+-- the roots of the arena of this number: those that it was set up with, and further ones, which
+-- grow opened
+pub record AreRootsFor (id : ℕ) (own all : List Holding) : Type 0 where
+  pub further : List Holding
+  pub of_arena : AreRootsOf id further
+  pub each : IsPermutation (own ++ further) all
+
+-- the system has roots for each of its arenas, and here is something for each
+pub record HasForEach {A : Type 0} (s : SystemState) (xs : List A) : Type 0 where
+  pub roots : length s.roots ≡ length s.arenas
+  pub here : length xs ≡ length s.arenas
+
+-- the roots of the system's arenas, a list for each
+pub record AreRootsIn (s : SystemState) (all : List (Vec Holding)) : Type 0 where
+  pub for_each : HasForEach s all
+  pub are : (id : ℕ) (own r : Vec Holding) → slice_get s.roots id ≡ Some own
+      → slice_get all id ≡ Some r → AreRootsFor id own.items r.items
+
+-- the numbers of the roots rise: each stands there once, and those of an arena in order of adding
 abbrev pub InOrder : List Holding → Type 0
 InOrder roots = AllPairs (λ a b. a.root < b.root) roots
 
--- the ranges of all roots of the system's arenas, each once, in that order
-pub record AreRangesOf (s : SystemState) (ranges : List Extent) : Type 0 where
+-- the ranges of all roots of the arena of this number, each once, in that order; these are the roots
+-- that it was set up with
+pub record AreRangesFor (id : ℕ) (own : List Holding) (ranges : List Extent) : Type 0 where
   pub all : List Holding
-  pub each : AreRootsIn s all
+  pub each : AreRootsFor id own all
+  pub of_arena : AreRootsOf id all
   pub in_order : InOrder all
   pub told : ranges ≡ map (λ r. r.range) all
+
+-- and these are told of that arena of the system
+abbrev pub TellsArena : SystemState → ℕ → List Extent → Type 0
+TellsArena s id ranges = (own : Vec Holding) → slice_get s.roots id ≡ Some own
+    → AreRangesFor id own.items ranges
+
+-- the ranges of all roots of the system's arenas, a list for each
+pub record AreRangesOf (s : SystemState) (ranges : List (Vec Extent)) : Type 0 where
+  pub for_each : HasForEach s ranges
+  pub told : (id : ℕ) (t : Vec Extent) → slice_get ranges id ≡ Some t → TellsArena s id t.items
+
+-- no arena has a root
+abbrev pub AreClosed : List (Vec Holding) → Type 0
+AreClosed roots = All (λ r. r.items ≡ []) roots
+
+-- the first arena that has one
+abbrev pub first_open : List (Vec Holding) → Option ℕ
+first_open roots = position (λ r. nat_lt 0 (length r.items)) roots
 
 -- on its way to its end: the ranges of all its roots, once they are told, what isn't ended yet, and
 -- the segment that couldn't be placed
 pub record HaltedState : Type 0 where
-  pub told : Option (List Extent)
+  pub told : Option (List (Vec Extent))
   pub system : SystemState
   pub segment : Option Tag
 
@@ -54,16 +91,16 @@ abbrev pub begun : SystemState → HaltedState
 begun s = record { told = None; system = s; segment = None }
 
 -- ranges that were told, and else those of all roots of the system
-abbrev pub AreTold : Option (List Extent) → SystemState → List Extent → Type 0
+abbrev pub AreTold : Option (List (Vec Extent)) → SystemState → List (Vec Extent) → Type 0
 AreTold (Some told) s ranges = ranges ≡ told
 AreTold None s ranges = AreRangesOf s ranges
 
 -- the ranges that the end comes with
-abbrev pub AreRangesLeft : HaltedState → List Extent → Type 0
+abbrev pub AreRangesLeft : HaltedState → List (Vec Extent) → Type 0
 AreRangesLeft h ranges = AreTold h.told h.system ranges
 
 -- the ranges are told, or the roots are still there
-abbrev pub KeepsRoots : HaltedState → Option (List Extent) → List Holding → Type 0
+abbrev pub KeepsRoots : HaltedState → Option (List (Vec Extent)) → List (Vec Holding) → Type 0
 KeepsRoots old (Some told) roots = AreRangesLeft old told
 KeepsRoots old None roots = (old.told ≡ None) × AreRootsIn old.system roots
 
@@ -72,18 +109,18 @@ pub record IsRestOf (old new : HaltedState) : Type 0 where
   pub arenas : new.system.arenas ≡ old.system.arenas
   pub roots : KeepsRoots old new.told new.system.roots
 
--- with no segment in the hand the end stops at the root that is closed next
-abbrev pub root_stop : Option Holding → StoppedAt
+-- with no segment in the hand the end stops at the first arena of which a root isn't closed
+abbrev pub root_stop : Option ℕ → StoppedAt
 root_stop None = stop.Parts
-root_stop (Some r) = stop.Root (owner_of r)
+root_stop (Some id) = stop.Root id
 
 -- once the ranges are told, at a segment before any root
-abbrev pub stop_at : Option Tag → List Holding → StoppedAt
+abbrev pub stop_at : Option Tag → List (Vec Holding) → StoppedAt
 stop_at (Some t) roots = stop.Segment t.arena
-stop_at None roots = root_stop (slice_get roots (length roots - 1))
+stop_at None roots = root_stop (first_open roots)
 
 -- where the end stopped
-abbrev pub stop_when : Option (List Extent) → Option Tag → List Holding → StoppedAt
+abbrev pub stop_when : Option (List (Vec Extent)) → Option Tag → List (Vec Holding) → StoppedAt
 stop_when None segment roots = stop.Memory
 stop_when (Some told) segment roots = stop_at segment roots
 

@@ -1,5 +1,6 @@
 -- What a contract sees of a system and of a CPU.
 use Rattle.std.specs.Prelude.{◌≡◌, ℕ, ◌+◌, List, All, Option, None, sum_by}
+use Rattle.std.specs.Global.{Vec}
 use Rattle.std.specs.Option.{option_to_list}
 use Rattle.deed_core.specs.Covering.{units_tagged}
 use Rattle.deed_core.specs.Holding.{Holding}
@@ -8,11 +9,11 @@ use Rattle.magazine_layer.specs.Magazines.{BothEmpty, cache_rounds}
 use Rattle.arena_tree.specs.declared.trees.TreeArena.{TreeArena}
 use Rattle.locked_parts.specs.Kinds.{OwnCacheState}
 
--- its arenas by number, and the roots that they were set up with, by arena and then in order of
--- adding: what stands beside the locks
+-- its arenas by number, and of each the roots that it was set up with, in order of adding: what
+-- stands beside the locks
 pub record SystemState : Type 0 where
   pub arenas : List TreeArena
-  pub roots : List Holding
+  pub roots : List (Vec Holding)
 
 -- a CPU: its number, its hand, and its magazines
 pub record CpuState : Type 0 where

@@ -1,16 +1,18 @@
 //! How the roots of a system are closed.
-ghost use Rattle.std.specs.Prelude.{◌≡◌, ◌+◌, ◌<◌, [], length, None, IfErr, IfSome, OnOk, true};
+ghost use Rattle.std.specs.Prelude.{◌≡◌, ◌+◌, ◌<◌, [], ◌↔◌, length, None, IfErr, IfSome, OnOk, true};
+ghost use Rattle.std.specs.Prelude.{IsTrue, nat_lt, position};
 ghost use Rattle.std.specs.List.Sorted.{IsPermutation};
 ghost use Rattle.lease_threads.specs.Ends as ends;
 
 use crate::cpus::Cpu;
-use crate::systems::{System, owner_of};
+use crate::systems::System;
 use deed_core::{Deed, Route, Segment, insert_reserved};
 use deed_table::{Name, Root, SeatDeed, close};
+use locked_parts::LockedParts;
 use std::sync::Wait;
 
-/// Puts the roots in the turn in which they are closed, the last first. An arena gives its lowest
-/// span first: so none is looked for.
+/// Puts the roots of an arena in the turn in which they are closed, the last first. An arena gives
+/// its lowest span first: so none is looked for.
 pub(crate) fn put_in_turn<N: Name>(roots: &mut Vec<Root<N>>)
     ensures same { IsPermutation roots.old.items roots.new.items }
     ensures turn { ends.InTurn roots.new.items }
@@ -18,50 +20,93 @@ pub(crate) fn put_in_turn<N: Name>(roots: &mut Vec<Root<N>>)
     roots.sort_unstable_by_key(|root| turn_of(root));
 }
 
-/// One more than the greatest number that a base has room for.
-const ABOVE_BASES: u128 = 0x1_0000_0000_0000_0000;
-
-/// What rises by roots that come before others: those of later arenas, and the higher ones of an
-/// arena. So the last is closed first.
-fn turn_of<N: Name>(root: &Root<N>) -> u128
+/// What rises by roots of an arena that come before others, the higher ones. So the last is closed
+/// first.
+fn turn_of<N: Name>(root: &Root<N>) -> u64
     ensures { result ≡ ends.turn_of root.now }
 {
-    let place = u128::from(owner_of(root)) * ABOVE_BASES + u128::from(root.range().base());
-    u128::MAX - place
+    u64::MAX - root.range().base()
 }
 
-/// Takes the spans of the roots out of their arenas, the last root first, and closes each root by
-/// its deed, and says whether that was done with all. A deed that isn't the whole of a root's is in
-/// the hand.
+/// Takes the spans of the roots out of their arenas, one arena after another, and closes each root
+/// by its deed, and says whether that was done with all. A deed that isn't the whole of a root's is
+/// in the hand.
 pub(crate) fn close_each<N: Name, R: Wait>(rt: &R, system: &mut System<N>, cpu: &mut Cpu<N>) -> bool
     requires hand { cpu.old.hand ≡ None }
     ensures arenas { system.new.arenas ≡ system.old.arenas }
-    ensures all { result ≡ true → (system.new.roots ≡ []) × (cpu.new.hand ≡ None) }
+    ensures all { result ≡ true → ends.AreClosed system.new.roots × (cpu.new.hand ≡ None) }
 {
-    'roots: while !system.roots.is_empty() {
-        let last = system.roots.len() - 1;
-        let arena = owner_of(&system.roots[last]);
-        if !close_one(rt, arena, system, cpu) {
+    for id in 0..system.tree().len() as u32 {
+        if !close_at(rt, id, system, cpu) {
+            return false;
+        }
+    }
+    are_closed(&system.roots)
+}
+
+/// Whether no arena has a root.
+fn are_closed<N: Name>(roots: &[Vec<Root<N>>]) -> bool
+    ensures { IsTrue result ↔ ends.AreClosed roots.now }
+{
+    roots.iter().all(|roots| roots.is_empty())
+}
+
+/// Where the first arena stands that has a root.
+pub(crate) fn first_open<N: Name>(roots: &[Vec<Root<N>>]) -> Option<usize>
+    ensures first { result ≡ ends.first_open roots.now }
+    ensures within { IfSome result (λ index. index < length roots.now) }
+{
+    roots.iter().position(|roots| roots.len() > 0)
+}
+
+/// The same with the roots of the arena of this number.
+fn close_at<N: Name, R: Wait>(rt: &R, id: u32, system: &mut System<N>, cpu: &mut Cpu<N>) -> bool
+    requires within { id < length system.old.arenas }
+    requires hand { cpu.old.hand ≡ None }
+    ensures arenas { system.new.arenas ≡ system.old.arenas }
+    ensures closed { result ≡ true → cpu.new.hand ≡ None }
+{
+    close_all(rt, &system.parts, id, &mut system.roots[id as usize], cpu)
+}
+
+/// The same with these roots of it, the last first.
+fn close_all<N: Name, R: Wait>(
+    rt: &R,
+    parts: &LockedParts<N>,
+    id: u32,
+    roots: &mut Vec<Root<N>>,
+    cpu: &mut Cpu<N>,
+) -> bool
+    requires hand { cpu.old.hand ≡ None }
+    ensures closed { result ≡ true → (cpu.new.hand ≡ None) × (roots.new.items ≡ []) }
+{
+    'roots: while !roots.is_empty() {
+        if !close_one(rt, parts, id, roots, cpu) {
             return false;
         }
     }
     true
 }
 
-/// The same of one root of this arena.
-fn close_one<N: Name, R: Wait>(rt: &R, arena: u32, system: &mut System<N>, cpu: &mut Cpu<N>) -> bool
+/// The same with one of them.
+fn close_one<N: Name, R: Wait>(
+    rt: &R,
+    parts: &LockedParts<N>,
+    id: u32,
+    roots: &mut Vec<Root<N>>,
+    cpu: &mut Cpu<N>,
+) -> bool
     requires hand { cpu.old.hand ≡ None }
-    ensures arenas { system.new.arenas ≡ system.old.arenas }
     ensures closed { result ≡ true → (cpu.new.hand ≡ None)
-        × (length system.new.roots + 1 ≡ length system.old.roots) }
+        × (length roots.new.items + 1 ≡ length roots.old.items) }
 {
-    let Some(deed) = system.parts.remove_owned(rt, arena) else {
+    let Some(deed) = parts.remove_owned(rt, id) else {
         return false;
     };
-    match close_by(&mut system.roots, deed) {
+    match close_by(roots, deed) {
         Ok(()) => true,
         Err(deed) => {
-            cpu.hold(Segment::new(arena, Route::Direct, deed));
+            cpu.hold(Segment::new(id, Route::Direct, deed));
             false
         }
     }

@@ -1,11 +1,12 @@
 //! How all roots of a system are brought together and their ranges told.
-ghost use Rattle.std.specs.Prelude.{◌≡◌, ◌↔◌, ◌<◌, ◌++◌, List, [], All, length, map, IfOk, OnOk, IsTrue};
-ghost use Rattle.deed_core.specs.Holding.{Holding};
-ghost use Rattle.lease_threads.specs.Ends.{AreRangesOf, AreRootsIn, InOrder, InTurn, owner_of};
+ghost use Rattle.std.specs.Prelude.{◌≡◌, ◌≢◌, ◌↔◌, ◌+◌, ◌<◌, ◌≤◌, [], map, length, slice_get};
+ghost use Rattle.std.specs.Prelude.{IfOk, OnOk, IfSome, OnSome, Some, IsTrue, vec_capacity};
+ghost use Rattle.locked_parts.specs.Growing.{AreRootsOf};
+ghost use Rattle.lease_threads.specs.Ends.{AreRangesFor, AreRangesOf, AreRootsFor, AreRootsIn};
+ghost use Rattle.lease_threads.specs.Ends.{AreInTurn, InOrder, InTurn, TellsArena};
 
 use crate::closing::put_in_turn;
-use crate::end_rooms::EndRoom;
-use crate::systems::System;
+use crate::systems::{System, owner_of};
 use deed_core::Range;
 use deed_table::{Name, Root};
 use locked_parts::LockedParts;
@@ -13,88 +14,75 @@ use std::alloc::AllocError;
 use std::mem;
 use std::sync::Wait;
 
-/// Takes the roots that `grow` opened from behind the locks, tells the ranges of all, and puts the
-/// roots in the turn in which they are closed.
-#[tactic(auto, using(crate::proofs::Roots::turned))]
+/// Takes the roots that `grow` opened from behind the locks, tells the ranges of all by arena, and
+/// puts the roots of each in the turn in which they are closed. Room for that was made before;
+/// where it is missing all the same, those that were taken so far stand with the others.
 pub(crate) fn gather<N: Name, R: Wait>(
     rt: &R,
     system: &mut System<N>,
-) -> Result<Vec<Range>, AllocError>
+) -> Result<Vec<Vec<Range>>, AllocError>
     ensures arenas { system.new.arenas ≡ system.old.arenas }
     ensures roots { AreRootsIn system.old system.new.roots }
     ensures told { IfOk result (λ told. AreRangesOf system.old told.items) }
-    ensures turn { OnOk result (InTurn system.new.roots) }
+    ensures turn { OnOk result (AreInTurn (length system.new.arenas) system.new.roots) }
 {
-    let told = gather_in_order(rt, system)?;
-    put_in_turn(&mut system.roots);
+    let none = Vec::new(system.parts.alloc());
+    let mut told = mem::replace(&mut system.told, none);
+    let count = system.tree().len();
+    told.reserve(count)?;
+    for id in 0..count as u32 {
+        let ranges = gather_at(rt, id, system).ok_or(AllocError)?;
+        told.push_reserved(ranges);
+    }
     Ok(told)
 }
 
-/// Takes the roots that `grow` opened from behind the locks, puts all in order of their numbers,
-/// and tells their ranges. Room for that was made when they were opened; where it is missing all
-/// the same, and so is memory, those that were taken so far stand with the others.
-fn gather_in_order<N: Name, R: Wait>(
-    rt: &R,
-    system: &mut System<N>,
-) -> Result<Vec<Range>, AllocError>
+/// The same of the arena of this number.
+fn gather_at<N: Name, R: Wait>(rt: &R, id: u32, system: &mut System<N>) -> Option<Vec<Range>>
+    requires within { id < length system.old.arenas }
     ensures arenas { system.new.arenas ≡ system.old.arenas }
     ensures roots { AreRootsIn system.old system.new.roots }
-    ensures told { IfOk result (λ told. AreRangesOf system.old told.items) }
+    ensures told { IfSome result (λ told. TellsArena system.old id told.items) }
+    ensures turn { OnSome result
+        (AreInTurn id system.old.roots → AreInTurn (id + 1) system.new.roots) }
 {
-    let ranges = take_room(system)?;
-    gather_each(rt, &system.parts, &mut system.roots)?;
-    system.roots.sort_unstable_by_key(|root| root.number());
-    tell(ranges, &system.roots)
+    gather_roots(rt, &system.parts, id, &mut system.roots[id as usize])
 }
 
-/// Moves the roots to the list that has room for all, and gives the one for their ranges.
-fn take_room<N: Name>(system: &mut System<N>) -> Result<Vec<Range>, AllocError>
-    ensures same { system.new ≡ system.old }
-    ensures none { IfOk result (λ ranges. ranges.items ≡ []) }
-{
-    let none = EndRoom::none(system.parts.alloc());
-    let room = mem::replace(system.room.get_mut(), none);
-    let (mut roots, ranges) = room.into_lists();
-    if let Err(refused) = roots.append(&mut system.roots) {
-        roots.destroy_empty();
-        return Err(refused);
-    }
-    mem::swap(&mut system.roots, &mut roots);
-    roots.destroy_empty();
-    Ok(ranges)
-}
-
-/// Moves the roots behind the locks of all arenas behind these.
-fn gather_each<N: Name, R: Wait>(
+/// The same of these roots of it.
+fn gather_roots<N: Name, R: Wait>(
     rt: &R,
     parts: &LockedParts<N>,
+    id: u32,
     roots: &mut Vec<Root<N>>,
-) -> Result<(), AllocError>
-    ensures { (further : List Holding)
-        × All (λ r. owner_of r < length parts.now.arenas) further
-        × (roots.new.items ≡ roots.old.items ++ further) }
+) -> Option<Vec<Range>>
+    ensures roots { AreRootsFor id roots.old.items roots.new.items }
+    ensures told { IfSome result (λ told. AreRangesFor id roots.old.items told.items) }
+    ensures turn { OnSome result (InTurn roots.new.items) }
 {
-    for id in 0..parts.tree().len() as u32 {
-        parts.hand_over(rt, id, roots)?;
-    }
-    Ok(())
+    let ranges = parts.hand_over(rt, id, roots)?;
+    roots.sort_unstable_by_key(|root| root.number());
+    let told = tell(id, ranges, roots)?;
+    put_in_turn(roots);
+    Some(told)
 }
 
-/// The ranges of the roots, whose numbers rise. A number that stands twice, which no table opens,
-/// is refused.
-fn tell<N: Name>(mut ranges: Vec<Range>, roots: &[Root<N>]) -> Result<Vec<Range>, AllocError>
-    requires { ranges.items ≡ [] }
-    ensures order { IfOk result (λ told. InOrder roots.now) }
-    ensures told { IfOk result (λ told. told.items ≡ map (λ r. r.range) roots.now) }
+/// The ranges of the roots, whose numbers rise and are all of this arena. A number that stands
+/// twice, or is of another, which no table opens, is refused.
+fn tell<N: Name>(id: u32, mut ranges: Vec<Range>, roots: &[Root<N>]) -> Option<Vec<Range>>
+    requires none { ranges.items ≡ [] }
+    requires room { length roots.now ≤ vec_capacity ranges }
+    ensures order { OnSome result (InOrder roots.now) }
+    ensures of_arena { OnSome result (AreRootsOf id roots.now) }
+    ensures told { IfSome result (λ told. told.items ≡ map (λ r. r.range) roots.now) }
 {
-    if !are_in_order(roots) {
-        return Err(AllocError);
+    if !are_in_order(roots) || !are_of(id, roots) {
+        return None;
     }
-    ranges.reserve(roots.len())?;
     for root in roots {
         ranges.push_reserved(root.range());
     }
-    Ok(ranges)
+    Some(ranges)
 }
 
 /// Whether the numbers of the roots rise.
@@ -102,4 +90,11 @@ fn are_in_order<N: Name>(roots: &[Root<N>]) -> bool
     ensures { IsTrue result ↔ InOrder roots.now }
 {
     roots.is_sorted_by(|a, b| a.number() < b.number())
+}
+
+/// Whether the roots are all of the arena of this number.
+fn are_of<N: Name>(id: u32, roots: &[Root<N>]) -> bool
+    ensures { IsTrue result ↔ AreRootsOf id roots.now }
+{
+    roots.iter().all(|root| owner_of(root) == id)
 }

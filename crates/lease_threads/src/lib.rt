@@ -10,9 +10,9 @@
 //! it (shared_books), and tells what that ended with (replies). A segment that it left is the CPU's
 //! hand (hands). `tick`, `resize`, `grow` and `reap` (upkeep) keep the system in shape, and
 //! `retire` (retiring) ends a CPU. `shut` (shutting) ends a system: its roots are brought together
-//! from behind the locks and told (gathering), in room that was made for them (end_rooms), all that
-//! lies in its parts is placed (emptying), the roots are closed (closing), and its parts and its
-//! book are ended (ending). Those who watch a system are told what its parts and its book have, each
+//! from behind the locks and told (gathering), in room that was made for them, all that lies in its
+//! parts is placed (emptying), the roots are closed (closing), and its parts and its book are ended
+//! (ending). Those who watch a system are told what its parts and its book have, each
 //! under its own lock (sums).
 //!
 //! What contracts see of a system and a CPU stands in `specs/Systems.antt`, what a line may be
@@ -34,7 +34,6 @@
 mod closing;
 mod cpus;
 mod emptying;
-mod end_rooms;
 mod ending;
 mod gathering;
 mod hands;

@@ -1,12 +1,11 @@
 //! How a system is made.
-ghost use Rattle.std.specs.Prelude.{◌≡◌, ◌+◌, ◌*◌, ◌<◌, ◌≤◌, ◌++◌, [], length};
+ghost use Rattle.std.specs.Prelude.{◌≡◌, ◌+◌, ◌*◌, ◌<◌, ◌≤◌, ◌++◌, [], ◌∷◌, map, length};
 ghost use Rattle.std.specs.Prelude.{IfOk, IfErr, OnOk, vec_len, vec_capacity};
 ghost use Rattle.arena_tree.specs.declared.limits.TheConstants.{MOST_ARENAS, MOST_SPANS};
 ghost use Rattle.arena_tree.specs.declared.limits.TheConstants.{MOST_ROOTS};
 ghost use Rattle.lease_threads.specs.Openings.{IsSystemOf, roots_of, roots_of_first};
 ghost use Rattle.locked_parts.specs.News.{AreMadeAsSet};
 
-use crate::end_rooms::EndRoom;
 use crate::marked_books::MarkedBook;
 use crate::systems::System;
 use arena_tree::{MOST_ROOTS, Setup, Tree};
@@ -26,7 +25,7 @@ impl<N: Name> System<N> {
         ensures made { IfOk result (IsSystemOf setup) }
         ensures handed_back { IfErr result (λ same. same ≡ setup) }
     {
-        let Ok(room) = Room::new(alloc, setup.tree().len(), setup.spans().len()) else {
+        let Ok(room) = Room::new(alloc, setup.tree().len()) else {
             return Err(setup);
         };
         match open_all(alloc, &setup, ground.start()) {
@@ -50,7 +49,6 @@ fn open_all<N: Name>(
     ensures set_up { IfOk result (λ r. AreMadeAsSet setup.now.arenas r.0.items) }
     ensures roots { IfOk result (λ r. roots_of r.0.items
         ≡ roots_of_first setup.now.spans (length setup.now.arenas)) }
-    ensures few { IfOk result (λ r. length (roots_of r.0.items) ≤ length setup.now.spans) }
 {
     let mut numbers = rest.share(u64::from(MOST_ROOTS))?;
     let mut made = Vec::with_capacity(alloc, setup.tree().len())?;
@@ -81,7 +79,6 @@ fn open_each<N: Name>(
     ensures set_up { OnOk result (AreMadeAsSet setup.now.arenas made.new.items) }
     ensures roots { OnOk result (roots_of made.new.items
         ≡ roots_of_first setup.now.spans (length setup.now.arenas)) }
-    ensures few { OnOk result (length (roots_of made.new.items) ≤ length setup.now.spans) }
 {
     for id in 0..setup.tree().len() as u32 {
         let opened = NewArena::open(alloc, setup.tree(), id, setup.spans(), numbers)?;
@@ -106,52 +103,43 @@ fn open_book<N: Name>(alloc: Global, rest: &mut Opener<N>) -> Result<MarkedBook<
     Ok(MarkedBook::new(Book::new(alloc, deed), mark))
 }
 
-/// Room for so many arenas of a system, for so many roots, and for the end of these. A contract
-/// sees how many, in this order.
+/// Room for so many arenas of a system, for the roots of each, and for what the end tells of each. A
+/// contract sees how many.
 struct Room<N: Name> {
-    arena_count: usize,
-    root_count: usize,
+    count: usize,
     arenas: Vec<LockedArena<N>>,
-    roots: Vec<Root<N>>,
-    end: EndRoom<N>,
+    roots: Vec<Vec<Root<N>>>,
+    told: Vec<Vec<Range>>,
 }
 
 impl<N: Name> Model for Room<N> {
     ghost use Rattle.std.specs.Prelude.{◌≡◌, ◌≤◌, ℕ, vec_len, vec_capacity};
 
-    ghost Value = { ℕ × ℕ };
+    ghost Value = { ℕ };
 
-    ghost view = { λ r. (r.arena_count, r.root_count) };
+    ghost view = { λ r. r.count };
 
-    ghost invariant = { λ r. (vec_len r.arenas ≡ 0) × (r.arena_count ≤ vec_capacity r.arenas)
-        × (vec_len r.roots ≡ 0) × (r.root_count ≤ vec_capacity r.roots) };
+    ghost invariant = { λ r. (vec_len r.arenas ≡ 0) × (r.count ≤ vec_capacity r.arenas)
+        × (vec_len r.roots ≡ 0) × (r.count ≤ vec_capacity r.roots)
+        × (vec_len r.told ≡ 0) };
 }
 
 impl<N: Name> Room<N> {
-    /// Room for so many arenas and roots.
-    fn new(alloc: Global, arena_count: usize, root_count: usize) -> Result<Room<N>, AllocError>
-        ensures { IfOk result (λ room. room ≡ (arena_count, root_count)) }
+    /// Room for so many arenas.
+    fn new(alloc: Global, count: usize) -> Result<Room<N>, AllocError>
+        ensures { IfOk result (λ room. room ≡ count) }
     {
-        let mut end = EndRoom::none(alloc);
-        if let Err(refused) = end.add(root_count) {
-            end.end();
-            return Err(refused);
-        }
-        let Ok(arenas) = Vec::with_capacity(alloc, arena_count) else {
-            end.end();
-            return Err(AllocError);
-        };
-        let Ok(roots) = Vec::with_capacity(alloc, root_count) else {
-            end.end();
+        let told = Vec::with_capacity(alloc, count)?;
+        let arenas = Vec::with_capacity(alloc, count)?;
+        let Ok(roots) = Vec::with_capacity(alloc, count) else {
             arenas.destroy_empty();
             return Err(AllocError);
         };
         Ok(Room {
-            arena_count,
-            root_count,
+            count,
             arenas,
             roots,
-            end,
+            told,
         })
     }
 
@@ -163,24 +151,23 @@ impl<N: Name> Room<N> {
         made: Vec<NewArena<N>>,
         book: MarkedBook<N>,
     ) -> System<N>
-        requires arenas { vec_len made ≤ self.0 }
-        requires roots { length (roots_of made.items) ≤ self.1 }
+        requires room { vec_len made ≤ self }
+        requires count { vec_len made ≡ length tree }
         requires set_up { AreMadeAsSet tree made.items }
         ensures arenas { result.arenas ≡ tree }
-        ensures roots { result.roots ≡ roots_of made.items }
+        ensures roots { map (λ r. r.items) result.roots ≡ roots_of made.items }
     {
         let Room {
-            arena_count: _,
-            root_count: _,
+            count: _,
             mut arenas,
             mut roots,
-            end,
+            told,
         } = self;
         lock_all(made, &mut arenas, &mut roots);
         System {
             parts: LockedParts::new(alloc, tree, arenas),
             roots,
-            room: Mutex::new(end),
+            told,
             book: Mutex::new(book),
         }
     }
@@ -188,15 +175,13 @@ impl<N: Name> Room<N> {
     /// Lets the room go.
     fn end(self) {
         let Room {
-            arena_count: _,
-            root_count: _,
+            count: _,
             arenas,
             roots,
-            end,
+            told: _,
         } = self;
         arenas.destroy_empty();
         roots.destroy_empty();
-        end.end();
     }
 }
 
@@ -204,16 +189,18 @@ impl<N: Name> Room<N> {
 fn lock_all<N: Name>(
     mut made: Vec<NewArena<N>>,
     arenas: &mut Vec<LockedArena<N>>,
-    roots: &mut Vec<Root<N>>,
+    roots: &mut Vec<Vec<Root<N>>>,
 )
     requires arenas { vec_len arenas.old + vec_len made ≤ vec_capacity arenas.old }
-    requires roots { vec_len roots.old + length (roots_of made.items) ≤ vec_capacity roots.old }
-    ensures roots { roots.new.items ≡ roots.old.items ++ roots_of made.items }
+    requires roots { vec_len roots.old + vec_len made ≤ vec_capacity roots.old }
+    ensures roots { map (λ r. r.items) roots.new.items
+        ≡ map (λ r. r.items) roots.old.items ++ roots_of made.items }
+    ensures count { vec_len roots.new ≡ vec_len roots.old + vec_len made }
 {
     while !made.is_empty() {
         let (locked, more) = lock_first(&mut made);
         arenas.push_reserved(locked);
-        append_reserved(roots, more);
+        roots.push_reserved(more);
     }
     made.destroy_empty();
 }
@@ -222,23 +209,8 @@ fn lock_all<N: Name>(
 #[tactic(auto, using(crate::proofs::Roots::first_locked))]
 fn lock_first<N: Name>(made: &mut Vec<NewArena<N>>) -> (LockedArena<N>, Vec<Root<N>>)
     requires { 0 < vec_len made.old }
-    ensures roots { roots_of made.old.items ≡ result.1.items ++ roots_of made.new.items }
-    ensures count { length (roots_of made.old.items)
-        ≡ vec_len result.1 + length (roots_of made.new.items) }
+    ensures roots { roots_of made.old.items ≡ result.1.items ∷ roots_of made.new.items }
     ensures len { vec_len made.new + 1 ≡ vec_len made.old }
 {
     made.remove(0).lock()
-}
-
-/// Moves roots behind others, where there is room.
-fn append_reserved<N: Name>(roots: &mut Vec<Root<N>>, mut more: Vec<Root<N>>)
-    requires { vec_len roots.old + vec_len more ≤ vec_capacity roots.old }
-    ensures items { roots.new.items ≡ roots.old.items ++ more.items }
-    ensures len { vec_len roots.new ≡ vec_len roots.old + vec_len more }
-    ensures room { vec_capacity roots.old ≤ vec_capacity roots.new }
-{
-    match roots.append(&mut more) {
-        Ok(()) => more.destroy_empty(),
-        Err(AllocError) => unreachable!(),
-    }
 }

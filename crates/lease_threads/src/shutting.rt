@@ -1,16 +1,17 @@
 //! The end of a system.
-ghost use Rattle.std.specs.Prelude.{◌≡◌, [], IfOk, OnOk, IfErr, IfSome, IfNone, IsSome, Some, None};
+ghost use Rattle.std.specs.Prelude.{◌≡◌, IfOk, OnOk, IfErr, IfSome, IfNone, IsSome, Some, None};
 ghost use Rattle.std.specs.Prelude.{true};
-ghost use Rattle.lease_threads.specs.Ends.{AreRangesOf, AreRangesLeft, IsRestOf, begun, stop_of};
+ghost use Rattle.lease_threads.specs.Ends.{AreClosed, AreRangesOf, AreRangesLeft, IsRestOf};
+ghost use Rattle.lease_threads.specs.Ends.{begun, stop_of};
 ghost use Rattle.lease_threads.specs.Retiring.{RetiresSoundly, IsStuck};
 ghost use Rattle.lease_threads.specs.Systems.{HoldsNothing};
 ghost use Rattle.locked_parts.specs.Kinds.{AreForSame};
 
-use crate::closing::close_each;
+use crate::closing::{close_each, first_open};
 use crate::cpus::Cpu;
 use crate::ending::end_parts;
 use crate::gathering::gather;
-use crate::systems::{System, owner_of};
+use crate::systems::System;
 use deed_core::{Range, Segment};
 use deed_table::{Name, SeatDeed};
 use std::alloc::AllocError;
@@ -21,7 +22,7 @@ use std::sync::Wait;
 /// roots, once they are told, what isn't ended yet, and the segment that can't be placed, if there
 /// is one. No arena of it grows any more.
 pub struct Halted<N: Name> {
-    told: Option<Vec<Range>>,
+    told: Option<Vec<Vec<Range>>>,
     system: System<N>,
     cpu: Cpu<N>,
 }
@@ -64,8 +65,10 @@ impl<N: Name> Halted<N> {
         if let Some(segment) = &self.cpu.hand {
             return StoppedAt::Segment(segment.arena());
         }
-        match self.system.roots.last() {
-            Some(root) => StoppedAt::Root(owner_of(root)),
+        // For its clause: how many arenas there are at most.
+        let _ = self.system.tree().len();
+        match first_open(&self.system.roots) {
+            Some(index) => StoppedAt::Root(index as u32),
             None => StoppedAt::Parts,
         }
     }
@@ -91,7 +94,7 @@ impl<N: Name> Halted<N> {
     }
 
     /// Goes on where the end stopped, with the answers of `shut`.
-    pub fn again<R: Wait>(mut self, rt: &R) -> Result<Vec<Range>, Halted<N>>
+    pub fn again<R: Wait>(mut self, rt: &R) -> Result<Vec<Vec<Range>>, Halted<N>>
         ensures ranges { IfOk result (λ ranges. AreRangesLeft self ranges.items) }
         ensures rest { IfErr result (IsRestOf self) }
     {
@@ -132,7 +135,8 @@ impl<N: Name> Halted<N> {
     fn empty<R: Wait>(&mut self, rt: &R) -> bool
         ensures arenas { self.new.system.arenas ≡ self.old.system.arenas }
         ensures told { self.new.told ≡ self.old.told }
-        ensures empty { result ≡ true → (self.new.system.roots ≡ []) × (self.new.segment ≡ None) }
+        ensures empty { result ≡ true
+            → AreClosed self.new.system.roots × (self.new.segment ≡ None) }
     {
         self.system.empty_parts(rt, &mut self.cpu)
             && close_each(rt, &mut self.system, &mut self.cpu)
@@ -141,11 +145,11 @@ impl<N: Name> Halted<N> {
 
 impl<N: Name> System<N> {
     /// Ends all leases, empties depots and slabs, hands imported spans back, and closes each root
-    /// and the root of the book's mark: gives the range of each root of an arena, each once, by
-    /// arena in order of setup and then in order of adding, whether the setup or `grow` added it.
+    /// and the root of the book's mark: gives the ranges of the roots, a list for each arena in
+    /// order of setup, which has each once, in order of adding, whether the setup or `grow` added it.
     /// All CPUs are to be retired before; what one of them still has is missing, and the rest of
     /// the system comes back. It takes no memory.
-    pub fn shut<R: Wait>(self, rt: &R) -> Result<Vec<Range>, Halted<N>>
+    pub fn shut<R: Wait>(self, rt: &R) -> Result<Vec<Vec<Range>>, Halted<N>>
         ensures ranges { IfOk result (λ ranges. AreRangesOf self ranges.items) }
         ensures rest { IfErr result (IsRestOf (begun self)) }
     {

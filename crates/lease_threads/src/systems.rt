@@ -3,9 +3,9 @@ ghost use Rattle.std.specs.Prelude.{◌≡◌};
 ghost use Rattle.arena_tree.specs.declared.limits.TheConstants.{MOST_SPANS};
 ghost use Rattle.lease_threads.specs.Ends as ends;
 
-use crate::end_rooms::EndRoom;
 use crate::marked_books::MarkedBook;
 use arena_tree::{MOST_SPANS, Tree};
+use deed_core::Range;
 use deed_table::{Name, Root};
 use locked_parts::LockedParts;
 use std::marker::Model;
@@ -21,22 +21,25 @@ pub(crate) fn owner_of<N: Name>(root: &Root<N>) -> u32
 
 /// Arenas with their quantum caches, and the book of their leases, each part under a lock of its
 /// own. Workers share it. A contract sees what stands beside the locks: the arenas as they were set
-/// up, and the roots of the spans that they were set up with. Those that `grow` opens stand under
-/// the locks; room for all is kept for the end, under a lock that no request takes. A system is
-/// never dropped: `shut` ends it.
+/// up, and of each the roots of the spans that it was set up with. Those that `grow` opens stand
+/// under the locks, where there is room for the end of all; `told` has room for what the end tells of
+/// each arena. A system is never dropped: `shut` ends it.
 pub struct System<N: Name> {
     pub(crate) parts: LockedParts<N>,
-    pub(crate) roots: Vec<Root<N>>,
-    pub(crate) room: Mutex<EndRoom<N>>,
+    pub(crate) roots: Vec<Vec<Root<N>>>,
+    pub(crate) told: Vec<Vec<Range>>,
     pub(crate) book: Mutex<MarkedBook<N>>,
 }
 
 impl<N: Name> Model for System<N> {
+    ghost use Rattle.std.specs.Prelude.{◌≡◌, length, vec_len};
     ghost use Rattle.lease_threads.specs.Systems.{SystemState};
 
     ghost Value = { SystemState };
 
     ghost view = { λ s. record { arenas = s.parts.arenas; roots = s.roots.items } };
+
+    ghost invariant = { λ s. (vec_len s.roots ≡ length s.parts.arenas) × (vec_len s.told ≡ 0) };
 }
 
 impl<N: Name> System<N> {

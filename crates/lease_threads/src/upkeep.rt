@@ -35,23 +35,13 @@ impl<N: Name> System<N> {
     }
 
     /// Opens a further root of this range for an arena without a source, and adds it as an owned
-    /// span, in one event under the arena's lock. The first fault that stands is told; of those
-    /// that lie under the lock the part's own call says exactly when. Room for the root in the
-    /// lists of the end is made before, and given back where no root is opened.
+    /// span, in one event under the arena's lock, which makes room for its end too. The first fault
+    /// that stands is told; of those that lie under the lock the part's own call says exactly when.
     pub fn grow<R: Wait>(&self, rt: &R, arena: u32, range: Range) -> Result<Grown, GrowFault>
         ensures answers { AnswersGrow self.now.arenas arena result }
         ensures grown { IfOk result (IsGrowthBy arena range) }
     {
-        let room = self.room.lock(rt).add(1);
-        if room.is_err() {
-            self.parts.judge_growth(rt, arena, &range)?;
-            return Err(GrowFault::NoMemory);
-        }
-        let grown = self.parts.grow(rt, arena, range);
-        if grown.is_err() {
-            self.room.lock(rt).remove_one();
-        }
-        grown
+        self.parts.grow(rt, arena, range)
     }
 
     /// Moves rounds that the depots of the arena may let go to their slabs, and slabs of which no

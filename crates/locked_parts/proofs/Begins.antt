@@ -1,5 +1,5 @@
 -- Where a CPU's magazines for a quantum cache stand.
-use Rattle.std.proofs.Common.{◌≡◌, ◌∙◌, ℕ, zero, suc, ◌+◌, ◌-◌, ◌*◌, ◌<◌, ◌≤◌, List, [], ◌∷◌, ◌++◌, map, length, Option, Some, None, inl, inr, refl, ap, subst, arith}
+use Rattle.std.proofs.Common.{◌≡◌, ◌∙◌, ℕ, zero, suc, ◌+◌, ◌-◌, ◌*◌, ◌<◌, ◌≤◌, List, [], ◌∷◌, ◌++◌, map, length, slice_index_or, Option, Some, None, inl, inr, refl, ap, sym, subst, arith}
 use Rattle.std.specs.Prelude.{slice_get}
 use Rattle.std.proofs.lemmas.List.{length-append}
 use Rattle.std.proofs.lemmas.Bool.{cases_eq}
@@ -8,6 +8,8 @@ use Rattle.arena_tree.specs.Chains.{quantum_in}
 use Rattle.arena_tree.specs.Trees.{nodes_of}
 use Rattle.arena_tree.specs.declared.trees.TreeArena.{TreeArena}
 use Rattle.locked_parts.specs.Kinds.{OwnCacheState, IsCacheOf, caches_if, count_of_caches, kinds_up_to, kinds_of_first, kinds_of, caches_before}
+use Rattle.std.specs.List.{remove}
+use Rattle.locked_parts.specs.News.{NewCacheState}
 use Rattle.locked_parts.specs.declared.kinds.CacheKind.{CacheKind}
 
 -- a quantum cache by its numbers
@@ -86,3 +88,8 @@ pub own_found : (arenas : List TreeArena) (caches : List OwnCacheState) (k : Cac
     → (o : OwnCacheState) × (slice_get caches index ≡ Some o) × (k ≡ o.kind)
 own_found arenas caches k index all is at =
     mapped (λ (r : OwnCacheState). r.kind) caches index k (own_there arenas (map (λ (r : OwnCacheState). r.kind) caches) k index all is at)
+
+-- the first one is locked
+pub first_kind : (caches : List NewCacheState) (x : NewCacheState) → 0 < length caches → x ≡ slice_index_or caches 0 x → map (λ c. c.kind) caches ≡ x.kind ∷ map (λ c. c.kind) (remove caches 0)
+first_kind [] x some is = absurd (omega (arith, some))
+first_kind (y ∷ ys) x some is = ap (λ (z : NewCacheState). z.kind ∷ map (λ c. c.kind) ys) (sym is)

@@ -23,11 +23,9 @@ root_answers arenas id (Ok x) root of = root
 root_answers arenas id (Err f) root of = root_refuses arenas id f root of
 
 -- which arena a root is of
-of_owner : (id base before left k root : ℕ) → MOST_SPANS * id ≤ base → base + before + left ≡ MOST_SPANS * id + MOST_SPANS → k < before → root ≡ base + k → root / MOST_SPANS ≡ id
-of_owner id base before left k root from all within is = omega (arith, from, all, within, is)
+of_owner : (id beside base before left k root : ℕ) → MOST_SPANS * id + beside ≤ base → base + before + left ≡ MOST_SPANS * id + MOST_SPANS → k < before → root ≡ base + k → root / MOST_SPANS ≡ id
+of_owner id beside base before left k root from all within is = omega (arith, from, all, within, is)
 
-pub handed_over : {E : Type 0} (B : Type 0) (id owner : ℕ) (o : OpenedState) (r : Result (Unit {0}) E) (old new : List Holding) → owner ≡ id → MOST_SPANS * owner ≤ o.base → o.base + length o.roots + o.left ≡ MOST_SPANS * owner + MOST_SPANS
-    → RunFrom o.base o.roots → OnOk r (new ≡ old ++ o.roots) → OnErr r ((new ≡ old) × B) → HasRootsMore id old new
-handed_over B id owner o (Ok x) old new is from all run moved same =
-    (o.roots, (λ k d within. of_owner owner o.base (length o.roots) o.left k _ from all within (run k d within) ∙ is), moved)
-handed_over B id owner o (Err e) old new is from all run moved same = ([], All-nil (λ (h : Holding). h.root / MOST_SPANS ≡ id), same.0 ∙ sym (append-nil old))
+pub handed_over : (id owner beside : ℕ) (o : OpenedState) (old new : List Holding) → owner ≡ id → MOST_SPANS * owner + beside ≤ o.base → o.base + length o.roots + o.left ≡ MOST_SPANS * owner + MOST_SPANS
+    → RunFrom o.base o.roots → new ≡ old ++ o.roots → HasRootsMore id old new
+handed_over id owner beside o old new is from all run moved = (o.roots, (λ k d within. of_owner owner beside o.base (length o.roots) o.left k _ from all within (run k d within) ∙ is), moved)

@@ -10,7 +10,7 @@ use Rattle.locked_parts.specs.Answers.{ArenaPartState, NumbersItsRoots}
 -- where the arena owns no more than before
 pub numbers_kept : (p : ArenaPartState) (a : ArenaState) → a.id ≡ p.arena.id → length a.owned ≤ length p.arena.owned → NumbersItsRoots p → NumbersItsRoots (record p { arena = a })
 numbers_kept p a id fewer n = record {
-  from = subst (λ (k : ℕ). MOST_SPANS * k ≤ p.roots.base) (sym id) n.from;
+  from = subst (λ (k : ℕ). MOST_SPANS * k + p.beside ≤ p.roots.base) (sym id) n.from;
   all = subst (λ (k : ℕ). p.roots.base + length p.roots.roots + p.roots.left ≡ MOST_SPANS * k + MOST_SPANS) (sym id) n.all;
   owned = subst (λ (k : ℕ). MOST_SPANS * k + length a.owned ≤ p.roots.base + length p.roots.roots) (sym id) (omega (arith, fewer, n.owned));
 }

@@ -15,30 +15,33 @@ use Rattle.locked_parts.specs.declared.kinds.CacheKind.{CacheKind}
 abbrev pub AnswersSoundly : List Node → (e : Event) → AnswerTo e → Type 0
 AnswersSoundly nodes e a = Sound nodes e a × (is_stopped e a ≡ false)
 
--- an arena under its lock, with the number of the arena that it imports from, and the further
--- roots that were opened for it
+-- an arena under its lock, with the number of the arena that it imports from, the further roots
+-- that were opened for it, and how many of its roots stand beside the lock
 pub record ArenaPartState : Type 0 where
   pub source : Option ℕ
   pub arena : ArenaState
   pub roots : OpenedState
+  pub beside : ℕ
 
 -- all that it imported is of its source
 abbrev pub ImportsItsOwn : ArenaPartState → Type 0
 ImportsItsOwn p = All (λ t. p.source ≡ Some t.arena) p.arena.imported
 
--- its root numbers are those of its arena, of which as many are used as spans were opened; so where
--- it owns as many as an arena may, none is left
+-- its root numbers are those of its arena, the first ones of the roots beside the lock; as many are
+-- used as spans were opened, so where it owns as many as an arena may, none is left
 pub record NumbersItsRoots (p : ArenaPartState) : Type 0 where
-  pub from : MOST_SPANS * p.arena.id ≤ p.roots.base
+  pub from : MOST_SPANS * p.arena.id + p.beside ≤ p.roots.base
   pub all : p.roots.base + length p.roots.roots + p.roots.left
       ≡ MOST_SPANS * p.arena.id + MOST_SPANS
   pub owned : MOST_SPANS * p.arena.id + length p.arena.owned
       ≤ p.roots.base + length p.roots.roots
 
--- what is so of an arena under its lock
-pub record IsArenaPart (p : ArenaPartState) : Type 0 where
+-- what is so of an arena under its lock, which has room for the end of so many roots: it is enough
+-- for all
+pub record IsArenaPart (p : ArenaPartState) (room : ℕ) : Type 0 where
   pub imports : ImportsItsOwn p
   pub numbers : NumbersItsRoots p
+  pub enough : p.beside + length p.roots.roots ≤ room
 
 -- the span of a slab of the quantum cache
 pub record IsSpanOfKind (k : CacheKind) (t : Tag) : Type 0 where

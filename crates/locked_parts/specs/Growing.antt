@@ -72,6 +72,7 @@ pub record PartGrew (old : ArenaPartState) (range : Extent) (new : ArenaPartStat
   pub opened : OpensNext old.roots span new.roots
   pub arena : new.arena ≡ after_add old.arena span
   pub source : new.source ≡ old.source
+  pub beside : new.beside ≡ old.beside
 
 -- why an arena doesn't grow, the first of these that stands; memory is asked for only where none
 -- does

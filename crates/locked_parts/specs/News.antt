@@ -1,6 +1,6 @@
 -- Parts of a system as they are made.
 use Rattle.std.specs.Prelude.{◌≡◌, ℕ, ◌+◌, ◌==◌, List, [], ◌∷◌, All, Option, Some, map, filter}
-use Rattle.std.specs.Prelude.{slice_get}
+use Rattle.std.specs.Prelude.{slice_get, length}
 use Rattle.deed_core.specs.Extent.{Extent}
 use Rattle.deed_core.specs.Holding.{Holding}
 use Rattle.tag_arena.specs.ArenaState.{ArenaState}
@@ -11,6 +11,7 @@ use Rattle.arena_tree.specs.declared.setups.OwnedSpan.{OwnedSpan}
 use Rattle.arena_tree.specs.declared.trees.TreeArena.{TreeArena}
 use Rattle.magazine_layer.specs.Depots.{DepotState, new_depot}
 use Rattle.locked_parts.specs.Kinds.{count_of_caches, kinds_up_to, first_size}
+use Rattle.locked_parts.specs.States.{LockedArenaState}
 use Rattle.locked_parts.specs.declared.kinds.CacheKind.{CacheKind}
 
 -- the ranges of those spans that the arena of this number owns, in order of coming
@@ -59,3 +60,13 @@ pub record IsMadeAsSet (arenas : List TreeArena) (id : ℕ) (a : NewArenaState) 
 -- and each of these is the one of its index
 pub record AreMadeAsSet (arenas : List TreeArena) (made : List NewArenaState) : Type 0 where
   pub each : (k : ℕ) (a : NewArenaState) → slice_get made k ≡ Some a → IsMadeAsSet arenas k a
+
+-- the quantum caches that an arena has under their locks, as it was made with them
+abbrev pub locked_of : NewArenaState → LockedArenaState
+locked_of a = record { kinds = map (λ c. c.kind) a.caches }
+
+-- each arena stands, with the quantum caches that it was set up with
+pub record StandAsSet (arenas : List TreeArena) (stand : List LockedArenaState) : Type 0 where
+  pub count : length stand ≡ length arenas
+  pub each : (k : ℕ) (a : LockedArenaState) → slice_get stand k ≡ Some a
+      → a.kinds ≡ kinds_up_to k (quantum_in (nodes_of arenas) k) (count_of_caches arenas k)

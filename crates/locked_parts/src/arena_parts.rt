@@ -1,6 +1,7 @@
 //! An arena as its lock keeps it. What lies there when the lock is taken is known by its type
 //! alone, so that each event looks whether it is the arena that is meant.
 ghost use Rattle.std.specs.Prelude.{◌≡◌, ◌≢◌, ◌<◌, ◌≤◌, ◌↔◌, ◌++◌, List, [], Some, Ok, IsOk};
+ghost use Rattle.std.specs.Prelude.{IfSome, IfNone, IsSome, OnSome, vec_len, vec_capacity};
 ghost use Rattle.std.specs.Prelude.{true, false};
 ghost use Rattle.std.specs.Prelude.{OnOk, OnErr, IfOk};
 ghost use Rattle.std.specs.Prelude.{IfErr};
@@ -20,21 +21,25 @@ ghost use Rattle.locked_parts.specs.Saying.{IsOtherArena, arena_said};
 ghost use Rattle.locked_parts.specs.Sums.{ArenaTells};
 ghost use Rattle.locked_parts.specs.Words.{carve_word, free_word, span_word};
 
+use crate::end_rooms::EndRoom;
 use crate::gates::NextStep;
 use crate::said::Said;
 use crate::words::{Word, word_of_carve, word_of_free, word_of_span};
 use arena_tree::{GivenFault, GrowFault, PartFault};
 use deed_core::{Range, Request, Route, Segment};
 use deed_table::{Name, Root, Roots, SeatDeed};
-use std::alloc::AllocError;
+use std::alloc::{AllocError, Global};
 use std::marker::Model;
 use tag_arena::{Arena, ArenaFault, RangeFault, SpanFault};
 
-/// An arena, the number of its source, if it has one, and its further roots with their opener.
+/// An arena, the number of its source, if it has one, its further roots with their opener, and how
+/// many of its roots stand beside the lock. It keeps room for the end of all these.
 pub(crate) struct ArenaPart<N: Name> {
     pub(crate) source: Option<u32>,
     pub(crate) arena: Arena<SeatDeed<N>>,
     pub(crate) roots: Roots<N>,
+    pub(crate) beside: usize,
+    pub(crate) room: EndRoom<N>,
 }
 
 impl<N: Name> Model for ArenaPart<N> {
@@ -49,10 +54,12 @@ impl<N: Name> Model for ArenaPart<N> {
     ghost coded = { Prim.hlevel
         (codes, finmap.code {X = Holding} {R = nat_cmp} coded_ℕ (Prim.hlevel codes)) };
 
-    ghost view = { λ p. record { source = p.source; arena = p.arena; roots = p.roots } };
+    ghost view = { λ p.
+        record { source = p.source; arena = p.arena; roots = p.roots; beside = p.beside } };
 
-    ghost invariant = { λ p.
-        IsArenaPart (record { source = p.source; arena = p.arena; roots = p.roots }) };
+    ghost invariant = { λ p. IsArenaPart
+        (record { source = p.source; arena = p.arena; roots = p.roots; beside = p.beside })
+        p.room };
 }
 
 /// What the arena of this number answered, and at which step it was asked. Only `ArenaPart` makes
@@ -234,18 +241,14 @@ impl<N: Name> ArenaPart<N> {
         (report.free, report.allocated)
     }
 
-    /// Whether the arena with this number can have a further root of this range, were there memory
-    /// for it, or the first reason why not. Of another that stands here nothing is said.
-    pub(crate) fn judge_growth(&self, id: u32, range: &Range) -> Result<(), GrowFault>
+    /// Whether the arena can have a further root of this range, were there memory for it, or the
+    /// first reason why not.
+    fn judge_growth(&self, range: &Range) -> Result<(), GrowFault>
         ensures of_arena { IsOfArena result }
-        ensures can { OnOk result (self.now.arena.id ≡ id → CanGrow self.now range.now) }
-        ensures refused { IfErr result (λ f. self.now.arena.id ≡ id
-            → RefusesGrow self.now range.now f) }
+        ensures can { OnOk result (CanGrow self.now range.now) }
+        ensures refused { IfErr result (RefusesGrow self.now range.now) }
         ensures judged { IfErr result (λ f. f ≢ GrowFault.NoMemory) }
     {
-        if self.arena.id() != id {
-            return Ok(());
-        }
         match self.arena.admits(range) {
             Ok(()) => {}
             Err(RangeFault::Overlaps) => return Err(GrowFault::Overlaps),
@@ -257,8 +260,8 @@ impl<N: Name> ArenaPart<N> {
         Ok(())
     }
 
-    /// Opens a further root of this range for the arena with this number, and adds its deed. Where
-    /// another stands here, it is refused.
+    /// Opens a further root of this range for the arena with this number, adds its deed, and keeps
+    /// room for its end. Where another stands here, it is refused.
     pub(crate) fn grow(&mut self, id: u32, range: Range) -> Result<Grown, GrowFault>
         ensures of_arena { IsOfArena result }
         ensures grown { OnOk result (PartGrew self.old range self.new) }
@@ -271,28 +274,58 @@ impl<N: Name> ArenaPart<N> {
         if self.arena.id() != id {
             return Err(GrowFault::NoMemory);
         }
-        self.judge_growth(id, &range)?;
-        match self.arena.grow(range, &mut self.roots) {
+        self.judge_growth(&range)?;
+        match self.open_root(range) {
             Ok(()) => Ok(Grown { arena: id, range }),
             Err(AllocError) => Err(GrowFault::NoMemory),
         }
     }
 
-    /// Moves the further roots of the arena with this number behind others. Of another that stands
-    /// here none is moved.
-    pub(crate) fn hand_over(&mut self, id: u32, to: &mut Vec<Root<N>>) -> Result<(), AllocError>
-        ensures moved { OnOk result (self.old.arena.id ≡ id
-            → (to.new.items ≡ to.old.items ++ self.old.roots.roots) × (self.new.roots.roots ≡ [])) }
+    /// Makes room for the end of one root more, opens the root, and adds its deed.
+    fn open_root(&mut self, range: Range) -> Result<(), AllocError>
+        requires can { CanGrow self.old range }
+        ensures grown { OnOk result (PartGrew self.old range self.new) }
+        ensures unchanged { OnErr result (self.new ≡ self.old) }
+    {
+        let count = self.beside + self.roots.roots().len();
+        self.room.make(count + 1)?;
+        self.arena.grow(range, &mut self.roots)
+    }
+
+    /// Moves the further roots of the arena with this number behind those that stand beside the
+    /// lock, and gives the list that has room for the ranges of all. It takes no memory. None, with
+    /// nothing done, where another stands here, or there are more beside the lock than it has room
+    /// for.
+    pub(crate) fn hand_over(
+        &mut self,
+        alloc: Global,
+        id: u32,
+        to: &mut Vec<Root<N>>,
+    ) -> Option<Vec<Range>>
+        ensures exactly { IsSome result
+            ↔ ((self.old.arena.id ≡ id) × (vec_len to.old ≤ self.old.beside)) }
+        ensures moved { OnSome result ((to.new.items ≡ to.old.items ++ self.old.roots.roots)
+            × (self.new.roots.roots ≡ [])) }
         ensures more { HasRootsMore id to.old.items to.new.items }
+        ensures room { IfSome result (λ ranges. (ranges.items ≡ [])
+            × (vec_len to.new ≤ vec_capacity ranges)) }
         ensures arena { self.new.arena ≡ self.old.arena }
-        ensures unchanged { OnErr result ((to.new.items ≡ to.old.items) × (self.new ≡ self.old)) }
+        ensures unchanged { IfNone result ((to.new.items ≡ to.old.items) × (self.new ≡ self.old)) }
     {
         if self.arena.id() != id {
-            return Ok(());
+            return None;
+        }
+        if to.len() > self.beside {
+            return None;
         }
         // For its clause: which numbers the roots have.
         let _ = self.roots.left();
-        self.roots.hand_over(to)
+        let ranges = self.room.give(alloc, to);
+        match self.roots.hand_over(to) {
+            Ok(()) => self.beside = 0,
+            Err(AllocError) => unreachable!(),
+        }
+        Some(ranges)
     }
 
     /// Takes out the lowest owned span that is wholly free.
@@ -315,16 +348,21 @@ impl<N: Name> ArenaPart<N> {
             source,
             arena,
             roots,
+            beside,
+            room,
         } = self;
         match arena.close() {
             Ok(()) => {
                 roots.end();
+                room.end();
                 Ok(())
             }
             Err(arena) => Err(ArenaPart {
                 source,
                 arena,
                 roots,
+                beside,
+                room,
             }),
         }
     }

@@ -11,7 +11,8 @@
 //! Each span that an arena owns is a root of its own, numbered by its arena and its place among the
 //! arena's spans. Those of the setup are opened before the arena comes under its lock, and their
 //! roots are handed out; further ones are opened under the lock, and their roots stay there until
-//! they are asked for (`LockedParts::{grow, hand_over}`).
+//! they are asked for (`LockedParts::{grow, hand_over}`). There is room for the end of all by then
+//! (end_rooms): it is made under the same lock, before a root is opened.
 //!
 //! `Running` (running) is `arena_tree::Parts` over them for one CPU, which has two magazines for
 //! each quantum cache (own_caches, own_rounds): each event of a shared part takes its lock, and no
@@ -33,6 +34,7 @@
 
 mod arena_parts;
 mod depot_walks;
+mod end_rooms;
 mod ending;
 mod gates;
 mod kind_depots;

@@ -2,9 +2,10 @@
 ghost use Rattle.std.specs.Prelude.{◌≡◌, ◌+◌, ◌-◌, ◌*◌, ◌<◌, ◌≤◌, IfOk, OnOk, length};
 ghost use Rattle.arena_tree.specs.Settings.{span_count};
 ghost use Rattle.arena_tree.specs.declared.limits.TheConstants.{MOST_SPANS};
-ghost use Rattle.locked_parts.specs.News.{IsMadeAsSet, numbered_from, ranges_owned};
+ghost use Rattle.locked_parts.specs.News.{IsMadeAsSet, locked_of, numbered_from, ranges_owned};
 
 use crate::arena_parts::ArenaPart;
+use crate::end_rooms::EndRoom;
 use crate::kinds::cache_count;
 use crate::new_caches::{NewCache, add_caches, end_caches, lock_caches};
 use crate::owned_spans::{end_whole, own_each};
@@ -42,7 +43,8 @@ impl<N: Name> Model for NewArena<N> {
 
     ghost invariant = { λ a. AreWhole a.part.arena a.roots.items
         × (a.part.roots.roots ≡ [])
-        × (vec_len a.caches ≤ vec_capacity a.locked) × (vec_len a.locked ≡ 0) };
+        × (vec_len a.caches ≤ vec_capacity a.locked) × (vec_len a.locked ≡ 0)
+        × (a.part.beside ≡ vec_len a.roots) };
 }
 
 impl<N: Name> NewArena<N> {
@@ -81,8 +83,10 @@ impl<N: Name> NewArena<N> {
         } = *tree.arena(id);
         let mut arena = Arena::new(alloc, id, quantum, policy);
         let mut roots = Vec::new(alloc);
-        let Ok(()) = own_each(id, spans, &mut opener, &mut arena, &mut roots) else {
+        let mut room = EndRoom::none(alloc);
+        let Ok(()) = own_each(id, spans, &mut opener, &mut arena, &mut roots, &mut room) else {
             end_whole(arena, roots);
+            room.end();
             locked.destroy_empty();
             caches.destroy_empty();
             return Err(AllocError);
@@ -92,6 +96,8 @@ impl<N: Name> NewArena<N> {
             source,
             arena,
             roots: Roots::new(alloc, opener),
+            beside: roots.len(),
+            room,
         };
         Ok(NewArena {
             part,
@@ -103,7 +109,8 @@ impl<N: Name> NewArena<N> {
 
     /// Puts it and its caches under their locks, and hands out its roots.
     pub fn lock(self) -> (LockedArena<N>, Vec<Root<N>>)
-        ensures { result.1.items ≡ self.roots }
+        ensures arena { result.0 ≡ locked_of self }
+        ensures roots { result.1.items ≡ self.roots }
     {
         let NewArena {
             part,
@@ -131,8 +138,11 @@ impl<N: Name> NewArena<N> {
             source: _,
             arena,
             roots: further,
+            beside: _,
+            room,
         } = part;
         further.end();
+        room.end();
         locked.destroy_empty();
         end_caches(caches);
         end_whole(arena, roots);

@@ -127,8 +127,10 @@ pub(crate) fn end_caches<N: Name>(mut caches: Vec<NewCache<N>>) {
 }
 
 /// Puts them under their locks, in their order.
+#[tactic(auto, using(crate::proofs::Begins::first_kind))]
 pub(crate) fn lock_caches<N: Name>(mut caches: Vec<NewCache<N>>, locked: &mut Vec<LockedCache<N>>)
     requires { vec_len locked.old + vec_len caches ≤ vec_capacity locked.old }
+    ensures { locked.new.items ≡ locked.old.items ++ map (λ c. c.kind) caches.items }
 {
     while !caches.is_empty() {
         locked.push_reserved(caches.remove(0).lock());

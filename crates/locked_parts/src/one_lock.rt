@@ -85,7 +85,7 @@ fn events_of<N: Name, R: Abort + Wait + AllocGlobal>(rt: &R, ground: Ground, set
 
 /// Closes the arena's roots, those that it was made with and those that were opened since.
 fn close_all<N: Name, R: Abort + Wait>(rt: &R, parts: &LockedParts<N>, mut roots: Vec<Root<N>>) {
-    let Ok(()) = parts.hand_over(rt, 0, &mut roots) else {
+    let Some(_) = parts.hand_over(rt, 0, &mut roots) else {
         stuck(rt, roots)
     };
     while !roots.is_empty() {
@@ -136,7 +136,7 @@ fn of_arena<N: Name, R: Abort + Wait>(rt: &R, parts: &LockedParts<N>)
         held => stuck(rt, held),
     }
     let over = Range::new(60, 8).expect(rt, "a range");
-    assert!(rt; parts.judge_growth(rt, 0, &over) == Err(GrowFault::Overlaps));
+    assert!(rt; parts.grow(rt, 0, over) == Err(GrowFault::Overlaps));
     let beside = Range::new(64, 8).expect(rt, "a range");
     assert!(rt; parts.grow(rt, 0, beside).is_ok());
 }

@@ -5,20 +5,22 @@ ghost use Rattle.arena_tree.specs.Settings.{span_count};
 ghost use Rattle.tag_arena.specs.Outcomes.{KeepsSetup};
 ghost use Rattle.locked_parts.specs.News.{AreWhole, numbered_from, ranges_owned};
 
+use crate::end_rooms::EndRoom;
 use arena_tree::OwnedSpan;
 use deed_core::{Deed, Range};
 use deed_table::{Name, Opener, Root, SeatDeed, close};
 use std::alloc::AllocError;
 use tag_arena::{Arena, SpanFault};
 
-/// Opens each of these spans that the arena with this number owns as a root of its own, and adds
-/// its deed to the arena. Where it fails, those opened so far stand.
+/// Opens each of these spans that the arena with this number owns as a root of its own, adds its
+/// deed to the arena, and makes room for the end of all. Where it fails, those opened so far stand.
 pub(crate) fn own_each<N: Name>(
     id: u32,
     spans: &[OwnedSpan],
     opener: &mut Opener<N>,
     arena: &mut Arena<SeatDeed<N>>,
     roots: &mut Vec<Root<N>>,
+    room: &mut EndRoom<N>,
 ) -> Result<(), AllocError>
     requires none { AreWhole arena.old roots.old.items × (roots.old.items ≡ []) }
     requires few { span_count id spans.now ≤ opener.old.left }
@@ -30,12 +32,14 @@ pub(crate) fn own_each<N: Name>(
         (opener.new.first ≡ opener.old.first + length roots.new.items) }
     ensures left { OnOk result
         (opener.new.left + length roots.new.items ≡ opener.old.left) }
+    ensures room { OnOk result (length roots.new.items ≤ room.new) }
 {
     for span in spans {
         if span.arena == id {
             own(span.range, opener, arena, roots)?;
         }
     }
+    room.make(roots.len())?;
     Ok(())
 }
 

@@ -1,6 +1,6 @@
 //! The parts of a system, each under its lock.
 ghost use Rattle.std.specs.Prelude.{◌≡◌, ◌+◌, ◌<◌, IfErr, IfSome, OnErr, OnOk, Err, length, true};
-ghost use Rattle.std.specs.Prelude.{IfOk, IfNone};
+ghost use Rattle.std.specs.Prelude.{IfOk, IfNone, [], ◌≤◌, vec_len, vec_capacity};
 ghost use Rattle.arena_tree.specs.Chains.{quantum_in};
 ghost use Rattle.arena_tree.specs.Trees.{nodes_of};
 ghost use Rattle.locked_parts.specs.Kinds.{count_of_caches, caches_before, AreCachesBefore};
@@ -18,7 +18,7 @@ use arena_tree::{GrowFault, MOST_ARENAS, Tree};
 use deed_core::Range;
 use deed_table::{Name, Root, SeatDeed};
 use slab_layer::SlabCache;
-use std::alloc::{AllocError, Global};
+use std::alloc::Global;
 use std::marker::Model;
 use std::sync::{Mutex, Wait};
 
@@ -150,23 +150,11 @@ impl<N: Name> LockedParts<N> {
         resize_each(&mut depots, &self.tree, arena, size)
     }
 
-    /// Whether the arena with this number can have a further root of this range, were there memory
-    /// for it, or the first reason why not; of an arena that is ended nothing stands against it. It
-    /// takes the arena's lock, so another thread may change that before the next call.
-    pub fn judge_growth<R: Wait>(&self, rt: &R, arena: u32, range: &Range) -> Result<(), GrowFault>
-        ensures { AnswersGrow self.now.arenas arena result }
-    {
-        match self.root_arena(arena)? {
-            Some(locked) => locked.part.lock(rt).judge_growth(arena, range),
-            None => Ok(()),
-        }
-    }
-
     /// Opens a further root of this range for the arena with this number, and adds its deed, under
     /// the arena's lock and no other: `Overlaps` where the range has a unit in common with a span
     /// of the arena, `NotAligned` where it isn't in whole quanta, `TooMany` where the arena has no
-    /// root number left, `NoMemory` else, in this order. A root that is opened is always added. Its
-    /// number is the least of the arena's numbers that wasn't used.
+    /// root number left, `NoMemory` else, in this order. A root that is opened is always added, and
+    /// there is room for its end. Its number is the least of the arena's numbers that wasn't used.
     pub fn grow<R: Wait>(&self, rt: &R, arena: u32, range: Range) -> Result<Grown, GrowFault>
         ensures answers { AnswersGrow self.now.arenas arena result }
         ensures grown { IfOk result (IsGrowthBy arena range) }
@@ -191,21 +179,25 @@ impl<N: Name> LockedParts<N> {
         Ok(self.arenas.get(arena as usize))
     }
 
-    /// Moves the further roots of the arena with this number behind others, in order of opening.
-    /// Where there is room for them, it takes no memory; out of memory, they stay.
+    /// Moves the further roots of the arena with this number behind those that it was made with, in
+    /// order of opening, and gives a list that has room for the ranges of all. It takes no memory.
+    /// None, with nothing done, where the arena is ended, or more roots are given than it was made
+    /// with.
     pub fn hand_over<R: Wait>(
         &self,
         rt: &R,
         arena: u32,
         to: &mut Vec<Root<N>>,
-    ) -> Result<(), AllocError>
+    ) -> Option<Vec<Range>>
         ensures more { HasRootsMore arena to.old.items to.new.items }
-        ensures unchanged { OnErr result (to.new.items ≡ to.old.items) }
+        ensures room { IfSome result (λ ranges. (ranges.items ≡ [])
+            × (vec_len to.new ≤ vec_capacity ranges)) }
+        ensures unchanged { IfNone result (to.new.items ≡ to.old.items) }
     {
         let Some(locked) = self.arenas.get(arena as usize) else {
-            return Ok(());
+            return None;
         };
-        locked.part.lock(rt).hand_over(arena, to)
+        locked.part.lock(rt).hand_over(self.alloc, arena, to)
     }
 
     /// Takes the lowest owned span that is wholly free out of the arena with this number.

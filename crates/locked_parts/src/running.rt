@@ -80,7 +80,8 @@ impl<N: Name, R: Wait, G: Gate> Parts<Segment<SeatDeed<N>>> for Running<'_, N, R
         × AsksGate G.may_stop G.passed s.gate.now (step_named e) (is_stopped e a) s.steps t.steps
         × (is_stopped e a ≡ false → CameBy s.parts.now s.caches.now.items
         (step_after s.steps (step_named e)) e a t.said)
-        × OwnStep s.parts.now.arenas e a s.caches.now.items t.caches.now.items };
+        × OwnStep s.parts.now.arenas e a s.caches.now.items t.caches.now.items
+        × (t.parts.now ≡ s.parts.now) };
 
     ghost tree = { λ s. nodes_of s.parts.now.arenas };
 

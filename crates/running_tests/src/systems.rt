@@ -132,12 +132,21 @@ fn retire<N: Name, R: Abort + Wait>(rt: &R, system: &System<N>, cpu: Cpu<N>) {
     }
 }
 
-/// Shuts the system, which has these ranges.
+/// Shuts the system, which has these ranges, by arena.
 fn shut<N: Name, R: Abort + Wait>(rt: &R, system: System<N>, wanted: &[(u64, u64)]) {
-    match system.shut(rt) {
-        Ok(ranges) => have(rt, &ranges, wanted),
-        Err(fault) => stuck(rt, fault),
+    have_each(rt, &shut_into(rt, system), wanted);
+}
+
+/// Of the arenas together the ranges are these.
+fn have_each(rt: &impl Abort, arenas: &[Vec<Range>], wanted: &[(u64, u64)]) {
+    let mut left = wanted;
+    for ranges in arenas {
+        assert!(rt; ranges.len() <= left.len());
+        let (first, rest) = left.split_at(ranges.len());
+        have(rt, ranges, first);
+        left = rest;
     }
+    assert!(rt; left.is_empty());
 }
 
 /// Reaps the arena with enough looks, by this CPU: so many units of slabs.
@@ -151,8 +160,8 @@ fn reaps<N: Name, R: Abort + Wait>(
     assert!(rt; system.reap(rt, cpu, arena, 1024).units == units);
 }
 
-/// Shuts the system, and gives its ranges.
-fn shut_into<N: Name, R: Abort + Wait>(rt: &R, system: System<N>) -> Vec<Range> {
+/// Shuts the system, and gives its ranges by arena.
+fn shut_into<N: Name, R: Abort + Wait>(rt: &R, system: System<N>) -> Vec<Vec<Range>> {
     match system.shut(rt) {
         Ok(ranges) => ranges,
         Err(halted) => stuck(rt, halted),

@@ -1,13 +1,10 @@
 -- From what was told and read to how a server ran.
-use Rattle.std.proofs.Common.{IfOk, IfErr, ◌≡◌, ◌∙◌, ◌++◌, ◌-◌, ◌<◌, ℕ, All, length, Option, Some, None, List, [], ◌∷◌, Result, Ok, Err, Bool, true, false, refl, sym, ap, subst, inl, inr, append_assoc, arith}
+use Rattle.std.proofs.Common.{IfOk, IfErr, ◌≡◌, ◌∙◌, ◌++◌, ◌-◌, ◌<◌, ℕ, length, Option, Some, None, List, [], ◌∷◌, Result, Ok, Err, Bool, true, false, refl, sym, ap, subst, inl, inr, append_assoc, arith}
 use Rattle.std.proofs.lemmas.List.{append-nil}
-use Rattle.std.proofs.lemmas.List.Elements.{All-append}
-use Rattle.std.proofs.lemmas.List.Sorted.{IsPermutation-append, IsPermutation-refl, IsPermutation-trans}
-use Rattle.std.specs.List.Sorted.{IsPermutation}
+use Rattle.std.specs.Global.{Vec}
 use Rattle.std.specs.Io.KnownBytes.{Appends, Consumes}
 use Rattle.std.proofs.KnownBytes.{Appends-trans, Consumes-nil}
 use Rattle.deed_core.specs.Extent.{Extent}
-use Rattle.deed_core.specs.Holding.{Holding}
 use Rattle.arena_tree.specs.declared.trees.TreeArena.{TreeArena}
 use Rattle.lease_proto.specs.Frames.{Frame, frames_in, frames_of}
 use Rattle.lease_proto.specs.Serving.{ServesLines}
@@ -18,7 +15,8 @@ use Rattle.lease_server.specs.Watching.{Streams}
 use Rattle.lease_server.specs.declared.faults.ServeFault.TheVariants as serve
 use Rattle.lease_server.specs.declared.intakes.TheConstants.{MOST_READS}
 use Rattle.lease_server.proofs.LawProofs.{hand_tells}
-use Rattle.lease_threads.specs.Ends.{HaltedState, AreTold, AreRangesLeft, IsRestOf, KeepsRoots, owner_of}
+use Rattle.lease_threads.specs.Ends.{HaltedState, AreTold, AreRangesLeft, IsRestOf, KeepsRoots}
+use Rattle.lease_threads.proofs.Gathered.{ranges_later}
 use Rattle.lease_threads.specs.Systems.{SystemState}
 use Rattle.vmemd.specs.Operators.{may_tell, Tells}
 use Rattle.vmemd.specs.declared.running.RunFault.{RunFault}
@@ -150,37 +148,21 @@ run_closes arenas old mid new u (Err Listen) a same works p = absurd p
 run_closes arenas old mid new u (Err Memory) a same works p = absurd p
 
 -- the ranges that are left to tell are those that were left before
-left_before : (old : HaltedState) (told : Option (List Extent)) (system : SystemState) (ranges : List Extent) → KeepsRoots old told system.roots
+left_before : (old : HaltedState) (told : Option (List (Vec Extent))) (system : SystemState) (ranges : List (Vec Extent)) → KeepsRoots old told system.roots
     → system.arenas ≡ old.system.arenas → AreTold told system ranges → AreRangesLeft old ranges
-left_before old (Some told) system ranges keeps arenas is = subst (λ (r : List Extent). AreRangesLeft old r) (sym is) keeps
+left_before old (Some told) system ranges keeps arenas is = subst (λ (r : List (Vec Extent)). AreRangesLeft old r) (sym is) keeps
 left_before old None system ranges (none, roots) arenas is =
-    let more = is.each.further in
-    let of : All (λ (r : Holding). owner_of r < length old.system.arenas) more =
-    subst (λ (a : List TreeArena). All (λ (r : Holding). owner_of r < length a) more) arenas is.each.of_arenas in
-    let both = IsPermutation-append (old.system.roots ++ roots.further) system.roots more more roots.each (IsPermutation-refl more) in
-    let each : IsPermutation (old.system.roots ++ (roots.further ++ more)) is.all =
-    subst (λ (l : List Holding). IsPermutation l is.all) (append_assoc old.system.roots roots.further more)
-    (IsPermutation-trans ((old.system.roots ++ roots.further) ++ more) (system.roots ++ more) is.all both is.each.each) in
-    subst (λ (t : Option (List Extent)). AreTold t old.system ranges) (sym none) (record {
-      all = is.all;
-      each = record {
-        further = roots.further ++ more;
-        of_arenas = All-append (λ (r : Holding). owner_of r < length old.system.arenas) roots.further more roots.of_arenas of;
-        each = each;
-      };
-      in_order = is.in_order;
-      told = is.told;
-    })
+    subst (λ (t : Option (List (Vec Extent))). AreTold t old.system ranges) (sym none) (ranges_later old.system system arenas roots ranges is)
 
-pub rest_left : (old new : HaltedState) (ranges : List Extent) → IsRestOf old new → AreRangesLeft new ranges → AreRangesLeft old ranges
+pub rest_left : (old new : HaltedState) (ranges : List (Vec Extent)) → IsRestOf old new → AreRangesLeft new ranges → AreRangesLeft old ranges
 rest_left old new ranges rest left = left_before old new.told new.system ranges rest.roots rest.arenas left
 
 -- what comes of a try, by its ranges, or by what is left
-abbrev TriesFrom : {V : Type 0} → (V → List Extent) → HaltedState → Result V HaltedState → Type 0
+abbrev TriesFrom : {V : Type 0} → (V → List (Vec Extent)) → HaltedState → Result V HaltedState → Type 0
 TriesFrom items h tried = IfOk tried (λ ranges. AreRangesLeft h (items ranges)) × IfErr tried (IsRestOf h)
 
 -- however often it is tried, the ranges are in the end those that were left at first
-pub ranges_at_last : {V A : Type 0} (items : V → List Extent) (may_note : A → Bool → A → Type 0) (may_tell : A → A → Type 0)
+pub ranges_at_last : {V A : Type 0} (items : V → List (Vec Extent)) (may_note : A → Bool → A → Type 0) (may_tell : A → A → Type 0)
     (tries : List (Result V HaltedState)) (h : HaltedState) (tried : Result V HaltedState) (old new : A) (done : V)
     → IfOk tried (λ ranges. AreRangesLeft h (items ranges)) × IfErr tried (IsRestOf h)
     → Retries (λ (rest : HaltedState) (ended : Result V HaltedState). IfOk ended (λ ranges. AreRangesLeft rest (items ranges)) × IfErr ended (IsRestOf rest)) may_note may_tell tried old tries done new

@@ -1,6 +1,7 @@
 -- What a server writes, and how it ends.
 use Rattle.std.specs.Prelude.{◌≡◌, ◌⊎◌, ℕ, Bool, List, [], ◌∷◌, ◌++◌, Option, Result, Ok, Err}
 use Rattle.std.specs.Prelude.{codes, true, false}
+use Rattle.std.specs.Global.{Vec}
 use Rattle.std.specs.Net.Text.{socket_text}
 use Rattle.std.specs.declared.net.socket_addr.SocketAddr.{SocketAddr}
 use Rattle.std.specs.Io.KnownBytes.{Appends, Consumes, IsAtEnd}
@@ -112,8 +113,8 @@ ServesToItsEnd arenas old new (Err Listen) = new ≡ old
 ServesToItsEnd arenas old new (Err Memory) = new ≡ old
 
 -- the ranges of all roots that the setup's arenas began with, and of those that were opened later,
--- each once, by arena and then in order of adding
-abbrev pub AreAllRanges : SetupState → List Extent → Type 0
+-- a list for each arena, which has each once, in order of adding
+abbrev pub AreAllRanges : SetupState → List (Vec Extent) → Type 0
 AreAllRanges setup ranges = (made : SystemState) × IsSystemOf setup made × AreRangesOf made ranges
 
 -- it ended before there was a system

@@ -101,7 +101,7 @@ impl<N: Name, R: Wait + Clock> Rest for SystemRest<'_, N, R> {
     ghost use Rattle.std.specs.Prelude.{IfOk, IfErr};
     ghost use Rattle.lease_threads.specs.Ends.{AreRangesLeft, IsRestOf};
 
-    type Done = Vec<Range>;
+    type Done = Vec<Vec<Range>>;
 
     ghost may_end = { λ old ended. IfOk ended (λ ranges. AreRangesLeft old ranges.items)
         × IfErr ended (IsRestOf old) };
@@ -110,7 +110,7 @@ impl<N: Name, R: Wait + Clock> Rest for SystemRest<'_, N, R> {
         pause(self.rt);
     }
 
-    fn again(self) -> Result<Vec<Range>, Self> {
+    fn again(self) -> Result<Vec<Vec<Range>>, Self> {
         let SystemRest { rt, halted } = self;
         match halted.again(rt) {
             Ok(ranges) => Ok(ranges),
@@ -144,12 +144,12 @@ pub(crate) fn retire<N: Name, R: Wait + Clock + Eprint>(
     put_back(rt, rest.again(), &mut Stuck { rt, signals });
 }
 
-/// Ends the system, for as long as it takes, and gives the ranges of its roots.
+/// Ends the system, for as long as it takes, and gives the ranges of its roots by arena.
 pub(crate) fn shut<N: Name, R: Wait + Clock, A: Alarm>(
     rt: &R,
     system: System<N>,
     alarm: &mut A,
-) -> Vec<Range>
+) -> Vec<Vec<Range>>
     ensures { AreRangesOf system result.items }
 {
     put_back(rt, begin_shut(rt, system), alarm)
@@ -159,7 +159,7 @@ pub(crate) fn shut<N: Name, R: Wait + Clock, A: Alarm>(
 fn begin_shut<N: Name, R: Wait>(
     rt: &R,
     system: System<N>,
-) -> Result<Vec<Range>, SystemRest<'_, N, R>>
+) -> Result<Vec<Vec<Range>>, SystemRest<'_, N, R>>
     ensures ranges { IfOk result (λ ranges. AreRangesLeft (begun system) ranges.items) }
     ensures rest { IfErr result (IsRestOf (begun system)) }
 {

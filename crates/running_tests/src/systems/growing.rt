@@ -166,9 +166,9 @@ fn beside_four<N: Name + Send + Sync, R: Abort + Wait + Threads + AllocGlobal + 
     );
     let sums = system.sums(rt, 0).expect(rt, "an arena");
     assert!(rt; sums.free == 4 + u128::from(GROWS) && sums.allocated == 0 && sums.leased == 0);
-    let ranges = shut_into(rt, system);
-    assert!(rt; ranges.len() == 1 + GROWS as usize);
-    for (index, range) in ranges.iter().enumerate() {
+    let arenas = shut_into(rt, system);
+    assert!(rt; arenas.len() == 1 && arenas[0].len() == 1 + GROWS as usize);
+    for (index, range) in arenas[0].iter().enumerate() {
         let wanted = if index == 0 {
             (0, 4)
         } else {
@@ -262,9 +262,9 @@ fn filled<N: Name, R: Abort + Wait + AllocGlobal>(rt: &R, ground: Ground, setup:
     assert!(rt; refused(rt, &system, 0, 0, 2) == GrowFault::TooMany);
     assert!(rt; refused(rt, &system, 0, 0, 1) == GrowFault::NotAligned);
     assert!(rt; refused(rt, &system, 0, 1, 2) == GrowFault::Overlaps);
-    let ranges = shut_into(rt, system);
-    assert!(rt; ranges.len() as u64 == MOST);
-    for (place, range) in ranges.iter().enumerate() {
+    let arenas = shut_into(rt, system);
+    assert!(rt; arenas.len() == 1 && arenas[0].len() as u64 == MOST);
+    for (place, range) in arenas[0].iter().enumerate() {
         assert!(rt; range.base() == pair_at(place as u64) && range.len() == 2);
     }
 }

@@ -2,7 +2,8 @@
 ghost use Rattle.std.specs.Prelude.{◌≡◌};
 
 use super::{
-    ask, ask_all, ask_each, child, cpu, grow, have, made, reaps, retire, root, shut, span, stuck,
+    ask, ask_all, ask_each, child, cpu, grow, have, have_each, made, reaps, retire, root, shut,
+    span, stuck,
 };
 use arena_tree::Setup;
 use deed_table::{Ground, Name};
@@ -180,8 +181,8 @@ fn second_reaped<N: Name, R: Abort + Wait + AllocGlobal>(rt: &R, ground: Ground,
     shut(rt, system, &[(0, 64), (64, 64)]);
 }
 
-/// All units come back, those of arenas that import and of slabs too: each range of a root once, by
-/// arena and then in order of adding, whether the setup added it or a grow.
+/// All units come back, those of arenas that import and of slabs too: of each arena the range of
+/// each root once, in order of adding, whether the setup added it or a grow.
 #[test]
 fn shut_whole(rt: HostRuntime) -> Result<(), Fail> {
     let mut setup = Setup::new(rt.alloc());
@@ -223,10 +224,11 @@ fn whole<N: Name, R: Abort + Wait + AllocGlobal>(rt: &R, ground: Ground, setup: 
     let of_a = [(0, 64), (256, 64), (128, 96), (64, 64)];
     let of_d = [(64, 64), (512, 64), (448, 64), (1024, 96)];
     match system.shut(rt) {
-        Ok(ranges) => {
-            assert!(rt; ranges.len() == 8);
-            have(rt, &ranges[..4], &of_a);
-            have(rt, &ranges[4..], &of_d);
+        Ok(arenas) => {
+            assert!(rt; arenas.len() == 3);
+            have(rt, &arenas[0], &of_a);
+            assert!(rt; arenas[1].is_empty());
+            have(rt, &arenas[2], &of_d);
         }
         Err(halted) => stuck(rt, halted),
     }
@@ -267,7 +269,7 @@ fn goes_on<N: Name, R: Abort + Wait + AllocGlobal>(rt: &R, ground: Ground, setup
         Err(cpu) => stuck(rt, cpu),
     }
     match halted.again(rt) {
-        Ok(ranges) => have(rt, &ranges, &[(0, 8), (8, 8), (64, 64), (0, 64)]),
+        Ok(arenas) => have_each(rt, &arenas, &[(0, 8), (8, 8), (64, 64), (0, 64)]),
         Err(fault) => stuck(rt, fault),
     }
 }

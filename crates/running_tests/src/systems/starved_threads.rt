@@ -199,16 +199,20 @@ fn converse<N: Name, R: Abort + Wait + AllocGlobal>(
     grow(rt, &system, 2, 0, 64);
     retire(rt, &system, one);
     retire(rt, &system, two);
-    let of_s = [(128, 64), (512, 64), (192, 64), (0, 64)];
     match system.shut(rt) {
-        Ok(ranges) => {
-            assert!(rt; ranges.len() == 7);
-            have(rt, &ranges[..3], &[(0, 8), (192, 64), (8, 64)]);
-            have(rt, &ranges[3..], &of_s);
-        }
+        Ok(arenas) => have_four(rt, &arenas),
         Err(halted) => stuck(rt, halted),
     }
     None
+}
+
+/// The ranges of each arena.
+fn have_four(rt: &impl Abort, arenas: &[Vec<Range>]) {
+    assert!(rt; arenas.len() == 4);
+    have(rt, &arenas[0], &[(0, 8), (192, 64)]);
+    have(rt, &arenas[1], &[(8, 64)]);
+    have(rt, &arenas[2], &[(128, 64), (512, 64), (192, 64), (0, 64)]);
+    assert!(rt; arenas[3].is_empty());
 }
 
 /// Adds a range to the arena. Where memory is refused nothing is added, and what overlaps is
@@ -291,7 +295,9 @@ fn grown_and_ended<N: Name, R: Abort + Wait + AllocGlobal>(rt: &R, ground: Groun
         }
     }
     match system.shut(rt) {
-        Ok(ranges) => assert!(rt; ranges.len() as u64 == grown.saturating_add(1)),
+        Ok(arenas) => {
+            assert!(rt; arenas.len() == 1 && arenas[0].len() as u64 == grown.saturating_add(1));
+        }
         Err(halted) => stuck(rt, halted),
     }
 }

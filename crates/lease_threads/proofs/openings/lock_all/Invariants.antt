@@ -1,11 +1,13 @@
-use Rattle.std.proofs.Common.{◌≡◌, ◌+◌, ◌≤◌, ◌++◌, vec_len, vec_capacity, length}
+use Rattle.std.proofs.Common.{◌≡◌, ◌+◌, ◌≤◌, ◌++◌, map, vec_len, vec_capacity}
 use Rattle.lease_threads.specs.Openings.{roots_of}
 use Rattle.lease_threads.proofs.openings.lock_all.Given as goal
 
 abbrev pub invariant-loop-made : goal.invariant-loop-made
 invariant-loop-made g l = (vec_len l.arenas + vec_len l.made ≤ vec_capacity l.arenas)
-    × (vec_len l.roots + length (roots_of l.made.items) ≤ vec_capacity l.roots)
-    × (l.roots.items ++ roots_of l.made.items ≡ l.fn.roots.items ++ roots_of l.fn.made.items)
+    × (vec_len l.roots + vec_len l.made ≤ vec_capacity l.roots)
+    × (vec_len l.roots + vec_len l.made ≡ vec_len l.fn.roots + vec_len l.fn.made)
+    × (map (λ r. r.items) l.roots.items ++ roots_of l.made.items
+    ≡ map (λ r. r.items) l.fn.roots.items ++ roots_of l.fn.made.items)
 
 abbrev pub decreases-loop-made : goal.decreases-loop-made
 decreases-loop-made g l = vec_len l.made

@@ -1,11 +1,10 @@
 use Rattle.std.proofs.Common.{arith, ◌≡◌, ◌≤◌, ◌*◌, ◌∙◌, sym, length, subst, List}
-use Rattle.deed_core.specs.Holding.{Holding}
 use Rattle.arena_tree.specs.Settings.{span_count}
 use Rattle.arena_tree.specs.declared.limits.TheConstants.{MOST_SPANS}
 use Rattle.arena_tree.specs.declared.setups.OwnedSpan.{OwnedSpan}
 use Rattle.arena_tree.specs.declared.trees.TreeArena.{TreeArena}
 use Rattle.locked_parts.specs.News.{IsMadeAsSet, numbered_from, ranges_owned}
-use Rattle.lease_threads.proofs.Roots.{opened_more, made_more, few_roots}
+use Rattle.lease_threads.proofs.Roots.{opened_more, made_more}
 use Rattle.lease_threads.proofs.openings.open_each.Goals as goal
 
 pub loop-id-preserved : goal.loop-id-preserved
@@ -20,6 +19,3 @@ loop-id-preserved g c = (
 
 pub open-requires-clause-few : goal.open-requires-clause-few
 open-requires-clause-few g c = subst (λ (s : List OwnedSpan). span_count c.loop-id.id s ≤ MOST_SPANS) (sym c.spans.ensures.value) (c.spans.ensures.setup.few c.loop-id.id)
-
-pub returns-clause-few : goal.returns-clause-few
-returns-clause-few g c = subst (λ (l : List Holding). length l ≤ length c.args.setup.now.spans) (sym c.loop-id.invariant.5) (few_roots c.args.setup.now.spans c.loop-id.id)

@@ -11,4 +11,5 @@ invariant_of-self g c =
     record {
       imports = imported_own c.self.inside.source c.self.inside.arena c.add_span_and_carve-carved.new.self c.args.span _ c.add_span_and_carve-carved.result c.add_span_and_carve-carved.ensures.carved c.add_span_and_carve-carved.ensures.imported from c.self.invariant.imports;
       numbers = numbers_kept _ c.add_span_and_carve-carved.new.self c.add_span_and_carve-carved.ensures.kept.id (omega (arith, same)) c.self.invariant.numbers;
+      enough = c.self.invariant.enough;
     }

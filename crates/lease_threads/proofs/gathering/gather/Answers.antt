@@ -1,0 +1,48 @@
+use Rattle.std.proofs.Common.{◌≡◌, ◌+◌, ◌<◌, ◌∙◌, ℕ, Some, None, Ok, Err, ap, sym, subst, arith, length, OnSome, IfSome}
+use Rattle.std.specs.Prelude.{Option, Result, ok_or}
+use Rattle.std.specs.Global.{Vec}
+use Rattle.deed_core.specs.Extent.{Extent}
+use Rattle.lease_threads.specs.Ends.{AreInTurn, TellsArena}
+use Rattle.lease_threads.specs.Systems.{SystemState}
+use Rattle.lease_threads.proofs.Gathered.{roots_later, told_later, told_more}
+use Rattle.lease_threads.proofs.gathering.gather.Goals as goal
+
+-- what was answered, where it was told
+if_told : {E A : Type 0} (told : Option A) (e : E) (t : A) (P : A → Type 0) → ok_or told e ≡ Ok t → IfSome told P → P t
+if_told None e t P is holds = absurd (cc)
+if_told (Some u) e t P is holds = let same : u ≡ t = cc in subst P same holds
+
+on_told : {E A : Type 0} (told : Option A) (e : E) (t : A) (P : Type 0) → ok_or told e ≡ Ok t → OnSome told P → P
+on_told None e t P is holds = absurd (cc)
+on_told (Some u) e t P is holds = holds
+
+pub returns-in_err-ranges-clause-roots : goal.returns-in_err-ranges-clause-roots
+returns-in_err-ranges-clause-roots g c =
+    roots_later c.args.system.now c.loop-id.system c.loop-id.invariant.arenas c.loop-id.invariant.roots c.gather_at.new.system.roots c.gather_at.ensures.roots
+
+pub loop-id-preserved : goal.loop-id-preserved
+loop-id-preserved g c =
+    let before = c.args.system.now in
+    let now = c.loop-id.system in
+    let ranges = c.in_ok-ranges.ranges in
+    let is = sym c.ok_or.ensures.value ∙ c.in_ok-ranges.was in
+    let count = ap length c.loop-id.invariant.arenas in
+    let tree = ap length c.tree.ensures in
+    let view = ap (λ (s : SystemState). length s.arenas) c.system.view_is in
+    let within : c.loop-id.id < length now.roots = omega (arith, c.loop-id-test.true, c.len-count.ensures.value, tree, view, count, c.loop-id.invariant.roots.for_each.here, c.loop-id.invariant.roots.for_each.roots) in
+    record {
+      arenas = c.gather_at.ensures.arenas ∙ c.loop-id.invariant.arenas;
+      roots = roots_later before now c.loop-id.invariant.arenas c.loop-id.invariant.roots c.gather_at.new.system.roots c.gather_at.ensures.roots;
+      told = told_more before c.loop-id.told.items c.push_reserved.new.self.items ranges c.loop-id.id (sym c.loop-id.told.ok.0 ∙ c.loop-id.invariant.len) c.push_reserved.ensures.items c.loop-id.invariant.told
+          (told_later before now c.loop-id.invariant.arenas c.loop-id.invariant.roots c.loop-id.id ranges.items within (if_told c.gather_at.result _ ranges (λ (t : Vec Extent). TellsArena now c.loop-id.id t.items) is c.gather_at.ensures.told));
+      len = omega (arith, c.loop-id.invariant.len, c.push_reserved.ensures.len);
+      room = omega (arith, c.loop-id.invariant.room, c.push_reserved.ensures.capacity);
+      turn = on_told c.gather_at.result _ ranges (AreInTurn c.loop-id.id now.roots → AreInTurn (c.loop-id.id + 1) c.gather_at.new.system.roots) is c.gather_at.ensures.turn c.loop-id.invariant.turn;
+    }
+
+pub returns-clause-turn : goal.returns-clause-turn
+returns-clause-turn g c =
+    let count = ap length c.loop-id.invariant.arenas in
+    let tree = ap length c.tree.ensures in
+    let view = ap (λ (s : SystemState). length s.arenas) c.system.view_is in
+    λ k r at within. c.loop-id.invariant.turn k r at (omega (arith, within, c.loop-id-test.false, c.len-count.ensures.value, tree, view, count))
