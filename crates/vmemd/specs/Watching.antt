@@ -1,17 +1,20 @@
 -- What is seen of a running system.
-use Rattle.std.specs.Prelude.{◌≡◌, ◌+◌, ◌-◌, ◌^◌, ℕ, List, [], ◌∷◌, min, Option, Some, None}
-use Rattle.std.specs.Prelude.{length, option_map, option_and_then, slice_get, fold, zip, nat_eq, if◌then◌else◌}
+use Rattle.std.specs.Prelude.{◌≡◌, ◌+◌, ◌-◌, ◌^◌, ◌++◌, ℕ, zero, suc, List, [], ◌∷◌, min, Option, Some, None}
+use Rattle.std.specs.Prelude.{length, option_map, option_and_then, option_to_list, slice_get, fold, zip, nat_eq}
+use Rattle.std.specs.Prelude.{if◌then◌else◌}
 use Rattle.std.specs.List.{flat_map}
 use Rattle.std.specs.Option.{option_eq}
 use Rattle.arena_tree.specs.declared.trees.TreeArena.{TreeArena}
 use Rattle.lease_book.specs.Account.{Account}
 use Rattle.lease_book.specs.Reports.{lease_reports}
 use Rattle.lease_book.specs.declared.reports.LeaseReport.{LeaseReport}
-use Rattle.lease_threads.specs.Sums.{OfSomeBook}
+use Rattle.lease_threads.specs.Sums.{AreBookSums, AreSumsOf, OfSomeBook}
 use Rattle.lease_threads.specs.declared.sums.SystemSums.{SystemSums}
 use Rattle.lease_watch.specs.declared.rows.LeaseRow.{LeaseRow}
 use Rattle.lease_watch.specs.declared.seen.ArenaSeen.{ArenaSeen}
+use Rattle.lease_watch.specs.declared.seen.Seen.{Seen}
 use Rattle.lease_watch.specs.declared.seen.UnitsSeen.{UnitsSeen}
+use Rattle.vmemd.specs.declared.watching.TheConstants.{NUMBERS}
 
 -- the name of the arena with this number
 abbrev pub name_at : List TreeArena → Option ℕ → Option (List ℕ)
@@ -65,6 +68,29 @@ arena_at arenas sums number =
     (λ s. arena_seen arenas a (units_of s (exported_by arenas sums number)))
     (slice_get sums number))
     (slice_get arenas number)
+
+-- the sums of the first arenas, so many, each of its own parts and of some book
+abbrev pub AreSumsOfEach : List TreeArena → (count : ℕ) → List SystemSums → Type 0
+AreSumsOfEach arenas zero sums = sums ≡ []
+AreSumsOfEach arenas (suc id) sums = (before : List SystemSums) × (one : SystemSums)
+    × AreSumsOfEach arenas id before × AreSumsOf arenas id one × (sums ≡ before ++ one ∷ [])
+
+-- the first arenas, so many, by the sums of each
+abbrev pub arenas_by : List TreeArena → List SystemSums → (count : ℕ) → List ArenaSeen
+arenas_by arenas sums zero = []
+arenas_by arenas sums (suc id) =
+    arenas_by arenas sums id ++ option_to_list (arena_at arenas sums id)
+
+-- each arena, with the units that its parts and some book have
+abbrev pub AreArenasSeen : List TreeArena → List ArenaSeen → Type 0
+AreArenasSeen arenas seen = (sums : List SystemSums) × AreSumsOfEach arenas (length arenas) sums
+    × (seen ≡ arenas_by arenas sums (length arenas))
+
+-- what may be seen of a server that has these arenas
+pub record MaySee (arenas : List TreeArena) (seen : Seen) : Type 0 where
+  pub version : seen.version ≡ NUMBERS
+  pub book : AreBookSums (record { clients = seen.clients; leases = seen.leases })
+  pub arenas : AreArenasSeen arenas seen.arenas.items
 
 -- a lease of a client, in an arena of this name
 abbrev pub row_in : ℕ → LeaseReport → Option (List ℕ) → List LeaseRow

@@ -1,17 +1,75 @@
 //! What is seen of a running system, as values.
-ghost use Rattle.std.specs.Prelude.{◌≡◌, ◌++◌, OnOk, option_map, option_and_then, slice_get};
+ghost use Rattle.std.specs.Prelude.{◌≡◌, ◌<◌, ◌++◌, [], ◌∷◌, IfOk, OnOk, length};
+ghost use Rattle.std.specs.Prelude.{option_map, option_and_then, slice_get};
 ghost use Rattle.std.specs.List.{flat_map};
+ghost use Rattle.lease_threads.specs.Sums.{AreSumsOf};
+ghost use Rattle.lease_threads.specs.declared.sums.SystemSums.{SystemSums};
 ghost use Rattle.vmemd.specs.Watching as spec;
 
 use arena_tree::TreeArena;
+use deed_table::Name;
 use lease_book::LeaseReport;
 use lease_terms::{ArenaName, ClientId};
-use lease_threads::SystemSums;
+use lease_threads::{System, SystemSums};
 use lease_watch::{ArenaSeen, LeaseRow, UnitsSeen};
-use std::alloc::AllocError;
+use std::alloc::{AllocError, Global};
+use std::sync::Wait;
+
+/// Each arena, in order of setup, with its units.
+pub(crate) fn arenas_of<N: Name, R: Wait>(
+    rt: &R,
+    alloc: Global,
+    system: &System<N>,
+) -> Result<Vec<ArenaSeen>, AllocError>
+    ensures { IfOk result (λ seen. spec.AreArenasSeen system.now.arenas seen.items) }
+{
+    let sums = sums_of(rt, alloc, system)?;
+    let tree = system.tree();
+    let mut seen = Vec::new(alloc);
+    for arena in 0..tree.len() as u32 {
+        if let Some(one) = arena_at(tree.arenas(), sums.as_slice(), arena) {
+            seen.push(one)?;
+        }
+    }
+    Ok(seen)
+}
+
+/// The sums of each arena, in order of setup, each part as it is under its own lock.
+fn sums_of<N: Name, R: Wait>(
+    rt: &R,
+    alloc: Global,
+    system: &System<N>,
+) -> Result<Vec<SystemSums>, AllocError>
+    ensures { IfOk result
+        (λ sums. spec.AreSumsOfEach system.now.arenas (length system.now.arenas) sums.items) }
+{
+    let mut sums = Vec::new(alloc);
+    for arena in 0..system.tree().len() as u32 {
+        push_sums(rt, system, arena, &mut sums)?;
+    }
+    Ok(sums)
+}
+
+/// Puts the sums of the arena with this number behind others.
+fn push_sums<N: Name, R: Wait>(
+    rt: &R,
+    system: &System<N>,
+    arena: u32,
+    sums: &mut Vec<SystemSums>,
+) -> Result<(), AllocError>
+    requires { arena < length system.now.arenas }
+    ensures { OnOk result ((one : SystemSums) × AreSumsOf system.now.arenas arena one
+        × (sums.new.items ≡ sums.old.items ++ one ∷ [])) }
+{
+    let Some(of) = system.sums(rt, arena) else {
+        unreachable!()
+    };
+    sums.push(of)?;
+    Ok(())
+}
 
 /// The arena with this number, with its units, by the sums of each arena.
-pub(crate) fn arena_at(arenas: &[TreeArena], sums: &[SystemSums], number: u32) -> Option<ArenaSeen>
+fn arena_at(arenas: &[TreeArena], sums: &[SystemSums], number: u32) -> Option<ArenaSeen>
     ensures { result ≡ spec.arena_at arenas.now sums.now number }
 {
     let arena = arenas.get(number as usize)?;

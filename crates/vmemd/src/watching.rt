@@ -8,14 +8,13 @@ ghost use Rattle.vmemd.specs.declared.watching.TheConstants.{NUMBERS};
 use crate::attending::Attended;
 use crate::hosts::Host;
 use crate::listeners::Listener;
-use crate::looking::{arena_at, push_rows};
+use crate::looking::{arenas_of, push_rows};
 use crate::running::{Console, RunFault, Site, serve_planned};
 use deed_table::Name;
 use lease_book::MOST_LEASES;
 use lease_http::{View, serve_scrapes};
 use lease_terms::ArenaName;
-use lease_threads::SystemSums;
-use lease_watch::{ArenaSeen, LeaseRow, Seen, Version, Work};
+use lease_watch::{LeaseRow, Seen, Version, Work};
 use std::alloc::{AllocError, Global};
 use std::hash::RandomState;
 use std::io::{Read, Write};
@@ -63,39 +62,15 @@ impl<N: Name, R: Wait + Clock> Watched<'_, N, R> {
             Err(_) => 0,
         }
     }
-
-    /// The sums of each arena, in order of setup, each part as it is under its own lock.
-    fn sums(&self, alloc: Global) -> Result<Vec<SystemSums>, AllocError> {
-        let mut sums = Vec::new(alloc);
-        for arena in 0..self.site.system.tree().len() as u32 {
-            if let Some(of) = self.site.system.sums(self.rt, arena) {
-                sums.push(of)?;
-            }
-        }
-        Ok(sums)
-    }
-
-    /// Each arena, with its units.
-    fn arenas(&self, alloc: Global) -> Result<Vec<ArenaSeen>, AllocError> {
-        let sums = self.sums(alloc)?;
-        let tree = self.site.system.tree();
-        let mut seen = Vec::new(alloc);
-        for arena in 0..tree.len() as u32 {
-            if let Some(one) = arena_at(tree.arenas(), sums.as_slice(), arena) {
-                seen.push(one)?;
-            }
-        }
-        Ok(seen)
-    }
 }
 
 impl<N: Name, R: Wait + Clock> View for Watched<'_, N, R> {
     ghost use Rattle.std.specs.Prelude.{⊤, is_some};
     ghost use Rattle.arena_tree.specs.Trees.{index_in};
-    ghost use Rattle.vmemd.specs.Watching.{MayCount, MayHave};
+    ghost use Rattle.vmemd.specs.Watching.{MayCount, MayHave, MaySee};
 
-    // (the parts that a look is made of say what each has; that it is made of them is tested)
-    ghost may_see = { λ _ _. ⊤ };
+    // (of counts, which are what threads make them, and of the time no clause says anything)
+    ghost may_see = { λ w seen. MaySee w.site.now.system.now.arenas seen };
 
     // (nor does a flag say what other threads make it)
     ghost may_serve = { λ _ _. ⊤ };
@@ -108,7 +83,7 @@ impl<N: Name, R: Wait + Clock> View for Watched<'_, N, R> {
 
     fn see(&self, alloc: Global) -> Result<Seen, AllocError> {
         let site = self.site;
-        let arenas = self.arenas(alloc)?;
+        let arenas = arenas_of(self.rt, alloc, site.system)?;
         let book = site.system.book_sums(self.rt);
         let done = site.door.counts.sums();
         let counts = done.words;
