@@ -6,6 +6,7 @@ ghost use Rattle.locked_parts.specs.Walks.{TicksCaches, TicksArenas, ResizesCach
 
 use crate::kinds::cache_count;
 use arena_tree::Tree;
+use std::marker::Model;
 
 /// The depots of quantum caches, by the numbers of their arenas and their own.
 pub(crate) trait Depots {
@@ -28,13 +29,32 @@ pub(crate) trait Depots {
         ensures { resizes self.old arena cache size result self.new };
 }
 
+/// That each depot of so many arenas was asked to begin an interval. Only `tick_each` makes one. A
+/// contract sees how many arenas.
+#[derive(Clone, Copy, PartialEq, Eq, Debug)]
+pub struct Interval {
+    arenas: usize,
+}
+
+impl Model for Interval {
+    ghost use Rattle.std.specs.Prelude.{ℕ};
+
+    ghost Value = { ℕ };
+
+    ghost view = { λ i. i.arenas };
+
+    ghost inverse = { λ n. record { arenas = n } };
+}
+
 /// Begins an interval in each depot of the arenas, one after another.
-pub(crate) fn tick_each<D: Depots>(depots: &mut D, tree: &Tree)
-    ensures { TicksArenas D.ticks tree.now (length tree.now) depots.old depots.new }
+pub(crate) fn tick_each<D: Depots>(depots: &mut D, tree: &Tree) -> Interval
+    ensures each { TicksArenas D.ticks tree.now (length tree.now) depots.old depots.new }
+    ensures arenas { result ≡ length tree.now }
 {
     for arena in 0..tree.len() as u32 {
         tick_caches(depots, arena, cache_count(tree, arena));
     }
+    Interval { arenas: tree.len() }
 }
 
 /// Begins an interval in the depots of the arena's first caches, so many.

@@ -1,7 +1,8 @@
 //! How parts are taken from under their locks and ended.
-ghost use Rattle.std.specs.Prelude.{◌≡◌, [], true, vec_len};
+ghost use Rattle.std.specs.Prelude.{◌≡◌, [], OnOk, vec_len};
 
 use crate::kind_depots::KindDepot;
+use crate::not_empty::{NotEmpty, end_depot, end_part, end_slabs};
 use crate::own_caches::FIRST_SIZE;
 use crate::parts::{LockedArena, LockedCache, LockedParts};
 use deed_table::Name;
@@ -9,11 +10,11 @@ use std::alloc::Global;
 use std::sync::Mutex;
 
 impl<N: Name> LockedParts<N> {
-    /// Ends the arenas that stand, the last first, up to one in which a deed lies, and says whether
-    /// all are ended. A request to one that is ended is refused.
-    pub fn end_arenas(&mut self) -> bool
+    /// Ends the arenas that stand, the last first, up to one in which a part is found that isn't
+    /// empty. A request to one that is ended is refused.
+    pub fn end_arenas(&mut self) -> Result<(), NotEmpty>
         ensures arenas { self.new.arenas ≡ self.old.arenas }
-        ensures ended { result ≡ true → self.new.standing ≡ 0 }
+        ensures ended { OnOk result (self.new.standing ≡ 0) }
     {
         end_all(self.alloc, &mut self.arenas)
     }
@@ -33,67 +34,70 @@ impl<N: Name> LockedParts<N> {
 }
 
 /// Ends arenas in which no deed lies, the last first.
-fn end_all<N: Name>(alloc: Global, arenas: &mut Vec<LockedArena<N>>) -> bool
-    ensures { result ≡ true → vec_len arenas.new ≡ 0 }
+fn end_all<N: Name>(alloc: Global, arenas: &mut Vec<LockedArena<N>>) -> Result<(), NotEmpty>
+    ensures { OnOk result (vec_len arenas.new ≡ 0) }
 {
     while let Some(locked) = arenas.pop() {
-        if let Err(locked) = end_locked(alloc, locked) {
+        if let Err((locked, found)) = end_locked(alloc, locked) {
             arenas.push_reserved(locked);
-            return false;
+            return Err(found);
         }
     }
-    true
+    Ok(())
 }
 
 /// Ends an arena in which no deed lies, with its caches.
-fn end_locked<N: Name>(alloc: Global, locked: LockedArena<N>) -> Result<(), LockedArena<N>> {
+fn end_locked<N: Name>(
+    alloc: Global,
+    locked: LockedArena<N>,
+) -> Result<(), (LockedArena<N>, NotEmpty)> {
     let LockedArena { part, mut caches } = locked;
-    if !end_caches(alloc, &mut caches) {
-        return Err(LockedArena { part, caches });
+    if let Err(found) = end_caches(alloc, &mut caches) {
+        return Err((LockedArena { part, caches }, found));
     }
-    match part.into_inner().close() {
+    match end_part(part.into_inner()) {
         Ok(()) => {
             caches.destroy_empty();
             Ok(())
         }
-        Err(part) => Err(LockedArena {
-            part: Mutex::new(part),
-            caches,
-        }),
+        Err((part, found)) => {
+            let part = Mutex::new(part);
+            Err((LockedArena { part, caches }, found))
+        }
     }
 }
 
 /// Ends quantum caches in which no deed lies, the last first.
-fn end_caches<N: Name>(alloc: Global, caches: &mut Vec<LockedCache<N>>) -> bool
-    ensures { result ≡ true → caches.new.items ≡ [] }
+fn end_caches<N: Name>(alloc: Global, caches: &mut Vec<LockedCache<N>>) -> Result<(), NotEmpty>
+    ensures { OnOk result (caches.new.items ≡ []) }
 {
     while let Some(cache) = caches.pop() {
-        if let Err(cache) = end_cache(alloc, cache) {
+        if let Err((cache, found)) = end_cache(alloc, cache) {
             caches.push_reserved(cache);
-            return false;
+            return Err(found);
         }
     }
-    true
+    Ok(())
 }
 
 /// Ends a quantum cache in which no deed lies.
-fn end_cache<N: Name>(alloc: Global, cache: LockedCache<N>) -> Result<(), LockedCache<N>> {
+fn end_cache<N: Name>(
+    alloc: Global,
+    cache: LockedCache<N>,
+) -> Result<(), (LockedCache<N>, NotEmpty)> {
     let LockedCache { kind, slab, depot } = cache;
     let depot = depot.into_inner();
     let own = depot.kind();
-    match depot.close() {
-        Ok(()) => match slab.into_inner().close() {
-            Ok(()) => Ok(()),
-            Err(slab) => Err(LockedCache {
-                kind,
-                slab: Mutex::new(slab),
-                depot: Mutex::new(KindDepot::new(alloc, own, FIRST_SIZE)),
-            }),
+    let (slab, depot, found) = match end_depot(depot) {
+        Ok(()) => match end_slabs(slab.into_inner()) {
+            Ok(()) => return Ok(()),
+            Err((slab, found)) => {
+                let depot = KindDepot::new(alloc, own, FIRST_SIZE);
+                (Mutex::new(slab), depot, found)
+            }
         },
-        Err(depot) => Err(LockedCache {
-            kind,
-            slab,
-            depot: Mutex::new(depot),
-        }),
-    }
+        Err((depot, found)) => (slab, depot, found),
+    };
+    let depot = Mutex::new(depot);
+    Err((LockedCache { kind, slab, depot }, found))
 }

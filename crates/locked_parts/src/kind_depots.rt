@@ -9,6 +9,7 @@ ghost use Rattle.locked_parts.specs.Kinds.{IsOfKind};
 ghost use Rattle.locked_parts.specs.Saying.{IsOtherDepot, depot_said};
 ghost use Rattle.locked_parts.specs.Sums.{DepotTells};
 ghost use Rattle.locked_parts.specs.Swaps.{GivesFull, GivesEmpty, TakesFull};
+ghost use Rattle.locked_parts.specs.Walks.{IsTickFor};
 ghost use Rattle.locked_parts.specs.Words.{given_word, full_word, empty_word, fresh_word};
 
 use crate::gates::NextStep;
@@ -55,6 +56,24 @@ impl Model for DepotSaid {
     ghost view = { λ s. record { kind = s.kind; step = s.step; word = s.word } };
 
     ghost inverse = { λ s. record { kind = s.kind; step = s.step; word = s.word } };
+}
+
+/// That the depot of this quantum cache was asked to begin an interval, and whether it did. Only
+/// `KindDepot` makes one, where it is asked.
+#[derive(Clone, Copy, PartialEq, Eq, Debug)]
+pub(crate) struct TickSaid {
+    kind: CacheKind,
+    begun: bool,
+}
+
+impl Model for TickSaid {
+    ghost use Rattle.locked_parts.specs.Walks.{TickSaidState};
+
+    ghost Value = { TickSaidState };
+
+    ghost view = { λ s. record { kind = s.kind; begun = s.begun } };
+
+    ghost inverse = { λ s. record { kind = s.kind; begun = s.begun } };
 }
 
 /// That it answered so.
@@ -186,15 +205,21 @@ impl<D: Deed> KindDepot<D> {
         self.depot.tick();
     }
 
-    /// The same in the depot of this quantum cache; another is left as it was.
-    pub(crate) fn tick_of(&mut self, kind: &CacheKind)
+    /// The same in the depot of this quantum cache; another is left as it was. It says which one it
+    /// is.
+    pub(crate) fn tick_of(&mut self, kind: &CacheKind) -> TickSaid
+        ensures own { result.kind ≡ self.old.kind }
+        ensures said { IsTickFor kind.now result }
         ensures begun { self.old.kind ≡ kind.now → self.new.depot ≡ after_tick self.old.depot }
         ensures other { self.old.kind ≢ kind.now → self.new ≡ self.old }
         ensures kind { self.new.kind ≡ self.old.kind }
     {
-        if self.kind.is(kind) {
+        let own = self.kind;
+        let begun = own.is(kind);
+        if begun {
             self.tick();
         }
+        TickSaid { kind: own, begun }
     }
 
     /// Has magazines of a greater size from here on.

@@ -6,7 +6,7 @@
 //! which part it was, at which step it was asked (said) and what it answered (words). `LockedParts`
 //! (parts) has them by the numbers of their arenas; they are made of arenas as they stand before
 //! their locks (new_arenas, owned_spans, new_caches), and ended by taking them from under the locks
-//! (ending).
+//! (ending), up to one that was found not to be empty (not_empty).
 //!
 //! Each span that an arena owns is a root of its own, numbered by its arena and its place among the
 //! arena's spans. Those of the setup are opened before the arena comes under its lock, and their
@@ -43,6 +43,7 @@ mod locked_depots;
 mod locked_events;
 mod new_arenas;
 mod new_caches;
+mod not_empty;
 #[cfg(test)]
 mod one_lock;
 mod own_caches;
@@ -58,10 +59,12 @@ mod slab_parts;
 mod words;
 
 pub use arena_parts::{ArenaSaid, Grown};
+pub use depot_walks::Interval;
 pub use gates::{EventName, Gate, NextStep, OpenGate, Pass, RequestStopped, StepCount};
 pub use kind_depots::DepotSaid;
 pub use kinds::CacheKind;
 pub use new_arenas::NewArena;
+pub use not_empty::NotEmpty;
 pub use own_caches::OwnCache;
 pub use own_rounds::{end_rounds, new_rounds};
 pub use part_sums::PartSums;

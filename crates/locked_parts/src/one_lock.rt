@@ -77,7 +77,7 @@ fn events_of<N: Name, R: Abort + Wait + AllocGlobal>(rt: &R, ground: Ground, set
     of_slabs(rt, &parts);
     of_depot(rt, &parts);
     close_all(rt, &parts, roots);
-    if !parts.end_arenas() {
+    if parts.end_arenas().is_err() {
         stuck(rt, parts)
     }
     parts.end();
@@ -211,6 +211,6 @@ fn of_depot<N: Name, R: Abort + Wait + AllocGlobal>(rt: &R, parts: &LockedParts<
         Ok(Some(round)) => stuck(rt, round),
         Err(fault) => stuck(rt, fault),
     }
-    parts.tick(rt);
+    let _ = parts.tick(rt);
     assert!(rt; parts.resize(rt, 0, 7));
 }

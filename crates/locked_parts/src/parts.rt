@@ -10,7 +10,7 @@ ghost use Rattle.locked_parts.specs.Saying.{HasCache};
 ghost use Rattle.magazine_layer.specs.Magazines.{IsSize};
 
 use crate::arena_parts::{ArenaPart, Grown};
-use crate::depot_walks::{resize_each, tick_each};
+use crate::depot_walks::{Interval, resize_each, tick_each};
 use crate::kind_depots::KindDepot;
 use crate::kinds::{CacheKind, cache_count};
 use crate::locked_depots::LockedDepots;
@@ -132,11 +132,12 @@ impl<N: Name> LockedParts<N> {
         before.saturating_add((number as usize).saturating_sub(1))
     }
 
-    /// Begins an interval in each depot, one after another. It has no clause: what a depot is lies
-    /// behind its lock, and nothing is answered.
-    pub fn tick<R: Wait>(&self, rt: &R) {
-        let mut depots = LockedDepots { parts: self, rt };
-        tick_each(&mut depots, &self.tree);
+    /// Begins an interval in each depot, one after another, and tells in how many arenas.
+    pub fn tick<R: Wait>(&self, rt: &R) -> Interval
+        ensures { result ≡ length self.now.arenas }
+    {
+        let mut depots = LockedDepots::new(self, rt);
+        tick_each(&mut depots, &self.tree)
     }
 
     /// Has the depots of the arena keep magazines of this size from here on, and says whether one
@@ -146,7 +147,7 @@ impl<N: Name> LockedParts<N> {
         requires size { IsSize size }
         ensures rose { result ≡ true → (3 < size) × (0 < count_of_caches self.now.arenas arena) }
     {
-        let mut depots = LockedDepots { parts: self, rt };
+        let mut depots = LockedDepots::new(self, rt);
         resize_each(&mut depots, &self.tree, arena, size)
     }
 
