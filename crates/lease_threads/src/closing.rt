@@ -1,6 +1,6 @@
 //! How the roots of a system are closed.
 ghost use Rattle.std.specs.Prelude.{◌≡◌, ◌+◌, ◌<◌, [], ◌↔◌, length, None, IfErr, IfSome, OnOk, true};
-ghost use Rattle.std.specs.Prelude.{IsTrue, nat_lt, position};
+ghost use Rattle.std.specs.Prelude.{◌==◌, IfNone, IsTrue, nat_lt, position};
 ghost use Rattle.std.specs.List.Sorted.{IsPermutation};
 ghost use Rattle.lease_threads.specs.Ends as ends;
 
@@ -131,14 +131,23 @@ fn close_by<N: Name>(roots: &mut Vec<Root<N>>, deed: SeatDeed<N>) -> Result<(), 
     }
 }
 
-/// Where the root of this number stands, which is mostly the last.
+/// Where a root of this number stands, which is mostly the last; None only where none does.
 fn index_of<N: Name>(roots: &[Root<N>], number: u32) -> Option<usize>
-    ensures { IfSome result (λ index. index < length roots.now) }
+    ensures within { IfSome result (λ index. index < length roots.now) }
+    ensures none { IfNone result (position (λ root. root.root == number) roots.now ≡ None) }
 {
     if let Some(root) = roots.last() {
         if root.number() == number {
             return Some(roots.len() - 1);
         }
     }
+    first_of(roots, number)
+}
+
+/// Where the first one stands.
+fn first_of<N: Name>(roots: &[Root<N>], number: u32) -> Option<usize>
+    ensures first { result ≡ position (λ root. root.root == number) roots.now }
+    ensures within { IfSome result (λ index. index < length roots.now) }
+{
     roots.iter().position(|root| root.number() == number)
 }
