@@ -1,8 +1,9 @@
 //! What a system does with all that lies in its parts when it ends: leases are ended, depots and
 //! slabs are emptied, and what comes of them goes back to its arena and up the chain.
-ghost use Rattle.std.specs.Prelude.{◌≡◌, None, true};
+ghost use Rattle.std.specs.Prelude.{◌≡◌, None, OnSome, true};
 
 use crate::cpus::Cpu;
+use crate::marked_books::NoLease;
 use crate::systems::System;
 use deed_core::Segment;
 use deed_table::{Name, SeatDeed};
@@ -14,40 +15,43 @@ impl<N: Name> System<N> {
     pub(crate) fn empty_parts<R: Wait>(&self, rt: &R, cpu: &mut Cpu<N>) -> bool
         ensures { result ≡ true → cpu.new.hand ≡ None }
     {
-        self.end_leases(rt, cpu) && self.reap_all(rt, cpu)
+        match self.end_leases(rt, cpu) {
+            Some(none) => self.reap_all(rt, cpu, none),
+            None => false,
+        }
     }
 
-    /// Ends all leases, one after another, and says whether each was placed.
-    fn end_leases<R: Wait>(&self, rt: &R, cpu: &mut Cpu<N>) -> bool
-        ensures { result ≡ true → cpu.new.hand ≡ None }
+    /// Ends all leases, one after another, until none stands; None where one wasn't placed.
+    fn end_leases<R: Wait>(&self, rt: &R, cpu: &mut Cpu<N>) -> Option<NoLease>
+        ensures { OnSome result (cpu.new.hand ≡ None) }
     {
         if !self.place_hand(rt, cpu) {
-            return false;
+            return None;
         }
         for _ in rt.forever() {
-            let Some(segment) = self.take_lease(rt) else {
-                break;
-            };
-            cpu.hold(segment);
+            match self.take_lease(rt) {
+                Ok(segment) => cpu.hold(segment),
+                Err(none) => return Some(none),
+            }
             if !self.place_hand(rt, cpu) {
-                return false;
+                return None;
             }
         }
-        true
+        unreachable!()
     }
 
     /// Ends a lease, whichever, in the book.
-    fn take_lease<R: Wait>(&self, rt: &R) -> Option<Segment<SeatDeed<N>>> {
+    fn take_lease<R: Wait>(&self, rt: &R) -> Result<Segment<SeatDeed<N>>, NoLease> {
         self.book.lock(rt).take_lease()
     }
 
-    /// Empties all depots and slabs, the last arena first, and says whether each segment was
-    /// placed.
-    fn reap_all<R: Wait>(&self, rt: &R, cpu: &mut Cpu<N>) -> bool
+    /// Empties all depots and slabs once no lease stands, the last arena first, and says whether
+    /// each segment was placed.
+    fn reap_all<R: Wait>(&self, rt: &R, cpu: &mut Cpu<N>, _none: NoLease) -> bool
         requires { cpu.old.hand ≡ None }
         ensures { result ≡ true → cpu.new.hand ≡ None }
     {
-        self.tick(rt);
+        let _ = self.tick(rt);
         let count = self.parts.tree().len() as u32;
         for below in 0..count {
             self.reap(rt, cpu, count - 1 - below, u64::MAX);

@@ -1,9 +1,11 @@
 //! How the parts and the book of a system are ended.
-ghost use Rattle.std.specs.Prelude.{◌≡◌, IfErr};
+ghost use Rattle.std.specs.Prelude.{◌≡◌, IfErr, OnOk};
 ghost use Rattle.lease_threads.specs.Ends.{AreClosed};
 
+use crate::marked_books::{LeaseStands, MarkedBook};
 use crate::systems::System;
 use deed_table::{Name, Root};
+use locked_parts::{LockedParts, NotEmpty};
 use std::sync::Mutex;
 
 /// Ends a system whose roots of arenas are all closed, and closes the root of its book's mark. It
@@ -18,26 +20,43 @@ pub(crate) fn end_parts<N: Name>(system: System<N>) -> Result<(), System<N>>
         told,
         book,
     } = system;
-    if !parts.end_arenas() {
-        return Err(System {
-            parts,
-            roots,
-            told,
-            book,
-        });
-    }
-    match book.into_inner().end() {
+    match end_book(&mut parts, book) {
         Ok(()) => {
             parts.end();
             end_lists(roots);
             Ok(())
         }
-        Err(book) => Err(System {
+        Err((book, _)) => Err(System {
             parts,
             roots,
             told,
-            book: Mutex::new(book),
+            book,
         }),
+    }
+}
+
+/// What keeps a system from its end: a part that isn't empty, or a lease. Each is made where it was
+/// found, and nowhere else.
+#[derive(PartialEq, Eq, Debug, Drop)]
+enum Left {
+    Part(NotEmpty),
+    Lease(LeaseStands),
+}
+
+/// Ends the arenas of the parts, and then the book, as far as nothing is left in them.
+fn end_book<N: Name>(
+    parts: &mut LockedParts<N>,
+    book: Mutex<MarkedBook<N>>,
+) -> Result<(), (Mutex<MarkedBook<N>>, Left)>
+    ensures arenas { parts.new.arenas ≡ parts.old.arenas }
+    ensures ended { OnOk result (parts.new.standing ≡ 0) }
+{
+    if let Err(found) = parts.end_arenas() {
+        return Err((book, Left::Part(found)));
+    }
+    match book.into_inner().end() {
+        Ok(()) => Ok(()),
+        Err((book, found)) => Err((Mutex::new(book), Left::Lease(found))),
     }
 }
 

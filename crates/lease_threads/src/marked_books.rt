@@ -1,7 +1,7 @@
 //! The book of leases as its lock keeps it.
 ghost use Rattle.std.specs.Prelude.{◌≡◌, ◌+◌, ◌-◌, ◌^◌, ◌<◌, ◌≤◌, ◌↔◌, ◌++◌, [], length, min};
 ghost use Rattle.std.specs.Prelude.{slice_get, sum_by, vec_len, vec_capacity, Ok};
-ghost use Rattle.std.specs.Prelude.{IsNone, IfNone, IfSome, IsOk, IfErr};
+ghost use Rattle.std.specs.Prelude.{IsOk, IsErr, IfOk, IfErr, OnErr};
 ghost use Rattle.lease_terms.specs.declared.values.TheConstants.{LAST_CLIENT};
 ghost use Rattle.lease_threads.specs.Sums.{leases_from, leases_of};
 ghost use Rattle.std.specs.Option.{option_map};
@@ -32,6 +32,14 @@ pub(crate) struct MarkedBook<N: Name> {
     mark: Root<N>,
 }
 
+/// That no lease stands. Only `MarkedBook::take_lease` makes one, where it found none.
+#[derive(PartialEq, Eq, Debug, Drop)]
+pub(crate) struct NoLease(());
+
+/// That a lease stands. Only `MarkedBook::end` makes one, where it found one.
+#[derive(PartialEq, Eq, Debug, Drop)]
+pub(crate) struct LeaseStands(());
+
 impl<N: Name> Model for MarkedBook<N> {
     ghost use Rattle.std.specs.Prelude.{◌≡◌};
     ghost use Rattle.lease_book.specs.BookState.{BookState};
@@ -54,9 +62,9 @@ impl<N: Name> MarkedBook<N> {
     }
 
     /// Ends a book of no leases, and closes the root of its mark. A book of leases comes back.
-    pub(crate) fn end(self) -> Result<(), MarkedBook<N>>
+    pub(crate) fn end(self) -> Result<(), (MarkedBook<N>, LeaseStands)>
         ensures exactly { IsOk result ↔ (leased_segments self ≡ []) }
-        ensures handed_back { IfErr result (λ book. book ≡ self) }
+        ensures handed_back { IfErr result (λ same. same.0 ≡ self) }
     {
         let MarkedBook { book, mark } = self;
         match book.close() {
@@ -64,7 +72,7 @@ impl<N: Name> MarkedBook<N> {
                 Ok(_) => Ok(()),
                 Err(_) => unreachable!(),
             },
-            Err(book) => Err(MarkedBook { book, mark }),
+            Err(book) => Err((MarkedBook { book, mark }, LeaseStands(()))),
         }
     }
 
@@ -111,14 +119,14 @@ impl<N: Name> MarkedBook<N> {
     }
 
     /// Ends a lease, whichever.
-    pub(crate) fn take_lease(&mut self) -> Option<Segment<SeatDeed<N>>>
-        ensures event { IfSome result (λ t. (id : RequestId) × IsEnded self.old self.new id t) }
-        ensures exactly { IsNone result ↔ (leased_segments self.old ≡ []) }
-        ensures unchanged { IfNone result (self.new ≡ self.old) }
+    pub(crate) fn take_lease(&mut self) -> Result<Segment<SeatDeed<N>>, NoLease>
+        ensures event { IfOk result (λ t. (id : RequestId) × IsEnded self.old self.new id t) }
+        ensures exactly { IsErr result ↔ (leased_segments self.old ≡ []) }
+        ensures unchanged { OnErr result (self.new ≡ self.old) }
     {
         match self.book.take_lease() {
-            Some((_, segment)) => Some(segment),
-            None => None,
+            Some((_, segment)) => Ok(segment),
+            None => Err(NoLease(())),
         }
     }
 

@@ -10,15 +10,17 @@ use crate::systems::System;
 use arena_tree::GrowFault;
 use deed_core::Range;
 use deed_table::Name;
-use locked_parts::{Grown, OpenGate, Running};
+use locked_parts::{Grown, Interval, OpenGate, Running};
 use quantum_cache::{EmptyingFault, ReapFault, Reaping, reap_arena};
 use std::sync::Wait;
 
 impl<N: Name> System<N> {
-    /// Begins an interval in each depot, one after another, in order of setup. It has no clause:
-    /// what a depot is lies behind its lock, and nothing is answered.
-    pub fn tick<R: Wait>(&self, rt: &R) {
-        self.parts.tick(rt);
+    /// Begins an interval in each depot, one after another, in order of setup, and tells in how many
+    /// arenas.
+    pub fn tick<R: Wait>(&self, rt: &R) -> Interval
+        ensures { result ≡ length self.now.arenas }
+    {
+        self.parts.tick(rt)
     }
 
     /// Has the depots of the arena keep magazines of this size from here on, and says whether one
