@@ -1,12 +1,15 @@
 -- A worker of a running system, what it may reply, and how it tidies.
-use Rattle.std.specs.Prelude.{◌≡◌, ◌<◌, ◌⊎◌, ℕ, Bool, true, false, List, Option, IfSome, length}
+use Rattle.std.specs.Prelude.{◌≡◌, ◌<◌, ◌⊎◌, ℕ, Bool, true, false, List, Option, Some, IfSome}
+use Rattle.std.specs.Prelude.{length}
 use Rattle.arena_tree.specs.declared.trees.TreeArena.{TreeArena}
+use Rattle.deed_core.specs.Tag.{Tag}
 use Rattle.lease_book.specs.Receipts.{ReceiptState}
 use Rattle.lease_proto.specs.declared.lines.Line.{Line}
 use Rattle.lease_proto.specs.declared.replies.Reply.{Reply}
 use Rattle.lease_proto.specs.declared.replies.Reply.TheVariants.{Granted, Released}
 use Rattle.lease_tcp.specs.Tidying.{Tidies}
 use Rattle.lease_tcp.specs.declared.system_workers.TheConstants.{REAP_LIMIT}
+use Rattle.lease_threads.specs.Calling.{RunsNewly}
 use Rattle.lease_threads.specs.Reaping.{KeepsHand, ReapsSoundly}
 use Rattle.lease_threads.specs.Replying.{IsAnswerTo, IsAgain}
 use Rattle.lease_threads.specs.Retiring.{RetiresSoundly}
@@ -35,15 +38,18 @@ moves_units (Granted grant) = true
 moves_units (Released id) = true
 moves_units _ = false
 
--- the system over these arenas may answer the line so, with some receipt or none
-abbrev pub IsAnswer : List TreeArena → Line → Reply → Type 0
-IsAnswer arenas line reply =
-    (receipt : Option ReceiptState) × IsAnswerTo arenas line reply receipt
+-- the system over these arenas may answer the line so, by a CPU with this hand: with some receipt or
+-- none, the line's list of steps was gone through, after the hand before it was emptied
+abbrev pub IsAnswer : (D : Type 0) → List TreeArena → (hand : Option Tag) → Line
+    → (after : Option Tag) → Reply → Type 0
+IsAnswer D arenas hand line after reply = (receipt : Option ReceiptState) × (is_new : Bool)
+    × RunsNewly D arenas hand line after reply receipt is_new
+    × IsAnswerTo arenas line reply receipt
 
 -- The system may answer the line so. The arenas and the CPU stay; where the CPU's hand can't be
 -- placed the reply is `again`.
-abbrev pub MayReply : SystemWorkerState → Line → Reply → SystemWorkerState → Type 0
-MayReply old line reply new = IsAnswer old.arenas line reply
+abbrev pub MayReply : (D : Type 0) → SystemWorkerState → Line → Reply → SystemWorkerState → Type 0
+MayReply D old line reply new = IsAnswer D old.arenas old.cpu.hand line new.cpu.hand reply
     × IfSome new.cpu.hand (λ _. IsAgain reply) × (new.arenas ≡ old.arenas)
     × StaysCpu old.cpu new.cpu
 
@@ -66,6 +72,15 @@ abbrev pub MayReap : SystemWorkerState → ℕ → SystemWorkerState → Type 0
 MayReap old arena new = Stays old new
     × (arena < length old.arenas → ReapsOrHolds old.arenas arena old.cpu new.cpu)
 
+-- a seat reaped the arena of this number, with these looks and units
+pub record ReapedState : Type 0 where
+  pub arena : ℕ
+  pub reaping : Reaping
+
+-- the last one that a seat reaped is this one
+abbrev pub IsReapedLast : ℕ → Option ReapedState → Type 0
+IsReapedLast arena last = (r : ReapedState) × (last ≡ Some r) × (r.arena ≡ arena)
+
 abbrev pub count_of_arenas : SystemWorkerState → ℕ
 count_of_arenas w = length w.arenas
 
@@ -78,5 +93,6 @@ abbrev pub MayTidy : SystemWorkerState → SystemWorkerState → Type 0
 MayTidy old new = Tidies count_of_arenas MayDrain MayReap MayTick old new
 
 -- The same of a worker that shares its CPUs, of which its arenas are seen: whichever CPU does it.
-abbrev pub MayShareReply : List TreeArena → Line → Reply → List TreeArena → Type 0
-MayShareReply old line reply new = IsAnswer old line reply × (new ≡ old)
+abbrev pub MayShareReply : (D : Type 0) → List TreeArena → Line → Reply → List TreeArena → Type 0
+MayShareReply D old line reply new = (hand : Option Tag) × (after : Option Tag)
+    × IsAnswer D old hand line after reply × (new ≡ old)

@@ -52,6 +52,11 @@ pub struct Reception<A, H> {
     pub host: H,
 }
 
+/// That no further connection is to be served: `serve_each` and `begin_each` alone make one, once
+/// they found so.
+#[derive(Clone, Copy, Debug, PartialEq, Eq)]
+pub struct Served(());
+
 /// The next connection that is accepted, or None once the door is closed: it looks at the door
 /// after each that came, and misses each that couldn't be accepted.
 pub fn next_open<R: Wait, A: Arrivals>(rt: &R, arrivals: &mut A) -> Option<A::Connection>
@@ -72,12 +77,12 @@ pub fn next_open<R: Wait, A: Arrivals>(rt: &R, arrivals: &mut A) -> Option<A::Co
 
 /// Serves one connection after another until the door is closed: it looks at the door after each
 /// that came, and serves none that came later.
-pub fn serve_each<R: Wait, S: Server>(rt: &R, server: &mut S)
+pub fn serve_each<R: Wait, S: Server>(rt: &R, server: &mut S) -> Served
     ensures { ServesEach S.may_accept S.may_find S.may_serve S.may_miss server.old server.new }
 {
     for _ in rt.forever() {
         let Some(connection) = next_open(rt, server) else {
-            return;
+            return Served(());
         };
         server.serve(connection);
     }
@@ -90,7 +95,7 @@ pub fn begin_each<R: Wait, A: Arrivals, F: FnMut(A::Connection)>(
     rt: &R,
     arrivals: &mut A,
     mut begin: F,
-)
+) -> Served
     requires { F.IsAlwaysCallable begin }
     ensures { (last : F) × ServesEach (AcceptsAt A.may_accept) (FindsAt A.may_find)
         (BeginsAt (λ old connection new. F.step old connection tt new)) (MissesAt A.may_miss)
@@ -99,7 +104,7 @@ pub fn begin_each<R: Wait, A: Arrivals, F: FnMut(A::Connection)>(
 {
     for _ in rt.forever() {
         let Some(connection) = next_open(rt, arrivals) else {
-            return;
+            return Served(());
         };
         begin(connection);
     }

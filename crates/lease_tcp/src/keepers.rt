@@ -1,11 +1,14 @@
 //! What tidies a system whose connections share its CPUs: by time, since such a connection may stay
 //! for ever.
+ghost use Rattle.std.specs.Prelude.{◌≡◌};
 
 use crate::houses::House;
 use crate::rounds::{Rounds, keep_rounds};
+use crate::seats::Reaped;
 use crate::shared_cpus::SharedCpus;
 use crate::tidying::{Upkeep, tidy_by};
 use deed_table::Name;
+use lease_threads::Interval;
 use std::sync::Wait;
 use std::thread;
 use std::time::{Clock, Duration, Instant};
@@ -84,19 +87,24 @@ fn is_due<C: Clock>(clock: &C, round: Option<Instant>) -> bool {
 struct SharedUpkeep<'a, N: Name, R> {
     rt: &'a R,
     cpus: &'a SharedCpus<'a, N>,
+    /// What came of it that an arena was reaped last.
+    reaped: Option<Reaped>,
+    /// The interval that began last.
+    begun: Option<Interval>,
 }
 
 impl<N: Name, R: Wait> Upkeep for SharedUpkeep<'_, N, R> {
-    ghost use Rattle.std.specs.Prelude.{⊤, length};
+    ghost use Rattle.std.specs.Prelude.{◌≡◌, ⊤, Some, length};
+    ghost use Rattle.lease_tcp.specs.Workers.{IsReapedLast};
 
     ghost arenas = { λ u. length u.cpus.now };
 
     // (what lies under locks no contract can say)
     ghost may_drain = { λ _ _. ⊤ };
 
-    ghost may_reap = { λ _ _ _. ⊤ };
+    ghost may_reap = { λ _ arena v. IsReapedLast arena v.reaped };
 
-    ghost may_tick = { λ _ _. ⊤ };
+    ghost may_tick = { λ u v. v.begun ≡ Some (length u.cpus.now) };
 
     fn arenas(&self) -> u32 {
         let cpus = self.cpus;
@@ -114,12 +122,12 @@ impl<N: Name, R: Wait> Upkeep for SharedUpkeep<'_, N, R> {
     }
 
     fn reap(&mut self, arena: u32) {
-        reap_often(self.rt, self.cpus, arena);
+        self.reaped = Some(reap_often(self.rt, self.cpus, arena));
     }
 
     fn tick(&mut self) {
         let cpus = self.cpus;
-        cpus.system.tick(self.rt);
+        self.begun = Some(cpus.system.tick(self.rt));
     }
 }
 
@@ -127,14 +135,33 @@ impl<N: Name, R: Wait> Upkeep for SharedUpkeep<'_, N, R> {
 /// depot, as `tidy_by` does. It has one seat at a time, and none for longer than one drain or reap
 /// takes.
 pub fn go_round<N: Name, R: Wait>(rt: &R, cpus: &SharedCpus<'_, N>) {
-    tidy_by(&mut SharedUpkeep { rt, cpus });
+    let mut upkeep = SharedUpkeep {
+        rt,
+        cpus,
+        reaped: None,
+        begun: None,
+    };
+    tidy_by(&mut upkeep);
 }
 
-/// Reaps an arena, each time by a seat that is free then, until a reap ends before its limit.
-fn reap_often<N: Name, R: Wait>(rt: &R, cpus: &SharedCpus<'_, N>, arena: u32) {
-    for _ in 0..REAPS {
-        if cpus.take(rt, 0).reap(rt, cpus.system, arena).left > 0 {
-            return;
+/// Reaps an arena, each time by a seat that is free then, until a reap ends before its limit, and
+/// tells what came of the last.
+fn reap_often<N: Name, R: Wait>(rt: &R, cpus: &SharedCpus<'_, N>, arena: u32) -> Reaped
+    ensures { result.arena ≡ arena }
+{
+    let mut reaped = reap_once(rt, cpus, arena);
+    for _ in 1..REAPS {
+        if reaped.left() > 0 {
+            break;
         }
+        reaped = reap_once(rt, cpus, arena);
     }
+    reaped
+}
+
+/// Reaps it once.
+fn reap_once<N: Name, R: Wait>(rt: &R, cpus: &SharedCpus<'_, N>, arena: u32) -> Reaped
+    ensures { result.arena ≡ arena }
+{
+    cpus.take(rt, 0).reap(rt, cpus.system, arena)
 }

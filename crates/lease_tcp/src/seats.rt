@@ -1,7 +1,9 @@
 //! The CPUs of a system, each under a lock, by which connections are served that share them.
 ghost use Rattle.std.specs.Prelude.{◌≡◌, ◌+◌, ◌⊎◌, ◌<◌, ◌≤◌, ◌↔◌, ◌||◌, ◌&&◌, false, true, length};
 ghost use Rattle.std.specs.Prelude.{IfSome, IsTrue, OnOk};
+ghost use Rattle.deed_table.specs.declared.deeds.SeatDeed.{SeatDeed};
 ghost use Rattle.lease_proto.specs.declared.limits.TheConstants.{MOST_CPUS};
+ghost use Rattle.lease_threads.specs.Calling.{RunsNewly};
 ghost use Rattle.lease_threads.specs.Reaping.{KeepsHand, ReapsSoundly};
 ghost use Rattle.lease_threads.specs.Replying.{IsAgain, IsAnswerTo};
 ghost use Rattle.lease_threads.specs.Retiring.{RetiresSoundly};
@@ -32,6 +34,32 @@ impl<N: Name> Model for Seat<N> {
     ghost view = { λ s. record { cpu = s.cpu; has_moved = s.has_moved } };
 }
 
+/// What came of it that a seat reaped the arena of this number. Only `Seat::reap` makes one.
+#[derive(Clone, Copy, PartialEq, Eq, Debug)]
+pub struct Reaped {
+    arena: u32,
+    reaping: Reaping,
+}
+
+impl Model for Reaped {
+    ghost use Rattle.lease_tcp.specs.Workers.{ReapedState};
+
+    ghost Value = { ReapedState };
+
+    ghost view = { λ r. record { arena = r.arena; reaping = r.reaping } };
+
+    ghost inverse = { λ r. record { arena = r.arena; reaping = r.reaping } };
+}
+
+impl Reaped {
+    /// How many looks were left.
+    pub fn left(&self) -> u64
+        ensures { result ≡ self.now.reaping.left }
+    {
+        self.reaping.left
+    }
+}
+
 impl<N: Name> Seat<N> {
     /// A CPU that moved nothing yet.
     pub fn new(cpu: Cpu<N>) -> Seat<N>
@@ -54,6 +82,8 @@ impl<N: Name> Seat<N> {
     /// Answers a line by the system, as that does. Where its CPU's hand can't be placed the reply is
     /// `again`.
     pub fn answer<R: Wait>(&mut self, rt: &R, system: &System<N>, line: &Line) -> Told<N>
+        ensures runs { RunsNewly (SeatDeed N) system.now.arenas self.old.cpu.hand line.now
+            self.new.cpu.hand result.reply result.receipt result.is_new }
         ensures answers { IsAnswerTo system.now.arenas line.now result.reply result.receipt }
         ensures new { result.is_new ≡ true
             → IsSettledAsAsked system.now.arenas line.now result.receipt }
@@ -91,14 +121,16 @@ impl<N: Name> Seat<N> {
     }
 
     /// Reaps an arena by its CPU, in `REAP_LIMIT` looks at most.
-    pub fn reap<R: Wait>(&mut self, rt: &R, system: &System<N>, arena: u32) -> Reaping
+    pub fn reap<R: Wait>(&mut self, rt: &R, system: &System<N>, arena: u32) -> Reaped
+        ensures arena { result.arena ≡ arena }
         ensures reaped { arena < length system.now.arenas
-            → KeepsHand self.old.cpu.hand self.new.cpu.hand REAP_LIMIT result
-            ⊎ ReapsSoundly system.now.arenas arena REAP_LIMIT result self.new.cpu.hand }
+            → KeepsHand self.old.cpu.hand self.new.cpu.hand REAP_LIMIT result.reaping
+            ⊎ ReapsSoundly system.now.arenas arena REAP_LIMIT result.reaping self.new.cpu.hand }
         ensures stays { StaysCpu self.old.cpu self.new.cpu }
         ensures noted { self.new.has_moved ≡ self.old.has_moved }
     {
-        system.reap(rt, &mut self.cpu, arena, REAP_LIMIT)
+        let reaping = system.reap(rt, &mut self.cpu, arena, REAP_LIMIT);
+        Reaped { arena, reaping }
     }
 }
 

@@ -49,9 +49,10 @@ impl<'a, N: Name, R: Wait> SharedWorker<'a, N, R> {
 
 impl<N: Name, R: Wait> Worker for SharedWorker<'_, N, R> {
     ghost use Rattle.std.specs.Prelude.{◌≡◌};
+    ghost use Rattle.deed_table.specs.declared.deeds.SeatDeed.{SeatDeed};
     ghost use Rattle.lease_tcp.specs.Workers.{MayShareReply};
 
-    ghost may_reply = { MayShareReply };
+    ghost may_reply = { MayShareReply (SeatDeed N) };
 
     ghost may_tidy = { λ old new. new ≡ old };
 

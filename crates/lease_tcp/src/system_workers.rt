@@ -1,7 +1,7 @@
 //! A worker of a running system.
 ghost use Rattle.std.specs.Prelude.{◌≡◌};
 
-use crate::arrivals::{Reception, serve_each};
+use crate::arrivals::{Reception, Served, serve_each};
 use crate::doors::Door;
 use crate::loops::TcpEntrance;
 use crate::replying::ClientLines;
@@ -58,15 +58,16 @@ impl<'a, N: Name, R: Wait> SystemWorker<'a, N, R> {
 }
 
 impl<N: Name, R: Wait> Worker for SystemWorker<'_, N, R> {
+    ghost use Rattle.deed_table.specs.declared.deeds.SeatDeed.{SeatDeed};
     ghost use Rattle.lease_tcp.specs.Workers.{MayReply, MayTidy};
 
-    ghost may_reply = { MayReply };
+    ghost may_reply = { MayReply (SeatDeed N) };
 
     ghost may_tidy = { MayTidy };
 
     fn reply(&mut self, line: &Line) -> Reply {
-        match self.system.request(self.rt, &mut self.cpu, &OpenGate, line) {
-            Ok((reply, _)) => reply,
+        match self.system.answer(self.rt, &mut self.cpu, &OpenGate, line) {
+            Ok(told) => told.reply,
             Err(_) => unreachable!(),
         }
     }
@@ -100,7 +101,7 @@ impl<N: Name, R: Wait> Upkeep for SystemWorker<'_, N, R> {
     }
 
     fn tick(&mut self) {
-        self.system.tick(self.rt);
+        let _ = self.system.tick(self.rt);
     }
 }
 
@@ -112,7 +113,7 @@ pub fn accept_loop<N: Name, R: Wait + Clock>(
     door: Door<'_>,
     system: &System<N>,
     cpu: Cpu<N>,
-) -> Cpu<N> {
+) -> (Cpu<N>, Served) {
     let tally = door.counts.at(cpu.number() as usize);
     let lines = ClientLines::new(SystemWorker::new(rt, system, cpu), tally);
     let no_one = NoOne;
@@ -120,7 +121,7 @@ pub fn accept_loop<N: Name, R: Wait + Clock>(
         arrivals: TcpEntrance::new(rt, alloc, door, &no_one),
         host: lines,
     };
-    serve_each(rt, &mut reception);
+    let served = serve_each(rt, &mut reception);
     let Reception { arrivals: _, host } = reception;
-    host.into_worker().into_cpu()
+    (host.into_worker().into_cpu(), served)
 }

@@ -5,7 +5,7 @@ ghost use Rattle.lease_proto.specs.Faults.{error_text};
 ghost use Rattle.lease_server.specs.Serving.{WritesFront};
 ghost use Rattle.lease_server.specs.Watching.{inner_of};
 
-use crate::arrivals::begin_each;
+use crate::arrivals::{Served, begin_each};
 use crate::houses::House;
 use crate::links::{Link, let_go};
 use crate::loops::{TcpEntrance, serve_begun};
@@ -38,7 +38,7 @@ pub fn serve_talks<
     O: Overseer,
 >(rt: &R, house: &House<'_, N>, overseer: &O) {
     thread::scope(thread::scope_env(), rt, move |scope| {
-        accept_talks(rt, scope, house, overseer);
+        let _ = accept_talks(rt, scope, house, overseer);
     });
     house.over.store(true, Ordering::SeqCst);
 }
@@ -50,11 +50,11 @@ fn accept_talks<
     N: Name + Send + Sync,
     R: Threads + Wait + Clock + Sync + AllocGlobal,
     O: Overseer,
->(rt: &'s R, scope: &Scope<'s, E>, house: &'s House<'s, N>, overseer: &O) {
+>(rt: &'s R, scope: &Scope<'s, E>, house: &'s House<'s, N>, overseer: &O) -> Served {
     let mut entrance = TcpEntrance::new(rt, rt.alloc(), house.door, overseer);
     begin_each(rt, &mut entrance, move |stream| {
         admit(rt, scope, house, overseer, stream);
-    });
+    })
 }
 
 /// Starts the connection's thread, or tells it that it is one too many.
