@@ -1,6 +1,8 @@
 //! What the workers of a server share beside its system.
 
+use deed_table::Name;
 use lease_tcp::Shortage;
+use lease_threads::Cpu;
 use std::sync::atomic::{AtomicBool, AtomicU64, Ordering};
 
 /// What tells workers to stop, and what they tell.
@@ -43,8 +45,8 @@ impl Signals {
         &self.stop
     }
 
-    /// Tells that one more worker has its CPU.
-    pub fn add_ready(&self) {
+    /// Tells that one more worker has its CPU, which is this one.
+    pub fn add_ready<N: Name>(&self, _cpu: &Cpu<N>) {
         self.ready.fetch_add(1, Ordering::SeqCst);
     }
 

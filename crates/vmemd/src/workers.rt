@@ -126,7 +126,7 @@ fn work<
             return;
         }
     };
-    site.signals.add_ready();
-    let cpu = accept_loop(rt, rt.alloc(), site.door, site.system, cpu);
+    site.signals.add_ready(&cpu);
+    let (cpu, _) = accept_loop(rt, rt.alloc(), site.door, site.system, cpu);
     retire(rt, site.system, site.signals, cpu);
 }
