@@ -36,7 +36,7 @@ impl<N: Name, R: Abort + Wait + AllocGlobal> Gate for Between<'_, N, R> {
         let base = leased(self.rt, self.system, &mut other, asked);
         released(self.rt, self.system, &mut other, asked, base);
         self.asked.store(asked.saturating_add(2), Ordering::SeqCst);
-        self.system.tick(self.rt);
+        let _ = self.system.tick(self.rt);
         assert!(self.rt; !self.system.resize(self.rt, 0, 3));
         self.system.reap(self.rt, &mut other, 0, 8);
         Pass::Go

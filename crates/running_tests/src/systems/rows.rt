@@ -83,12 +83,12 @@ fn reaped<N: Name, R: Abort + Wait + AllocGlobal>(rt: &R, ground: Ground, setup:
     let mut two = cpu(rt, &system, 1);
     for (text, wanted) in &SEVEN_UNITS {
         ask(rt, &system, &mut one, text, wanted);
-        system.tick(rt);
+        let _ = system.tick(rt);
         reaps(rt, &system, &mut two, 0, 0);
     }
     assert!(rt; one.units() > 0);
     retire(rt, &system, one);
-    system.tick(rt);
+    let _ = system.tick(rt);
     reaps(rt, &system, &mut two, 0, 16);
     assert!(rt; two.units() == 0);
     ask(
@@ -167,7 +167,7 @@ fn second_reaped<N: Name, R: Abort + Wait + AllocGlobal>(rt: &R, ground: Ground,
     retire(rt, &system, one);
     reaps(rt, &system, &mut two, 1, 0);
     reaps(rt, &system, &mut two, 1, 0);
-    system.tick(rt);
+    let _ = system.tick(rt);
     reaps(rt, &system, &mut two, 0, 0);
     reaps(rt, &system, &mut two, 1, 16);
     ask(
@@ -245,7 +245,7 @@ fn shut_goes_on(rt: HostRuntime) -> Result<(), Fail> {
 }
 
 /// A CPU still has a round of the second arena's first span when the system is shut, and is retired
-/// then.
+/// then. The spans below and above that one are closed before.
 fn goes_on<N: Name, R: Abort + Wait + AllocGlobal>(rt: &R, ground: Ground, setup: Setup)
     requires { ground ≡ N.table }
 {
@@ -260,6 +260,7 @@ fn goes_on<N: Name, R: Abort + Wait + AllocGlobal>(rt: &R, ground: Ground, setup
     ask_each(rt, &system, &mut one, &rows);
     assert!(rt; one.units() == 1);
     grow(rt, &system, 1, 0, 64);
+    grow(rt, &system, 1, 128, 64);
     grow(rt, &system, 0, 8, 8);
     let halted = halt(rt, system);
     assert!(rt; halted.segment().is_none());
@@ -269,7 +270,7 @@ fn goes_on<N: Name, R: Abort + Wait + AllocGlobal>(rt: &R, ground: Ground, setup
         Err(cpu) => stuck(rt, cpu),
     }
     match halted.again(rt) {
-        Ok(arenas) => have_each(rt, &arenas, &[(0, 8), (8, 8), (64, 64), (0, 64)]),
+        Ok(arenas) => have_each(rt, &arenas, &[(0, 8), (8, 8), (64, 64), (0, 64), (128, 64)]),
         Err(fault) => stuck(rt, fault),
     }
 }

@@ -150,7 +150,7 @@ fn tend<N: Name, R: Abort + Wait + Clock + AllocGlobal>(
         let line = tended.client.send(op).expect(rt, "a line");
         tended.answer(rt, system, &mut cpu, &line);
         if tended.lines % 64 == 0 {
-            system.tick(rt);
+            let _ = system.tick(rt);
             system.reap(rt, &mut cpu, (seed % 3) as u32, 1024);
         }
     }
