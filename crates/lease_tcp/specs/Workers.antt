@@ -2,7 +2,6 @@
 use Rattle.std.specs.Prelude.{◌≡◌, ◌<◌, ◌⊎◌, ℕ, Bool, true, false, List, Option, Some, IfSome}
 use Rattle.std.specs.Prelude.{length}
 use Rattle.arena_tree.specs.declared.trees.TreeArena.{TreeArena}
-use Rattle.deed_core.specs.Tag.{Tag}
 use Rattle.lease_book.specs.Receipts.{ReceiptState}
 use Rattle.lease_proto.specs.declared.lines.Line.{Line}
 use Rattle.lease_proto.specs.declared.replies.Reply.{Reply}
@@ -38,18 +37,17 @@ moves_units (Granted grant) = true
 moves_units (Released id) = true
 moves_units _ = false
 
--- the system over these arenas may answer the line so, by a CPU with this hand: with some receipt or
--- none, the line's list of steps was gone through, after the hand before it was emptied
-abbrev pub IsAnswer : (D : Type 0) → List TreeArena → (hand : Option Tag) → Line
-    → (after : Option Tag) → Reply → Type 0
-IsAnswer D arenas hand line after reply = (receipt : Option ReceiptState) × (is_new : Bool)
-    × RunsNewly D arenas hand line after reply receipt is_new
+-- the system over these arenas may answer the line so, by a CPU that this changes: with some receipt
+-- or none, the line's list of steps was gone through, after the CPU's hand was emptied
+abbrev pub IsAnswer : (D : Type 0) → List TreeArena → (old new : CpuState) → Line → Reply → Type 0
+IsAnswer D arenas old new line reply = (receipt : Option ReceiptState) × (is_new : Bool)
+    × RunsNewly D arenas old.hand line new.hand reply receipt is_new
     × IsAnswerTo arenas line reply receipt
 
 -- The system may answer the line so. The arenas and the CPU stay; where the CPU's hand can't be
 -- placed the reply is `again`.
 abbrev pub MayReply : (D : Type 0) → SystemWorkerState → Line → Reply → SystemWorkerState → Type 0
-MayReply D old line reply new = IsAnswer D old.arenas old.cpu.hand line new.cpu.hand reply
+MayReply D old line reply new = IsAnswer D old.arenas old.cpu new.cpu line reply
     × IfSome new.cpu.hand (λ _. IsAgain reply) × (new.arenas ≡ old.arenas)
     × StaysCpu old.cpu new.cpu
 
@@ -94,5 +92,5 @@ MayTidy old new = Tidies count_of_arenas MayDrain MayReap MayTick old new
 
 -- The same of a worker that shares its CPUs, of which its arenas are seen: whichever CPU does it.
 abbrev pub MayShareReply : (D : Type 0) → List TreeArena → Line → Reply → List TreeArena → Type 0
-MayShareReply D old line reply new = (hand : Option Tag) × (after : Option Tag)
-    × IsAnswer D old hand line after reply × (new ≡ old)
+MayShareReply D old line reply new = (before : CpuState) × (after : CpuState)
+    × IsAnswer D old before after line reply × (new ≡ old)
