@@ -155,7 +155,8 @@ impl Desk {
     }
 }
 
-/// Replies to the line of a client.
+/// Replies to the line of a client. (It is inlined, so that the reply is made where it is written.)
+#[inline(always)]
 fn reply(supply: &mut Supply, book: &mut Book<PlainDeed>, line: &Line) -> Reply
     requires picture { IsPicture (picture_with book.old supply.old) }
     ensures picture { IsPicture (picture_with book.new supply.new) }

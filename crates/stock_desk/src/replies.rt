@@ -60,8 +60,9 @@ fn settled(tree: &Tree, id: RequestId, reply: KeptReply) -> Reply
     }
 }
 
-/// The reply that the book's answer is.
-#[cold]
+/// The reply that the book's answer is. (It is inlined, so that a line that the book doesn't answer
+/// lays out no answer in memory.)
+#[inline(always)]
 fn answered(tree: &Tree, id: RequestId, answer: &Answer<PlainDeed>) -> Reply
     requires { CanName tree.now answer.now }
     ensures { result ≡ reply_to_answer (arena_named tree.now) id answer.now }
