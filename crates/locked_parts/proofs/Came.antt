@@ -16,9 +16,6 @@ use Rattle.arena_tree.specs.declared.part_faults.FreshFault.{FreshFault}
 use Rattle.arena_tree.specs.declared.part_faults.PartFault.TheVariants as asking
 use Rattle.arena_tree.specs.declared.part_faults.GivenFault.TheVariants as giving
 use Rattle.arena_tree.specs.Events.{AnswerTo, Carve, Free, AddCarve, SlabTake, SlabPut, SlabAdd, SlabReap, SwapFull, SwapEmpty, SwapFresh, DepotReap}
-use Rattle.arena_tree.specs.declared.part_faults.PartFault.{PartFault}
-use Rattle.arena_tree.specs.declared.part_faults.GivenFault.{GivenFault}
-use Rattle.arena_tree.specs.declared.part_faults.Stopped.{Stopped}
 use Rattle.arena_tree.specs.Tags.{wording_of, tag_ok, tag_all, tag_free, tag_add, tag_put, tag_slab}
 use Rattle.locked_parts.specs.Kinds.{OwnCacheState}
 use Rattle.locked_parts.specs.Owns.{cache_of}

@@ -1,5 +1,5 @@
 -- What a depot under its lock answered to a CPU of its cache.
-use Rattle.std.proofs.Common.{◌≡◌, Result, Ok, Err, refl, ap, sym, ◌∙◌}
+use Rattle.std.proofs.Common.{◌≡◌, Result, Ok, Err, refl, ap}
 use Rattle.magazine_layer.specs.Magazines.{CpuCacheState, BothEmpty, BothFull}
 use Rattle.magazine_layer.specs.Depots.{DepotState}
 use Rattle.magazine_layer.specs.Calls.{SwapFullOf, SwapEmptyOf}

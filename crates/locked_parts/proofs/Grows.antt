@@ -1,7 +1,5 @@
 -- What a grow is answered, and which roots are handed over.
-use Rattle.std.proofs.Common.{◌≡◌, ℕ, ◌+◌, ◌*◌, ◌/◌, ◌<◌, ◌≤◌, sym, ◌∙◌, List, [], ◌++◌, length, Result, Ok, Err, OnOk, OnErr, arith}
-use Rattle.std.proofs.lemmas.List.{append-nil}
-use Rattle.std.proofs.lemmas.List.Elements.{All-nil}
+use Rattle.std.proofs.Common.{◌≡◌, ℕ, ◌+◌, ◌*◌, ◌/◌, ◌<◌, ◌≤◌, ◌∙◌, List, ◌++◌, length, Result, Ok, Err, arith}
 use Rattle.deed_core.specs.Holding.{Holding}
 use Rattle.deed_table.specs.Opened.{OpenedState, RunFrom}
 use Rattle.arena_tree.specs.declared.limits.TheConstants.{MOST_SPANS}

@@ -23,6 +23,12 @@ pub record ArenaPartState : Type 0 where
   pub roots : OpenedState
   pub beside : ℕ
 
+-- all but the arena is as it was
+pub record StaysButArena (old new : ArenaPartState) : Type 0 where
+  pub source : new.source ≡ old.source
+  pub roots : new.roots ≡ old.roots
+  pub beside : new.beside ≡ old.beside
+
 -- all that it imported is of its source
 abbrev pub ImportsItsOwn : ArenaPartState → Type 0
 ImportsItsOwn p = All (λ t. p.source ≡ Some t.arena) p.arena.imported

@@ -14,7 +14,7 @@ ghost use Rattle.std.specs.Option.{option_map};
 ghost use Rattle.arena_tree.specs.Chains.{Node, quantum_in, source_of};
 ghost use Rattle.arena_tree.specs.Events.{Carve, Free, AddCarve};
 ghost use Rattle.arena_tree.specs.Tags.{wording_of};
-ghost use Rattle.locked_parts.specs.Answers.{AnswersSoundly};
+ghost use Rattle.locked_parts.specs.Answers.{AnswersSoundly, StaysButArena};
 ghost use Rattle.locked_parts.specs.Growing.{CanGrow, HasRootsMore, IsOfArena, PartGrew};
 ghost use Rattle.locked_parts.specs.Growing.{IsGrowthBy, RefusesGrow};
 ghost use Rattle.locked_parts.specs.Saying.{IsOtherArena, arena_said};
@@ -33,7 +33,8 @@ use std::marker::Model;
 use tag_arena::{Arena, ArenaFault, RangeFault, SpanFault};
 
 /// An arena, the number of its source, if it has one, its further roots with their opener, and how
-/// many of its roots stand beside the lock. It keeps room for the end of all these.
+/// many roots it counts beside its lock: those of the setup, none once all were handed over. It
+/// keeps room for the end of all these.
 pub(crate) struct ArenaPart<N: Name> {
     pub(crate) source: Option<u32>,
     pub(crate) arena: Arena<SeatDeed<N>>,
@@ -138,6 +139,7 @@ impl<N: Name> ArenaPart<N> {
             CarveOf self.old.arena request.now (Ok t) self.new.arena) }
         ensures refused { IfErr result (λ f. self.old.arena.id ≡ id
             → self.old.arena.quantum ≡ quantum → RefusesCarve self.old.arena request.now f) }
+        ensures rest { StaysButArena self.old self.new }
         ensures unchanged { OnErr result (self.new ≡ self.old) }
     {
         let own = self.arena.id();
@@ -171,6 +173,7 @@ impl<N: Name> ArenaPart<N> {
             FreeOf self.old.arena segment (Ok back) self.new.arena) }
         ensures refused { OnErr result (self.old.source ≡ source
             → ¬ IsTagged self.old.arena segment) }
+        ensures rest { StaysButArena self.old self.new }
         ensures unchanged { OnErr result (self.new ≡ self.old) }
     {
         let own = self.arena.id();
@@ -206,6 +209,7 @@ impl<N: Name> ArenaPart<N> {
         ensures refused { IfErr result (λ f. self.old.source ≡ Some span.arena
             → self.old.arena.id ≡ id → self.old.arena.quantum ≡ quantum
             → RefusesSpan self.old.arena span.holding.range span f) }
+        ensures rest { StaysButArena self.old self.new }
         ensures unchanged { OnErr result (self.new ≡ self.old) }
     {
         let own = self.arena.id();
@@ -294,8 +298,7 @@ impl<N: Name> ArenaPart<N> {
 
     /// Moves the further roots of the arena with this number behind those that stand beside the
     /// lock, and gives the list that has room for the ranges of all. It takes no memory. None, with
-    /// nothing done, where another stands here, or there are more beside the lock than it has room
-    /// for.
+    /// nothing done, where another stands here, or more stand beside the lock than it counts there.
     pub(crate) fn hand_over(
         &mut self,
         alloc: Global,
@@ -310,6 +313,8 @@ impl<N: Name> ArenaPart<N> {
         ensures room { IfSome result (λ ranges. (ranges.items ≡ [])
             × (vec_len to.new ≤ vec_capacity ranges)) }
         ensures arena { self.new.arena ≡ self.old.arena }
+        ensures source { self.new.source ≡ self.old.source }
+        ensures counted { OnSome result (self.new.beside ≡ 0) }
         ensures unchanged { IfNone result ((to.new.items ≡ to.old.items) × (self.new ≡ self.old)) }
     {
         if self.arena.id() != id {
@@ -330,7 +335,8 @@ impl<N: Name> ArenaPart<N> {
 
     /// Takes out the lowest owned span that is wholly free.
     pub(crate) fn remove_owned(&mut self) -> Option<SeatDeed<N>>
-        ensures { RemoveOf self.old.arena (option_map (λ d. d) result) self.new.arena }
+        ensures event { RemoveOf self.old.arena (option_map (λ d. d) result) self.new.arena }
+        ensures rest { StaysButArena self.old self.new }
     {
         self.arena.remove_owned()
     }

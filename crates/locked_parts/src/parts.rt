@@ -182,8 +182,8 @@ impl<N: Name> LockedParts<N> {
 
     /// Moves the further roots of the arena with this number behind those that it was made with, in
     /// order of opening, and gives a list that has room for the ranges of all. It takes no memory.
-    /// None, with nothing done, where the arena is ended, or more roots are given than it was made
-    /// with.
+    /// None, with nothing done, where the arena is ended, or more roots are given than it counts
+    /// beside its lock.
     pub fn hand_over<R: Wait>(
         &self,
         rt: &R,

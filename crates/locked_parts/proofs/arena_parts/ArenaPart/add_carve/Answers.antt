@@ -1,5 +1,4 @@
 use Rattle.std.proofs.Common.{rules, ◌≡◌, Some, ap, arith, length}
-use Rattle.deed_core.specs.Request.{plain_of}
 use Rattle.locked_parts.proofs.Imports.{imported_own}
 use Rattle.locked_parts.proofs.Numbers.{numbers_kept}
 use Rattle.locked_parts.proofs.arena_parts.ArenaPart.add_carve.Goals as goal
