@@ -1,5 +1,5 @@
 -- The roots of a system as they are brought together, and their ranges.
-use Rattle.std.proofs.Common.{◌≡◌, ℕ, ◌+◌, ◌/◌, ◌<◌, ◌++◌, inl, inr, List, [], ◌∷◌, Some, None, subst, sym, ap, ◌∙◌, arith, length, append-nil, append_assoc, get_or, set}
+use Rattle.std.proofs.Common.{◌≡◌, ℕ, ◌+◌, ◌/◌, ◌<◌, ◌++◌, inl, inr, List, [], ◌∷◌, Some, subst, sym, ap, ◌∙◌, arith, length, append-nil, append_assoc, get_or, set}
 use Rattle.std.specs.Prelude.{slice_get}
 use Rattle.std.specs.Global.{Vec}
 use Rattle.std.specs.List.Sorted.{IsPermutation}
@@ -13,7 +13,7 @@ use Rattle.deed_core.proofs.LawProofs.{pushed, read_is, slice_get_one, slice_get
 use Rattle.arena_tree.specs.declared.limits.TheConstants.{MOST_SPANS}
 use Rattle.locked_parts.specs.Growing.{HasRootsMore}
 use Rattle.lease_threads.specs.Systems.{SystemState}
-use Rattle.lease_threads.specs.Ends.{AreInTurn, AreRangesFor, AreRangesOf, AreRootsFor, AreRootsIn, InTurn, TellsArena}
+use Rattle.lease_threads.specs.Ends.{AreInTurn, AreRangesOf, AreRootsFor, AreRootsIn, InTurn, TellsArena}
 
 -- the roots of an arena behind which further ones were put, in any order
 pub more_roots : (id : ℕ) (own more all : List Holding) → HasRootsMore id own more → IsPermutation more all → AreRootsFor id own all

@@ -16,7 +16,7 @@ use Rattle.lease_threads.specs.declared.shutting.StoppedAt.TheVariants as stop
 abbrev pub owner_of : Holding → ℕ
 owner_of r = r.root / MOST_SPANS
 
--- less of an arena's roots that are closed before others: the lower ones, since it gives its lowest
+-- more of an arena's roots that are closed before others: the lower ones, since it gives its lowest
 -- span first
 abbrev pub turn_of : Holding → ℕ
 turn_of r = 2 ^ 64 - 1 - r.range.base

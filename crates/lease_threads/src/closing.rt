@@ -1,6 +1,7 @@
 //! How the roots of a system are closed.
 ghost use Rattle.std.specs.Prelude.{◌≡◌, ◌+◌, ◌<◌, [], ◌↔◌, length, None, IfErr, IfSome, OnOk, true};
-ghost use Rattle.std.specs.Prelude.{◌==◌, IfNone, IsTrue, nat_lt, position};
+ghost use Rattle.std.specs.Prelude.{◌==◌, IfNone, IsTrue, Some, nat_lt, position, slice_get};
+ghost use Rattle.deed_core.specs.Holding.{Holding};
 ghost use Rattle.std.specs.List.Sorted.{IsPermutation};
 ghost use Rattle.lease_threads.specs.Ends as ends;
 
@@ -42,21 +43,6 @@ pub(crate) fn close_each<N: Name, R: Wait>(rt: &R, system: &mut System<N>, cpu: 
         }
     }
     are_closed(&system.roots)
-}
-
-/// Whether no arena has a root.
-fn are_closed<N: Name>(roots: &[Vec<Root<N>>]) -> bool
-    ensures { IsTrue result ↔ ends.AreClosed roots.now }
-{
-    roots.iter().all(|roots| roots.is_empty())
-}
-
-/// Where the first arena stands that has a root.
-pub(crate) fn first_open<N: Name>(roots: &[Vec<Root<N>>]) -> Option<usize>
-    ensures first { result ≡ ends.first_open roots.now }
-    ensures within { IfSome result (λ index. index < length roots.now) }
-{
-    roots.iter().position(|roots| roots.len() > 0)
 }
 
 /// The same with the roots of the arena of this number.
@@ -112,6 +98,21 @@ fn close_one<N: Name, R: Wait>(
     }
 }
 
+/// Whether no arena has a root.
+fn are_closed<N: Name>(roots: &[Vec<Root<N>>]) -> bool
+    ensures { IsTrue result ↔ ends.AreClosed roots.now }
+{
+    roots.iter().all(|roots| roots.is_empty())
+}
+
+/// Where the first arena stands that has a root.
+pub(crate) fn first_open<N: Name>(roots: &[Vec<Root<N>>]) -> Option<usize>
+    ensures first { result ≡ ends.first_open roots.now }
+    ensures within { IfSome result (λ index. index < length roots.now) }
+{
+    roots.iter().position(|roots| roots.len() > 0)
+}
+
 /// Closes the root of these that has the deed's number, if the deed is of the whole of it.
 fn close_by<N: Name>(roots: &mut Vec<Root<N>>, deed: SeatDeed<N>) -> Result<(), SeatDeed<N>>
     ensures closed { OnOk result (length roots.new.items + 1 ≡ length roots.old.items) }
@@ -134,6 +135,8 @@ fn close_by<N: Name>(roots: &mut Vec<Root<N>>, deed: SeatDeed<N>) -> Result<(), 
 /// Where a root of this number stands, which is mostly the last; None only where none does.
 fn index_of<N: Name>(roots: &[Root<N>], number: u32) -> Option<usize>
     ensures within { IfSome result (λ index. index < length roots.now) }
+    ensures found { IfSome result
+        (λ index. (r : Holding) × (slice_get roots.now index ≡ Some r) × (r.root ≡ number)) }
     ensures none { IfNone result (position (λ root. root.root == number) roots.now ≡ None) }
 {
     if let Some(root) = roots.last() {
@@ -148,6 +151,8 @@ fn index_of<N: Name>(roots: &[Root<N>], number: u32) -> Option<usize>
 fn first_of<N: Name>(roots: &[Root<N>], number: u32) -> Option<usize>
     ensures first { result ≡ position (λ root. root.root == number) roots.now }
     ensures within { IfSome result (λ index. index < length roots.now) }
+    ensures found { IfSome result
+        (λ index. (r : Holding) × (slice_get roots.now index ≡ Some r) × (r.root ≡ number)) }
 {
     roots.iter().position(|root| root.number() == number)
 }

@@ -1,6 +1,6 @@
 //! What a system does with all that lies in its parts when it ends: leases are ended, depots and
 //! slabs are emptied, and what comes of them goes back to its arena and up the chain.
-ghost use Rattle.std.specs.Prelude.{◌≡◌, None, OnSome, true};
+ghost use Rattle.std.specs.Prelude.{◌≡◌, ◌≢◌, None, IfNone, OnSome, false, true};
 
 use crate::cpus::Cpu;
 use crate::marked_books::NoLease;
@@ -13,7 +13,8 @@ impl<N: Name> System<N> {
     /// Ends all leases, and empties all depots and slabs. Where a segment can't be placed it ends
     /// there, and the segment is in the CPU's hand.
     pub(crate) fn empty_parts<R: Wait>(&self, rt: &R, cpu: &mut Cpu<N>) -> bool
-        ensures { result ≡ true → cpu.new.hand ≡ None }
+        ensures placed { result ≡ true → cpu.new.hand ≡ None }
+        ensures stuck { result ≡ false → cpu.new.hand ≢ None }
     {
         match self.end_leases(rt, cpu) {
             Some(none) => self.reap_all(rt, cpu, none),
@@ -23,7 +24,8 @@ impl<N: Name> System<N> {
 
     /// Ends all leases, one after another, until none stands; None where one wasn't placed.
     fn end_leases<R: Wait>(&self, rt: &R, cpu: &mut Cpu<N>) -> Option<NoLease>
-        ensures { OnSome result (cpu.new.hand ≡ None) }
+        ensures placed { OnSome result (cpu.new.hand ≡ None) }
+        ensures stuck { IfNone result (cpu.new.hand ≢ None) }
     {
         if !self.place_hand(rt, cpu) {
             return None;
@@ -49,7 +51,8 @@ impl<N: Name> System<N> {
     /// each segment was placed.
     fn reap_all<R: Wait>(&self, rt: &R, cpu: &mut Cpu<N>, _none: NoLease) -> bool
         requires { cpu.old.hand ≡ None }
-        ensures { result ≡ true → cpu.new.hand ≡ None }
+        ensures placed { result ≡ true → cpu.new.hand ≡ None }
+        ensures stuck { result ≡ false → cpu.new.hand ≢ None }
     {
         let _ = self.tick(rt);
         let count = self.parts.tree().len() as u32;

@@ -9,10 +9,10 @@ use locked_parts::{LockedParts, NotEmpty};
 use std::sync::Mutex;
 
 /// Ends a system whose roots of arenas are all closed, and closes the root of its book's mark. It
-/// hands the system back where a deed lies in it or a lease stands.
-pub(crate) fn end_parts<N: Name>(system: System<N>) -> Result<(), System<N>>
+/// hands the system back where a deed lies in it or a lease stands, with what was found.
+pub(crate) fn end_parts<N: Name>(system: System<N>) -> Result<(), (System<N>, Left)>
     requires { AreClosed system.roots }
-    ensures unchanged { IfErr result (λ same. same ≡ system) }
+    ensures unchanged { IfErr result (λ same. same.0 ≡ system) }
 {
     let System {
         mut parts,
@@ -26,19 +26,22 @@ pub(crate) fn end_parts<N: Name>(system: System<N>) -> Result<(), System<N>>
             end_lists(roots);
             Ok(())
         }
-        Err((book, _)) => Err(System {
-            parts,
-            roots,
-            told,
-            book,
-        }),
+        Err((book, left)) => {
+            let system = System {
+                parts,
+                roots,
+                told,
+                book,
+            };
+            Err((system, left))
+        }
     }
 }
 
 /// What keeps a system from its end: a part that isn't empty, or a lease. Each is made where it was
 /// found, and nowhere else.
 #[derive(PartialEq, Eq, Debug, Drop)]
-enum Left {
+pub(crate) enum Left {
     Part(NotEmpty),
     Lease(LeaseStands),
 }

@@ -12,8 +12,8 @@
 //! `retire` (retiring) ends a CPU. `shut` (shutting) ends a system: its roots are brought together
 //! from behind the locks and told (gathering), in room that was made for them, all that lies in its
 //! parts is placed (emptying), the roots are closed (closing), and its parts and its book are ended
-//! (ending). Those who watch a system are told what its parts and its book have, each
-//! under its own lock (sums).
+//! (ending). Those who watch a system are told what its parts and its book have, each under its own
+//! lock (sums).
 //!
 //! What contracts see of a system and a CPU stands in `specs/Systems.antt`, what a line may be
 //! answered in `Replying.antt` and `Settling.antt`, that its list of steps was gone through in

@@ -4,7 +4,7 @@ ghost use Rattle.std.specs.Prelude.{IfOk, IfErr, OnOk, vec_len, vec_capacity};
 ghost use Rattle.arena_tree.specs.declared.limits.TheConstants.{MOST_ARENAS, MOST_SPANS};
 ghost use Rattle.arena_tree.specs.declared.limits.TheConstants.{MOST_ROOTS};
 ghost use Rattle.lease_threads.specs.Openings.{IsSystemOf, roots_of, roots_of_first};
-ghost use Rattle.locked_parts.specs.News.{AreMadeAsSet};
+ghost use Rattle.locked_parts.specs.News.{AreMadeAsSet, StandAsSet, locked_of};
 
 use crate::marked_books::MarkedBook;
 use crate::systems::System;
@@ -159,13 +159,12 @@ impl<N: Name> Room<N> {
     {
         let Room {
             count: _,
-            mut arenas,
+            arenas,
             mut roots,
             told,
         } = self;
-        lock_all(made, &mut arenas, &mut roots);
         System {
-            parts: LockedParts::new(alloc, tree, arenas),
+            parts: lock_parts(alloc, tree, made, arenas, &mut roots),
             roots,
             told,
             book: Mutex::new(book),
@@ -185,7 +184,29 @@ impl<N: Name> Room<N> {
     }
 }
 
-/// Puts each arena under its lock, and its roots beside it.
+/// The arenas of the tree under their locks, each in its place, and its roots beside it.
+fn lock_parts<N: Name>(
+    alloc: Global,
+    tree: Tree,
+    made: Vec<NewArena<N>>,
+    mut arenas: Vec<LockedArena<N>>,
+    roots: &mut Vec<Vec<Root<N>>>,
+) -> LockedParts<N>
+    requires none { (arenas.items ≡ []) × (roots.old.items ≡ []) }
+    requires arenas { vec_len made ≤ vec_capacity arenas }
+    requires roots { vec_len made ≤ vec_capacity roots.old }
+    requires count { length made.items ≡ length tree }
+    requires set_up { AreMadeAsSet tree made.items }
+    ensures arenas { result.arenas ≡ tree }
+    ensures stand { StandAsSet tree result.stand }
+    ensures roots { map (λ r. r.items) roots.new.items ≡ roots_of made.items }
+    ensures count { vec_len roots.new ≡ vec_len made }
+{
+    lock_all(made, &mut arenas, roots);
+    LockedParts::new(alloc, tree, arenas)
+}
+
+/// Puts each arena under its lock behind others, and its roots beside it.
 fn lock_all<N: Name>(
     mut made: Vec<NewArena<N>>,
     arenas: &mut Vec<LockedArena<N>>,
@@ -193,6 +214,7 @@ fn lock_all<N: Name>(
 )
     requires arenas { vec_len arenas.old + vec_len made ≤ vec_capacity arenas.old }
     requires roots { vec_len roots.old + vec_len made ≤ vec_capacity roots.old }
+    ensures stand { arenas.new.items ≡ arenas.old.items ++ map locked_of made.items }
     ensures roots { map (λ r. r.items) roots.new.items
         ≡ map (λ r. r.items) roots.old.items ++ roots_of made.items }
     ensures count { vec_len roots.new ≡ vec_len roots.old + vec_len made }
@@ -206,9 +228,10 @@ fn lock_all<N: Name>(
 }
 
 /// Puts the first of the arenas under its lock, and hands out its roots.
-#[tactic(auto, using(crate::proofs::Roots::first_locked))]
+#[tactic(auto, using(crate::proofs::Roots::first_locked, crate::proofs::Roots::first_stands))]
 fn lock_first<N: Name>(made: &mut Vec<NewArena<N>>) -> (LockedArena<N>, Vec<Root<N>>)
     requires { 0 < vec_len made.old }
+    ensures stand { map locked_of made.old.items ≡ result.0 ∷ map locked_of made.new.items }
     ensures roots { roots_of made.old.items ≡ result.1.items ∷ roots_of made.new.items }
     ensures len { vec_len made.new + 1 ≡ vec_len made.old }
 {

@@ -113,7 +113,7 @@ impl<N: Name> Halted<N> {
                     None => unreachable!(),
                 }
             }
-            Err(system) => Err(Halted { told, system, cpu }),
+            Err((system, _)) => Err(Halted { told, system, cpu }),
         }
     }
 

@@ -1,5 +1,5 @@
-use Rattle.std.proofs.Common.{◌≡◌, ◌+◌, ◌<◌, ◌∙◌, ℕ, Some, None, Ok, Err, ap, sym, subst, arith, length, OnSome, IfSome}
-use Rattle.std.specs.Prelude.{Option, Result, ok_or}
+use Rattle.std.proofs.Common.{◌≡◌, ◌+◌, ◌<◌, ◌∙◌, Some, None, Ok, ap, sym, subst, arith, length, OnSome, IfSome}
+use Rattle.std.specs.Prelude.{Option, ok_or}
 use Rattle.std.specs.Global.{Vec}
 use Rattle.deed_core.specs.Extent.{Extent}
 use Rattle.lease_threads.specs.Ends.{AreInTurn, TellsArena}
