@@ -76,7 +76,7 @@ pub use pacing::{Pace, PacedReader, PacedWriter};
 pub use replying::ClientLines;
 pub use rolls::{NotEntered, Roll, SharedStream};
 pub use rounds::{Rounds, keep_rounds};
-pub use seats::{Seat, new_seats};
+pub use seats::{Reaped, Seat, new_seats};
 pub use shared_cpus::SharedCpus;
 pub use shared_workers::SharedWorker;
 pub use shortages::{Overseer, Shortage};
