@@ -1,5 +1,5 @@
 -- What serving a connection leaves.
-use Rattle.std.specs.Prelude.{◌≡◌, [], ℕ, List, false}
+use Rattle.std.specs.Prelude.{◌≡◌, [], false}
 use Rattle.lease_proto.specs.declared.lines.Line.{Line}
 use Rattle.lease_proto.specs.declared.replies.Reply.{Reply}
 use Rattle.lease_server.specs.Intakes.{IntakeState, hand_in}
