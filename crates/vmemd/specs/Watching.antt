@@ -87,10 +87,10 @@ AreArenasSeen arenas seen = (sums : List SystemSums) × AreSumsOfEach arenas (le
     × (seen ≡ arenas_by arenas sums (length arenas))
 
 -- what may be seen of a server that has these arenas
-pub record MaySee (arenas : List TreeArena) (seen : Seen) : Type 0 where
+pub record MaySee (setup : List TreeArena) (seen : Seen) : Type 0 where
   pub version : seen.version ≡ NUMBERS
   pub book : AreBookSums (record { clients = seen.clients; leases = seen.leases })
-  pub arenas : AreArenasSeen arenas seen.arenas.items
+  pub arenas : AreArenasSeen setup seen.arenas.items
 
 -- a lease of a client, in an arena of this name
 abbrev pub row_in : ℕ → LeaseReport → Option (List ℕ) → List LeaseRow
