@@ -1,5 +1,5 @@
 -- A worker of a running system, what it may reply, and how it tidies.
-use Rattle.std.specs.Prelude.{◌≡◌, ◌<◌, ◌⊎◌, ℕ, Bool, true, false, List, Option, Some, IfSome}
+use Rattle.std.specs.Prelude.{◌≡◌, ◌<◌, ◌⊎◌, ℕ, Bool, true, false, List, Option, IfSome}
 use Rattle.std.specs.Prelude.{length}
 use Rattle.arena_tree.specs.declared.trees.TreeArena.{TreeArena}
 use Rattle.lease_book.specs.Receipts.{ReceiptState}
@@ -8,7 +8,7 @@ use Rattle.lease_proto.specs.declared.replies.Reply.{Reply}
 use Rattle.lease_proto.specs.declared.replies.Reply.TheVariants.{Granted, Released}
 use Rattle.lease_tcp.specs.Tidying.{Tidies}
 use Rattle.lease_tcp.specs.declared.system_workers.TheConstants.{REAP_LIMIT}
-use Rattle.lease_threads.specs.Calling.{RunsNewly}
+use Rattle.lease_threads.specs.Calling.{RunsLine}
 use Rattle.lease_threads.specs.Reaping.{KeepsHand, ReapsSoundly}
 use Rattle.lease_threads.specs.Replying.{IsAnswerTo, IsAgain}
 use Rattle.lease_threads.specs.Retiring.{RetiresSoundly}
@@ -41,7 +41,7 @@ moves_units _ = false
 -- or none, the line's list of steps was gone through, after the CPU's hand was emptied
 abbrev pub IsAnswer : (D : Type 0) → List TreeArena → (old new : CpuState) → Line → Reply → Type 0
 IsAnswer D arenas old new line reply = (receipt : Option ReceiptState) × (is_new : Bool)
-    × RunsNewly D arenas old.hand line new.hand reply receipt is_new
+    × RunsLine D arenas old.hand line new.hand reply receipt is_new
     × IsAnswerTo arenas line reply receipt
 
 -- The system may answer the line so. The arenas and the CPU stay; where the CPU's hand can't be
@@ -74,10 +74,6 @@ MayReap old arena new = Stays old new
 pub record ReapedState : Type 0 where
   pub arena : ℕ
   pub reaping : Reaping
-
--- the last one that a seat reaped is this one
-abbrev pub IsReapedLast : ℕ → Option ReapedState → Type 0
-IsReapedLast arena last = (r : ReapedState) × (last ≡ Some r) × (r.arena ≡ arena)
 
 abbrev pub count_of_arenas : SystemWorkerState → ℕ
 count_of_arenas w = length w.arenas

@@ -52,10 +52,14 @@ pub struct Reception<A, H> {
     pub host: H,
 }
 
-/// That no further connection is to be served: `serve_each` and `begin_each` alone make one, once
-/// they found so.
-#[derive(Clone, Copy, Debug, PartialEq, Eq)]
+/// That each connection was served, and none further is to be: `serve_each` alone makes one, once it
+/// found so.
+#[derive(Debug, PartialEq, Eq, Drop)]
 pub struct Served(());
+
+/// The same of something that was begun with each: `begin_each` alone makes one.
+#[derive(Debug, PartialEq, Eq, Drop)]
+pub struct Begun(());
 
 /// The next connection that is accepted, or None once the door is closed: it looks at the door
 /// after each that came, and misses each that couldn't be accepted.
@@ -95,7 +99,7 @@ pub fn begin_each<R: Wait, A: Arrivals, F: FnMut(A::Connection)>(
     rt: &R,
     arrivals: &mut A,
     mut begin: F,
-) -> Served
+) -> Begun
     requires { F.IsAlwaysCallable begin }
     ensures { (last : F) × ServesEach (AcceptsAt A.may_accept) (FindsAt A.may_find)
         (BeginsAt (λ old connection new. F.step old connection tt new)) (MissesAt A.may_miss)
@@ -104,7 +108,7 @@ pub fn begin_each<R: Wait, A: Arrivals, F: FnMut(A::Connection)>(
 {
     for _ in rt.forever() {
         let Some(connection) = next_open(rt, arrivals) else {
-            return Served(());
+            return Begun(());
         };
         begin(connection);
     }

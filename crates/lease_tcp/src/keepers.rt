@@ -87,24 +87,19 @@ fn is_due<C: Clock>(clock: &C, round: Option<Instant>) -> bool {
 struct SharedUpkeep<'a, N: Name, R> {
     rt: &'a R,
     cpus: &'a SharedCpus<'a, N>,
-    /// What came of it that an arena was reaped last.
-    reaped: Option<Reaped>,
-    /// The interval that began last.
-    begun: Option<Interval>,
 }
 
 impl<N: Name, R: Wait> Upkeep for SharedUpkeep<'_, N, R> {
-    ghost use Rattle.std.specs.Prelude.{◌≡◌, ⊤, Some, length};
-    ghost use Rattle.lease_tcp.specs.Workers.{IsReapedLast};
+    ghost use Rattle.std.specs.Prelude.{◌≡◌, length};
 
     ghost arenas = { λ u. length u.cpus.now };
 
-    // (what lies under locks no contract can say)
-    ghost may_drain = { λ _ _. ⊤ };
+    // (its CPUs stay the same ones; of what lies under their locks no contract can say more)
+    ghost may_drain = { λ u v. v.cpus ≡ u.cpus };
 
-    ghost may_reap = { λ _ arena v. IsReapedLast arena v.reaped };
+    ghost may_reap = { λ u _ v. v.cpus ≡ u.cpus };
 
-    ghost may_tick = { λ u v. v.begun ≡ Some (length u.cpus.now) };
+    ghost may_tick = { λ u v. v.cpus ≡ u.cpus };
 
     fn arenas(&self) -> u32 {
         let cpus = self.cpus;
@@ -121,13 +116,13 @@ impl<N: Name, R: Wait> Upkeep for SharedUpkeep<'_, N, R> {
         }
     }
 
-    fn reap(&mut self, arena: u32) {
-        self.reaped = Some(reap_often(self.rt, self.cpus, arena));
+    fn reap(&mut self, arena: u32) -> Reaped {
+        reap_often(self.rt, self.cpus, arena)
     }
 
-    fn tick(&mut self) {
+    fn tick(&mut self) -> Interval {
         let cpus = self.cpus;
-        self.begun = Some(cpus.system.tick(self.rt));
+        cpus.system.tick(self.rt)
     }
 }
 
@@ -135,12 +130,7 @@ impl<N: Name, R: Wait> Upkeep for SharedUpkeep<'_, N, R> {
 /// depot, as `tidy_by` does. It has one seat at a time, and none for longer than one drain or reap
 /// takes.
 pub fn go_round<N: Name, R: Wait>(rt: &R, cpus: &SharedCpus<'_, N>) {
-    let mut upkeep = SharedUpkeep {
-        rt,
-        cpus,
-        reaped: None,
-        begun: None,
-    };
+    let mut upkeep = SharedUpkeep { rt, cpus };
     tidy_by(&mut upkeep);
 }
 

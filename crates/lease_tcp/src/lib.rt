@@ -62,7 +62,7 @@ mod tallies;
 mod tidying;
 mod workers;
 
-pub use arrivals::{Arrivals, Reception, Served, Server, begin_each, next_open, serve_each};
+pub use arrivals::{Arrivals, Begun, Reception, Served, Server, begin_each, next_open, serve_each};
 pub use connections::serve_connection;
 pub use counts::{Counter, count_exchange};
 pub use deadlines::{Deadline, Limited, Side};

@@ -3,7 +3,7 @@ ghost use Rattle.std.specs.Prelude.{◌≡◌, ◌+◌, ◌⊎◌, ◌<◌, ◌�
 ghost use Rattle.std.specs.Prelude.{IfSome, IsTrue, OnOk};
 ghost use Rattle.deed_table.specs.declared.deeds.SeatDeed.{SeatDeed};
 ghost use Rattle.lease_proto.specs.declared.limits.TheConstants.{MOST_CPUS};
-ghost use Rattle.lease_threads.specs.Calling.{RunsNewly};
+ghost use Rattle.lease_threads.specs.Calling.{RunsLine};
 ghost use Rattle.lease_threads.specs.Reaping.{KeepsHand, ReapsSoundly};
 ghost use Rattle.lease_threads.specs.Replying.{IsAgain, IsAnswerTo};
 ghost use Rattle.lease_threads.specs.Retiring.{RetiresSoundly};
@@ -35,7 +35,7 @@ impl<N: Name> Model for Seat<N> {
 }
 
 /// What came of it that a seat reaped the arena of this number. Only `Seat::reap` makes one.
-#[derive(Clone, Copy, PartialEq, Eq, Debug)]
+#[derive(PartialEq, Eq, Debug, Drop)]
 pub struct Reaped {
     arena: u32,
     reaping: Reaping,
@@ -82,7 +82,7 @@ impl<N: Name> Seat<N> {
     /// Answers a line by the system, as that does. Where its CPU's hand can't be placed the reply is
     /// `again`.
     pub fn answer<R: Wait>(&mut self, rt: &R, system: &System<N>, line: &Line) -> Told<N>
-        ensures runs { RunsNewly (SeatDeed N) system.now.arenas self.old.cpu.hand line.now
+        ensures runs { RunsLine (SeatDeed N) system.now.arenas self.old.cpu.hand line.now
             self.new.cpu.hand result.reply result.receipt result.is_new }
         ensures answers { IsAnswerTo system.now.arenas line.now result.reply result.receipt }
         ensures new { result.is_new ≡ true
@@ -92,7 +92,7 @@ impl<N: Name> Seat<N> {
         ensures noted { self.new.has_moved
             ≡ (self.old.has_moved || (result.is_new && moves_units result.reply)) }
     {
-        match system.answer(rt, &mut self.cpu, &OpenGate, line) {
+        match system.request(rt, &mut self.cpu, &OpenGate, line) {
             Ok(told) => {
                 self.has_moved = self.has_moved || told.is_new && moves_units(&told.reply);
                 told

@@ -5,12 +5,13 @@ use crate::arrivals::{Reception, Served, serve_each};
 use crate::doors::Door;
 use crate::loops::TcpEntrance;
 use crate::replying::ClientLines;
+use crate::seats::{Reaped, Seat};
 use crate::shortages::NoOne;
 use crate::tidying::{Upkeep, tidy_by};
 use crate::workers::Worker;
 use deed_table::Name;
 use lease_proto::{Line, Reply};
-use lease_threads::{Cpu, OpenGate, System};
+use lease_threads::{Cpu, Interval, System};
 use std::alloc::Global;
 use std::marker::Model;
 use std::sync::Wait;
@@ -19,12 +20,12 @@ use std::time::Clock;
 /// In how many steps an arena is reaped at a time, at most.
 pub const REAP_LIMIT: u64 = 1024;
 
-/// A worker that answers by a system which others share, over a CPU of its own. `into_cpu` ends it.
-/// A contract sees the arenas of its system and its CPU.
+/// A worker that answers by a system which others share, over a seat of its own. `into_cpu` ends
+/// it. A contract sees the arenas of its system and its CPU.
 pub struct SystemWorker<'a, N: Name, R: Wait> {
     rt: &'a R,
     system: &'a System<N>,
-    cpu: Cpu<N>,
+    seat: Seat<N>,
 }
 
 impl<'a, N: Name, R: Wait> Model for SystemWorker<'a, N, R> {
@@ -32,7 +33,7 @@ impl<'a, N: Name, R: Wait> Model for SystemWorker<'a, N, R> {
 
     ghost Value = { SystemWorkerState };
 
-    ghost view = { λ w. record { arenas = w.system.now.arenas; cpu = w.cpu } };
+    ghost view = { λ w. record { arenas = w.system.now.arenas; cpu = w.seat.cpu } };
 }
 
 impl<'a, N: Name, R: Wait> SystemWorker<'a, N, R> {
@@ -41,7 +42,8 @@ impl<'a, N: Name, R: Wait> SystemWorker<'a, N, R> {
         ensures arenas { result.arenas ≡ system.entry.now.arenas }
         ensures cpu { result.cpu ≡ cpu }
     {
-        SystemWorker { rt, system, cpu }
+        let seat = Seat::new(cpu);
+        SystemWorker { rt, system, seat }
     }
 
     /// Its CPU, with what the CPU's hand and magazines hold.
@@ -51,9 +53,9 @@ impl<'a, N: Name, R: Wait> SystemWorker<'a, N, R> {
         let SystemWorker {
             rt: _,
             system: _,
-            cpu,
+            seat,
         } = self;
-        cpu
+        seat.into_cpu()
     }
 }
 
@@ -66,10 +68,7 @@ impl<N: Name, R: Wait> Worker for SystemWorker<'_, N, R> {
     ghost may_tidy = { MayTidy };
 
     fn reply(&mut self, line: &Line) -> Reply {
-        match self.system.answer(self.rt, &mut self.cpu, &OpenGate, line) {
-            Ok(told) => told.reply,
-            Err(_) => unreachable!(),
-        }
+        self.seat.answer(self.rt, self.system, line).reply
     }
 
     fn tidy(&mut self) {
@@ -93,15 +92,15 @@ impl<N: Name, R: Wait> Upkeep for SystemWorker<'_, N, R> {
     }
 
     fn drain(&mut self) {
-        self.system.drain(self.rt, &mut self.cpu);
+        self.seat.drain(self.rt, self.system);
     }
 
-    fn reap(&mut self, arena: u32) {
-        let _ = self.system.reap(self.rt, &mut self.cpu, arena, REAP_LIMIT);
+    fn reap(&mut self, arena: u32) -> Reaped {
+        self.seat.reap(self.rt, self.system, arena)
     }
 
-    fn tick(&mut self) {
-        let _ = self.system.tick(self.rt);
+    fn tick(&mut self) -> Interval {
+        self.system.tick(self.rt)
     }
 }
 

@@ -5,7 +5,7 @@ ghost use Rattle.lease_proto.specs.Faults.{error_text};
 ghost use Rattle.lease_server.specs.Serving.{WritesFront};
 ghost use Rattle.lease_server.specs.Watching.{inner_of};
 
-use crate::arrivals::{Served, begin_each};
+use crate::arrivals::{Begun, begin_each};
 use crate::houses::House;
 use crate::links::{Link, let_go};
 use crate::loops::{TcpEntrance, serve_begun};
@@ -50,7 +50,7 @@ fn accept_talks<
     N: Name + Send + Sync,
     R: Threads + Wait + Clock + Sync + AllocGlobal,
     O: Overseer,
->(rt: &'s R, scope: &Scope<'s, E>, house: &'s House<'s, N>, overseer: &O) -> Served {
+>(rt: &'s R, scope: &Scope<'s, E>, house: &'s House<'s, N>, overseer: &O) -> Begun {
     let mut entrance = TcpEntrance::new(rt, rt.alloc(), house.door, overseer);
     begin_each(rt, &mut entrance, move |stream| {
         admit(rt, scope, house, overseer, stream);

@@ -1,7 +1,11 @@
 //! How a system is tidied, by whatever does each part of it.
 ghost use Rattle.lease_tcp.specs.Tidying.{ReapsBelow, Tidies};
 
-/// What can tidy a system, part by part.
+use crate::seats::Reaped;
+use lease_threads::Interval;
+
+/// What can tidy a system, part by part. A reap and a tick have to give what only `Seat::reap` and
+/// a walk over the depots make, so that none is left out.
 pub trait Upkeep {
     ghost use Rattle.std.specs.Prelude.{◌≡◌, ℕ};
 
@@ -25,13 +29,16 @@ pub trait Upkeep {
     fn drain(&mut self)
         ensures { may_drain self.old self.new };
 
-    /// Gives back what an arena's caches hold in excess, by a bounded number of steps.
-    fn reap(&mut self, arena: u32)
-        ensures { may_reap self.old arena self.new };
+    /// Gives back what an arena's caches hold in excess, by a bounded number of steps, and tells what
+    /// came of it, or of the last time where it was done several times.
+    fn reap(&mut self, arena: u32) -> Reaped
+        ensures arena { result.arena ≡ arena }
+        ensures reaped { may_reap self.old arena self.new };
 
     /// Begins an interval in each depot.
-    fn tick(&mut self)
-        ensures { may_tick self.old self.new };
+    fn tick(&mut self) -> Interval
+        ensures all { result ≡ arenas self.old }
+        ensures ticked { may_tick self.old self.new };
 }
 
 /// Drains, then reaps each arena, then ticks.
@@ -40,7 +47,7 @@ pub fn tidy_by<U: Upkeep>(upkeep: &mut U)
 {
     upkeep.drain();
     reap_each(upkeep);
-    upkeep.tick();
+    let _ = upkeep.tick();
 }
 
 /// Reaps each arena. Children come before their sources: what they hand back can be reaped there.
@@ -48,6 +55,6 @@ fn reap_each<U: Upkeep>(upkeep: &mut U)
     ensures { ReapsBelow U.may_reap (U.arenas upkeep.old) upkeep.old upkeep.new }
 {
     for arena in (0..upkeep.arenas()).rev() {
-        upkeep.reap(arena);
+        let _ = upkeep.reap(arena);
     }
 }

@@ -36,12 +36,12 @@ module _ (D : Type 0) (arenas : List TreeArena) where
     stops_keeps after d = ends_along (Sound (nodes_of arenas)) (Sound (nodes_of arenas)) (HandsBack D) (IsCallOrStop D) (λ e x s. s) any_back (λ told r. IsAllKept hand (call_left r) told) p [] (Err (calling.Stopped after)) d keeps
 
 pub line_keeps : (D : Type 0) → LineKeeps D
-line_keeps D arenas hand (lines.Hello h) after r w ran = went_keeps D arenas hand (greeting_plan D arenas hand h) (hello_keeps D arenas hand h (MOST_LEASES + 1)) after ran.ended ran.went ran.left
-line_keeps D arenas hand (lines.Request id o) after r w ran = went_keeps D arenas hand (request_plan arenas hand id o) (request_keeps D arenas hand id o) after ran.ended ran.went ran.left
+line_keeps D arenas hand (lines.Hello h) after r w new ran = went_keeps D arenas hand (greeting_plan D arenas hand h) (hello_keeps D arenas hand h (MOST_LEASES + 1)) after ran.0.ended ran.0.went ran.0.left
+line_keeps D arenas hand (lines.Request id o) after r w new ran = went_keeps D arenas hand (request_plan arenas hand id o) (request_keeps D arenas hand id o) after ran.answers.ended ran.answers.went ran.answers.left
 
 pub stopped_line_keeps : (D : Type 0) → StoppedLineKeeps D
 stopped_line_keeps D arenas hand (lines.Hello h) after ran = stops_keeps D arenas hand (greeting_plan D arenas hand h) (hello_keeps D arenas hand h (MOST_LEASES + 1)) after ran
 stopped_line_keeps D arenas hand (lines.Request id o) after ran = stops_keeps D arenas hand (request_plan arenas hand id o) (request_keeps D arenas hand id o) after ran
 
 pub line_no_fit : (D : Type 0) → LineNoFit D
-line_no_fit D arenas hand id o after r w tree ran = ends_along (Sound (nodes_of arenas)) (AnswersSoundly (nodes_of arenas)) (λ k x. Unit {0}) (IsLockedCall D) (λ e x s. s.0) (λ k x is. tt) (λ told a. AskedAfter (NoFitAfter arenas o) told) (request_plan arenas hand id o) [] ran.ended ran.went (no_fit_is_last D arenas hand id o tree)
+line_no_fit D arenas hand id o after r w new tree ran = ends_along (Sound (nodes_of arenas)) (AnswersSoundly (nodes_of arenas)) (λ k x. Unit {0}) (IsLockedCall D) (λ e x s. s.0) (λ k x is. tt) (λ told a. AskedAfter (NoFitAfter arenas o) told) (request_plan arenas hand id o) [] ran.answers.ended ran.answers.went (no_fit_is_last D arenas hand id o tree)

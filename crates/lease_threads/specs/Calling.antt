@@ -171,20 +171,13 @@ pub record GreetsBy (D : Type 0) (arenas : List TreeArena) (h : HelloLine)
   pub told : r ≡ greeting_end h ended
 
 -- the line's list of steps was gone through, after the hand before it was emptied, and the line is
--- answered by what it ended with, and the hand after it has what that left
+-- answered by what it ended with, and the hand after it has what that left; and it is told as new
+-- just where it was settled on that way
 abbrev pub RunsLine : (D : Type 0) → List TreeArena → (hand : Option Tag) → Line
-    → (after : Option Tag) → Reply → Option ReceiptState → Type 0
-RunsLine D arenas hand (lines.Hello h) after r w =
-    GreetsBy D arenas h (greeting_plan D arenas hand h) after r
-RunsLine D arenas hand (lines.Request id o) after r w =
-    AnswersBy {D = D} arenas id (request_plan arenas hand id o) after r w
-
--- and it is told as new just where it was settled on that way
-abbrev pub RunsNewly : (D : Type 0) → List TreeArena → (hand : Option Tag) → Line
     → (after : Option Tag) → Reply → Option ReceiptState → (new : Bool) → Type 0
-RunsNewly D arenas hand (lines.Hello h) after r w new =
-    RunsLine D arenas hand (lines.Hello h) after r w × (new ≡ false)
-RunsNewly D arenas hand (lines.Request id o) after r w new =
+RunsLine D arenas hand (lines.Hello h) after r w new =
+    GreetsBy D arenas h (greeting_plan D arenas hand h) after r × (new ≡ false)
+RunsLine D arenas hand (lines.Request id o) after r w new =
     AnswersNewly {D = D} arenas id (request_plan arenas hand id o) after r w new
 
 -- the same of one that was stopped, which isn't answered

@@ -1,6 +1,6 @@
 -- A system that comes to its end, and what is left of one that doesn't.
-use Rattle.std.specs.Prelude.{◌≡◌, ℕ, ◌-◌, ◌^◌, ◌/◌, ◌<◌, ◌++◌, List, [], All, AllPairs}
-use Rattle.std.specs.Prelude.{length, map, nat_lt, position, slice_get, Option, Some, None}
+use Rattle.std.specs.Prelude.{◌≡◌, ◌≢◌, ◌==◌, ◌⊎◌, ℕ, ◌-◌, ◌^◌, ◌/◌, ◌<◌, ◌++◌, List, [], All}
+use Rattle.std.specs.Prelude.{AllPairs, length, map, nat_lt, position, slice_get, Option, Some, None}
 use Rattle.std.specs.Global.{Vec}
 use Rattle.std.specs.List.Sorted.{IsPermutation, IsNonDecreasingBy}
 use Rattle.deed_core.specs.Extent.{Extent}
@@ -70,6 +70,12 @@ TellsArena s id ranges = (own : Vec Holding) → slice_get s.roots id ≡ Some o
 pub record AreRangesOf (s : SystemState) (ranges : List (Vec Extent)) : Type 0 where
   pub for_each : HasForEach s ranges
   pub told : (id : ℕ) (t : Vec Extent) → slice_get ranges id ≡ Some t → TellsArena s id t.items
+
+-- none of these roots has the deed's number, or one that has it isn't the deed's own
+abbrev pub IsOdd : List Holding → Holding → Type 0
+IsOdd roots deed = (position (λ root. root.root == deed.root) roots ≡ None)
+    ⊎ ((index : ℕ) × (root : Holding) × (slice_get roots index ≡ Some root)
+    × (root.root ≡ deed.root) × (root ≢ deed))
 
 -- no arena has a root
 abbrev pub AreClosed : List (Vec Holding) → Type 0

@@ -1,5 +1,5 @@
 -- Laws of lines that a running system answered, or that were stopped in it.
-use Rattle.std.specs.Prelude.{List, [], Option, Err}
+use Rattle.std.specs.Prelude.{List, [], Option, Err, Bool}
 use Rattle.deed_core.specs.Tag.{Tag}
 use Rattle.lease_terms.specs.Requests.{RequestId}
 use Rattle.arena_tree.specs.Sound.{Sound}
@@ -21,14 +21,14 @@ use Rattle.lease_threads.specs.Calling.{RunsLine, StopsLine}
 
 -- what the parts and the book answered on a line's way, the last first
 abbrev pub line_answers : (D : Type 0) (arenas : List TreeArena) (hand : Option Tag) (line : Line)
-    (after : Option Tag) (r : Reply) (w : Option ReceiptState)
-    → RunsLine D arenas hand line after r w → List (AnsweredStep D)
-line_answers D arenas hand (lines.Hello h) after r w ran = answers_along
+    (after : Option Tag) (r : Reply) (w : Option ReceiptState) (new : Bool)
+    → RunsLine D arenas hand line after r w new → List (AnsweredStep D)
+line_answers D arenas hand (lines.Hello h) after r w new ran = answers_along
     (AnswersSoundly (nodes_of arenas)) (IsLockedCall D) (greeting_plan D arenas hand h)
-    ran.ended ran.went []
-line_answers D arenas hand (lines.Request id o) after r w ran = answers_along
+    ran.0.ended ran.0.went []
+line_answers D arenas hand (lines.Request id o) after r w new ran = answers_along
     (AnswersSoundly (nodes_of arenas)) (IsLockedCall D) (request_plan arenas hand id o)
-    ran.ended ran.went []
+    ran.answers.ended ran.answers.went []
 
 abbrev pub stopped_answers : (D : Type 0) (arenas : List TreeArena) (hand : Option Tag)
     (line : Line) (after : Option Tag) → StopsLine D arenas hand line after
@@ -44,8 +44,9 @@ stopped_answers D arenas hand (lines.Request id o) after ran = answers_along
 -- went into parts, or was leased, or is in the hand after it.
 abbrev pub LineKeeps : Type 0 → Type 0
 LineKeeps D = (arenas : List TreeArena) (hand : Option Tag) (line : Line) (after : Option Tag)
-    (r : Reply) (w : Option ReceiptState) (ran : RunsLine D arenas hand line after r w)
-    → IsAllKept hand after (line_answers D arenas hand line after r w ran)
+    (r : Reply) (w : Option ReceiptState) (new : Bool)
+    (ran : RunsLine D arenas hand line after r w new)
+    → IsAllKept hand after (line_answers D arenas hand line after r w new ran)
 
 abbrev pub StoppedLineKeeps : Type 0 → Type 0
 StoppedLineKeeps D = (arenas : List TreeArena) (hand : Option Tag) (line : Line)
@@ -55,7 +56,7 @@ StoppedLineKeeps D = (arenas : List TreeArena) (hand : Option Tag) (line : Line)
 -- The book was asked to refuse a request for NoFit only after carves that found none.
 abbrev pub LineNoFit : Type 0 → Type 0
 LineNoFit D = (arenas : List TreeArena) (hand : Option Tag) (id : RequestId) (o : Op)
-    (after : Option Tag) (r : Reply) (w : Option ReceiptState) → IsTree arenas
-    → (ran : RunsLine D arenas hand (lines.Request id o) after r w)
+    (after : Option Tag) (r : Reply) (w : Option ReceiptState) (new : Bool) → IsTree arenas
+    → (ran : RunsLine D arenas hand (lines.Request id o) after r w new)
     → AskedAfter (NoFitAfter arenas o)
-    (line_answers D arenas hand (lines.Request id o) after r w ran)
+    (line_answers D arenas hand (lines.Request id o) after r w new ran)

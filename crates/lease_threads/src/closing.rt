@@ -1,6 +1,6 @@
 //! How the roots of a system are closed.
-ghost use Rattle.std.specs.Prelude.{◌≡◌, ◌+◌, ◌<◌, [], ◌↔◌, length, None, IfErr, IfSome, OnOk, true};
-ghost use Rattle.std.specs.Prelude.{◌==◌, IfNone, IsTrue, Some, nat_lt, position, slice_get};
+ghost use Rattle.std.specs.Prelude.{◌≡◌, ◌+◌, ◌<◌, [], ◌↔◌, length, None, IfErr, IfSome, IsOk};
+ghost use Rattle.std.specs.Prelude.{◌==◌, IfNone, OnErr, OnOk, Some, position, slice_get};
 ghost use Rattle.deed_core.specs.Holding.{Holding};
 ghost use Rattle.std.specs.List.Sorted.{IsPermutation};
 ghost use Rattle.lease_threads.specs.Ends as ends;
@@ -9,7 +9,7 @@ use crate::cpus::Cpu;
 use crate::systems::System;
 use deed_core::{Deed, Route, Segment, insert_reserved};
 use deed_table::{Name, Root, SeatDeed, close};
-use locked_parts::LockedParts;
+use locked_parts::{LockedParts, NotTaken};
 use std::sync::Wait;
 
 /// Puts the roots of an arena in the turn in which they are closed, the last first. An arena gives
@@ -29,28 +29,56 @@ fn turn_of<N: Name>(root: &Root<N>) -> u64
     u64::MAX - root.range().base()
 }
 
+/// Why a root stays open. What each has is made where it was found, and nowhere else.
+#[derive(PartialEq, Eq, Debug, Drop)]
+pub(crate) enum Open {
+    /// No span of its arena is wholly free.
+    NotTaken(NotTaken),
+    /// What was taken out of its arena is of no root.
+    Odd(OddDeed),
+    /// It was passed over.
+    Passed(PassedOver),
+}
+
+/// That no root of a deed's number is the deed's own. Only `close_by` makes one, where it looked.
+#[derive(PartialEq, Eq, Debug, Drop)]
+pub(crate) struct OddDeed(());
+
+/// That an arena has a root. Only `all_closed` makes one, where it found one.
+#[derive(PartialEq, Eq, Debug, Drop)]
+pub(crate) struct PassedOver(());
+
 /// Takes the spans of the roots out of their arenas, one arena after another, and closes each root
-/// by its deed, and says whether that was done with all. A deed that isn't the whole of a root's is
-/// in the hand.
-pub(crate) fn close_each<N: Name, R: Wait>(rt: &R, system: &mut System<N>, cpu: &mut Cpu<N>) -> bool
+/// by its deed, up to one that stays open. A deed that isn't the whole of a root's is in the hand.
+pub(crate) fn close_each<N: Name, R: Wait>(
+    rt: &R,
+    system: &mut System<N>,
+    cpu: &mut Cpu<N>,
+) -> Result<(), Open>
     requires hand { cpu.old.hand ≡ None }
     ensures arenas { system.new.arenas ≡ system.old.arenas }
-    ensures all { result ≡ true → ends.AreClosed system.new.roots × (cpu.new.hand ≡ None) }
+    ensures all { OnOk result (ends.AreClosed system.new.roots × (cpu.new.hand ≡ None)) }
 {
     for id in 0..system.tree().len() as u32 {
-        if !close_at(rt, id, system, cpu) {
-            return false;
-        }
+        close_at(rt, id, system, cpu)?;
     }
-    are_closed(&system.roots)
+    match all_closed(&system.roots) {
+        Ok(()) => Ok(()),
+        Err(passed) => Err(Open::Passed(passed)),
+    }
 }
 
 /// The same with the roots of the arena of this number.
-fn close_at<N: Name, R: Wait>(rt: &R, id: u32, system: &mut System<N>, cpu: &mut Cpu<N>) -> bool
+fn close_at<N: Name, R: Wait>(
+    rt: &R,
+    id: u32,
+    system: &mut System<N>,
+    cpu: &mut Cpu<N>,
+) -> Result<(), Open>
     requires within { id < length system.old.arenas }
     requires hand { cpu.old.hand ≡ None }
     ensures arenas { system.new.arenas ≡ system.old.arenas }
-    ensures closed { result ≡ true → cpu.new.hand ≡ None }
+    ensures closed { OnOk result (cpu.new.hand ≡ None) }
 {
     close_all(rt, &system.parts, id, &mut system.roots[id as usize], cpu)
 }
@@ -62,16 +90,14 @@ fn close_all<N: Name, R: Wait>(
     id: u32,
     roots: &mut Vec<Root<N>>,
     cpu: &mut Cpu<N>,
-) -> bool
+) -> Result<(), Open>
     requires hand { cpu.old.hand ≡ None }
-    ensures closed { result ≡ true → (cpu.new.hand ≡ None) × (roots.new.items ≡ []) }
+    ensures closed { OnOk result ((cpu.new.hand ≡ None) × (roots.new.items ≡ [])) }
 {
     'roots: while !roots.is_empty() {
-        if !close_one(rt, parts, id, roots, cpu) {
-            return false;
-        }
+        close_one(rt, parts, id, roots, cpu)?;
     }
-    true
+    Ok(())
 }
 
 /// The same with one of them.
@@ -81,28 +107,33 @@ fn close_one<N: Name, R: Wait>(
     id: u32,
     roots: &mut Vec<Root<N>>,
     cpu: &mut Cpu<N>,
-) -> bool
+) -> Result<(), Open>
     requires hand { cpu.old.hand ≡ None }
-    ensures closed { result ≡ true → (cpu.new.hand ≡ None)
-        × (length roots.new.items + 1 ≡ length roots.old.items) }
+    ensures closed { OnOk result ((cpu.new.hand ≡ None)
+        × (length roots.new.items + 1 ≡ length roots.old.items)) }
 {
-    let Some(deed) = parts.remove_owned(rt, id) else {
-        return false;
+    let deed = match parts.remove_owned(rt, id) {
+        Ok(deed) => deed,
+        Err(why) => return Err(Open::NotTaken(why)),
     };
     match close_by(roots, deed) {
-        Ok(()) => true,
-        Err(deed) => {
+        Ok(()) => Ok(()),
+        Err((deed, odd)) => {
             cpu.hold(Segment::new(id, Route::Direct, deed));
-            false
+            Err(Open::Odd(odd))
         }
     }
 }
 
-/// Whether no arena has a root.
-fn are_closed<N: Name>(roots: &[Vec<Root<N>>]) -> bool
-    ensures { IsTrue result ↔ ends.AreClosed roots.now }
+/// Looks that no arena has a root.
+fn all_closed<N: Name>(roots: &[Vec<Root<N>>]) -> Result<(), PassedOver>
+    ensures { IsOk result ↔ ends.AreClosed roots.now }
 {
-    roots.iter().all(|roots| roots.is_empty())
+    if roots.iter().all(|roots| roots.is_empty()) {
+        Ok(())
+    } else {
+        Err(PassedOver(()))
+    }
 }
 
 /// Where the first arena stands that has a root.
@@ -114,20 +145,25 @@ pub(crate) fn first_open<N: Name>(roots: &[Vec<Root<N>>]) -> Option<usize>
 }
 
 /// Closes the root of these that has the deed's number, if the deed is of the whole of it.
-fn close_by<N: Name>(roots: &mut Vec<Root<N>>, deed: SeatDeed<N>) -> Result<(), SeatDeed<N>>
+fn close_by<N: Name>(
+    roots: &mut Vec<Root<N>>,
+    deed: SeatDeed<N>,
+) -> Result<(), (SeatDeed<N>, OddDeed)>
     ensures closed { OnOk result (length roots.new.items + 1 ≡ length roots.old.items) }
-    ensures handed_back { IfErr result (λ same. same ≡ deed) }
+    ensures odd { OnErr result (ends.IsOdd roots.old.items deed) }
+    ensures handed_back { IfErr result (λ same. same.0 ≡ deed) }
+    ensures unchanged { OnErr result (roots.new.items ≡ roots.old.items) }
 {
     let number = deed.root();
     let Some(index) = index_of(roots, number) else {
-        return Err(deed);
+        return Err((deed, OddDeed(())));
     };
     let root = roots.remove(index);
     match close(root, deed) {
         Ok(_) => Ok(()),
         Err((root, deed)) => {
             insert_reserved(roots, index, root);
-            Err(deed)
+            Err((deed, OddDeed(())))
         }
     }
 }

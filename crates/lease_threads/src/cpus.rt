@@ -1,10 +1,10 @@
 //! The CPU of a worker.
 ghost use Rattle.std.specs.Prelude.{◌≡◌, ◌-◌, ◌^◌, ◌≤◌, ◌↔◌, All, Some, None, min};
-ghost use Rattle.std.specs.Prelude.{map, IfOk, IfSome, IsTrue};
+ghost use Rattle.std.specs.Prelude.{map, IfErr, IfOk, IfSome, IsOk, IsTrue};
 ghost use Rattle.magazine_layer.specs.Magazines.{BothEmpty};
 ghost use Rattle.lease_proto.specs.declared.limits.TheConstants.{MOST_CPUS};
 ghost use Rattle.locked_parts.specs.Kinds.{kinds_of, new_own};
-ghost use Rattle.lease_threads.specs.Systems.{cpu_units};
+ghost use Rattle.lease_threads.specs.Systems.{HoldsNothing, cpu_units};
 
 use crate::systems::System;
 use deed_core::Segment;
@@ -22,6 +22,11 @@ pub struct Cpu<N: Name> {
     pub(crate) hand: Option<Segment<SeatDeed<N>>>,
     pub(crate) caches: Vec<OwnCache<SeatDeed<N>>>,
 }
+
+/// That a CPU has a segment in its hand or its magazines. Only `Cpu::end` makes one, where it found
+/// some.
+#[derive(PartialEq, Eq, Debug, Drop)]
+pub(crate) struct HasSome(());
 
 impl<N: Name> Model for Cpu<N> {
     ghost use Rattle.lease_threads.specs.Systems.{CpuState};
@@ -109,26 +114,38 @@ impl<N: Name> Cpu<N> {
     }
 
     /// Whether no round is left in its magazines.
-    pub(crate) fn is_drained(&self) -> bool
+    fn is_drained(&self) -> bool
         ensures { IsTrue result ↔ All (λ r. BothEmpty r.cpu) self.now.caches }
     {
         self.caches.iter().all(|own| own.is_empty())
     }
 
-    /// Ends it, with an empty hand and no round.
-    pub(crate) fn end(self)
-        requires hand { self.hand ≡ None }
-        requires drained { All (λ r. BothEmpty r.cpu) self.caches }
+    /// Ends one with an empty hand and no round; another comes back.
+    pub(crate) fn end(self) -> Result<(), (Cpu<N>, HasSome)>
+        ensures exactly { IsOk result ↔ HoldsNothing self }
+        ensures handed_back { IfErr result (λ same. same.0 ≡ self) }
     {
+        if !self.is_drained() {
+            return Err((self, HasSome(())));
+        }
         let Cpu {
-            number: _,
+            number,
             hand,
             caches,
         } = self;
-        end_rounds(caches);
         match hand {
-            None => {}
-            Some(_) => unreachable!(),
+            None => {
+                end_rounds(caches);
+                Ok(())
+            }
+            Some(segment) => {
+                let cpu = Cpu {
+                    number,
+                    hand: Some(segment),
+                    caches,
+                };
+                Err((cpu, HasSome(())))
+            }
         }
     }
 }

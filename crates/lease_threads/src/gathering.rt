@@ -11,12 +11,11 @@ use deed_core::Range;
 use deed_table::{Name, Root};
 use locked_parts::LockedParts;
 use std::alloc::AllocError;
-use std::mem;
 use std::sync::Wait;
 
 /// Takes the roots that `grow` opened from behind the locks, tells the ranges of all by arena, and
-/// puts the roots of each in the turn in which they are closed. Room for that was made before;
-/// where it is missing all the same, those that were taken so far stand with the others.
+/// puts the roots of each in the turn in which they are closed. Room for that was made before. Where
+/// an arena has none all the same, those that were taken so far stand with the others.
 pub(crate) fn gather<N: Name, R: Wait>(
     rt: &R,
     system: &mut System<N>,
@@ -26,13 +25,19 @@ pub(crate) fn gather<N: Name, R: Wait>(
     ensures told { IfOk result (λ told. AreRangesOf system.old told.items) }
     ensures turn { OnOk result (AreInTurn (length system.new.arenas) system.new.roots) }
 {
-    let none = Vec::new(system.parts.alloc());
-    let mut told = mem::replace(&mut system.told, none);
+    let Some(mut told) = system.told.take() else {
+        return Err(AllocError);
+    };
     let count = system.tree().len();
-    told.reserve(count)?;
     for id in 0..count as u32 {
-        let ranges = gather_at(rt, id, system).ok_or(AllocError)?;
-        told.push_reserved(ranges);
+        match gather_at(rt, id, system) {
+            Some(ranges) => told.push_reserved(ranges),
+            None => {
+                told.clear();
+                system.told = Some(told);
+                return Err(AllocError);
+            }
+        }
     }
     Ok(told)
 }

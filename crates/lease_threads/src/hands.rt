@@ -1,5 +1,5 @@
 //! What a request or another call left in a CPU's hand goes back.
-ghost use Rattle.std.specs.Prelude.{◌≡◌, ◌≢◌, None, IfSome, true, false};
+ghost use Rattle.std.specs.Prelude.{◌≡◌, ◌≢◌, None, IfSome, OnOk, OnErr};
 ghost use Rattle.locked_parts.specs.Kinds.{AreForSame};
 ghost use Rattle.lease_threads.specs.Retiring.{IsUnplaced};
 
@@ -11,18 +11,22 @@ use lease_call::place;
 use locked_parts::{OpenGate, Running};
 use std::sync::Wait;
 
+/// That a hand wasn't placed. Only `System::place_hand` makes one, where it tried.
+#[derive(PartialEq, Eq, Debug, Drop)]
+pub(crate) struct Unplaced(());
+
 impl<N: Name> System<N> {
-    /// Frees the hand, if it holds a segment, and says whether it is empty then.
-    pub(crate) fn place_hand<R: Wait>(&self, rt: &R, cpu: &mut Cpu<N>) -> bool
+    /// Frees the hand, if it holds a segment.
+    pub(crate) fn place_hand<R: Wait>(&self, rt: &R, cpu: &mut Cpu<N>) -> Result<(), Unplaced>
         ensures number { cpu.new.number ≡ cpu.old.number }
         ensures magazines { AreForSame cpu.old.caches cpu.new.caches }
-        ensures empty { result ≡ true → cpu.new.hand ≡ None }
-        ensures held_on { result ≡ false → (cpu.old.hand ≢ None) × (cpu.new.hand ≢ None) }
-        ensures unplaced { result ≡ false
-            → IfSome cpu.new.hand (IsUnplaced self.now.arenas cpu.old.hand) }
+        ensures empty { OnOk result (cpu.new.hand ≡ None) }
+        ensures held_on { OnErr result ((cpu.old.hand ≢ None) × (cpu.new.hand ≢ None)) }
+        ensures unplaced { OnErr result
+            (IfSome cpu.new.hand (IsUnplaced self.now.arenas cpu.old.hand)) }
     {
         let Some(segment) = cpu.hand.take() else {
-            return true;
+            return Ok(());
         };
         let tree = self.parts.tree();
         // For its clause: it is a tree.
@@ -30,14 +34,14 @@ impl<N: Name> System<N> {
         let number = cpu.number();
         let mut running = Running::new(&self.parts, rt, &OpenGate, number, &mut cpu.caches);
         match place(&mut running, tree, segment) {
-            Ok(()) => true,
+            Ok(()) => Ok(()),
             Err(ReturnFault::Stuck(segment)) => {
                 cpu.hold(segment);
-                false
+                Err(Unplaced(()))
             }
             Err(ReturnFault::Stopped(segment)) => {
                 cpu.hold(segment);
-                false
+                Err(Unplaced(()))
             }
         }
     }

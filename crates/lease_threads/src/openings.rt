@@ -121,7 +121,7 @@ impl<N: Name> Model for Room<N> {
 
     ghost invariant = { λ r. (vec_len r.arenas ≡ 0) × (r.count ≤ vec_capacity r.arenas)
         × (vec_len r.roots ≡ 0) × (r.count ≤ vec_capacity r.roots)
-        × (vec_len r.told ≡ 0) };
+        × (vec_len r.told ≡ 0) × (r.count ≤ vec_capacity r.told) };
 }
 
 impl<N: Name> Room<N> {
@@ -166,7 +166,7 @@ impl<N: Name> Room<N> {
         System {
             parts: lock_parts(alloc, tree, made, arenas, &mut roots),
             roots,
-            told,
+            told: Some(told),
             book: Mutex::new(book),
         }
     }

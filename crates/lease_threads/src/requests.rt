@@ -6,8 +6,7 @@ ghost use Rattle.lease_call.specs.Kept.{call_left};
 ghost use Rattle.lease_call.specs.Requesting.{request_plan};
 ghost use Rattle.locked_parts.specs.Gates.{MayStop};
 ghost use Rattle.locked_parts.specs.Kinds.{AreForSame};
-ghost use Rattle.lease_threads.specs.Calling.{AnswersNewly, GreetsBy, WentThrough};
-ghost use Rattle.lease_threads.specs.Calling.{RunsLine, RunsNewly};
+ghost use Rattle.lease_threads.specs.Calling.{AnswersNewly, GreetsBy, RunsLine, WentThrough};
 ghost use Rattle.lease_threads.specs.Calling.{IsGreetedSo, IsOutcomeOf, TellsEnd};
 ghost use Rattle.lease_threads.specs.Calling.{greeting_end, end_receipt, greeting_plan};
 ghost use Rattle.lease_threads.specs.Calling.{StopsIn, StopsLine, StopsOrEnds};
@@ -34,37 +33,14 @@ use std::sync::Wait;
 pub(crate) type Ended<N, T> = Result<T, CallFault<Segment<SeatDeed<N>>>>;
 
 impl<N: Name> System<N> {
-    /// Answers one line of a client. The gate is asked before each step; where it says Stop the
-    /// request ends there, and the CPU keeps what that left in its hand, and its magazines. A
-    /// segment that can't be placed stays in the hand: each request tries to place it first, and is
-    /// answered `again` while it can't.
-    #[tactic(auto, using(crate::proofs::Runs::runs_line))]
+    /// Answers one line of a client, and tells whether the line was settled by that. Then a grant is
+    /// of the arena that the line names, by that one's quantum, and for what it asks; what is
+    /// released is the lease of the arena and the base that it names; and a refusal's word may be so.
+    /// What is settled neither now nor before is answered by the book's word, or `again`. The gate is
+    /// asked before each step; where it says Stop the request ends there, and the CPU keeps what that
+    /// left in its hand, and its magazines. A segment that can't be placed stays in the hand: each
+    /// request tries to place it first, and is answered `again` while it can't.
     pub fn request<R: Wait, G: Gate>(
-        &self,
-        rt: &R,
-        cpu: &mut Cpu<N>,
-        gate: &G,
-        line: &Line,
-    ) -> Result<(Reply, Option<Receipt<SeatDeed<N>>>), RequestStopped>
-        ensures runs { IfOk result (λ r.
-            RunsLine (SeatDeed N) self.now.arenas cpu.old.hand line.now cpu.new.hand r.0 r.1) }
-        ensures answers { IfOk result (λ r. IsAnswerTo self.now.arenas line.now r.0 r.1) }
-        ensures number { cpu.new.number ≡ cpu.old.number }
-        ensures magazines { AreForSame cpu.old.caches cpu.new.caches }
-        ensures held { IfOk result (λ r. IfSome cpu.new.hand (λ _. IsAgain r.0)) }
-        ensures stopped { OnErr result (MayStop G.may_stop gate.now) }
-        ensures left { OnErr result
-            (StopsLine (SeatDeed N) self.now.arenas cpu.old.hand line.now cpu.new.hand) }
-    {
-        let told = self.answer(rt, cpu, gate, line)?;
-        Ok((told.reply, told.receipt))
-    }
-
-    /// The same, and tells whether the line was settled by that. Then it is as the line asks: a
-    /// grant is of the arena that it names, by that one's quantum, and for what it asks, and what is
-    /// released is the lease of the arena and the base that it names. What isn't settled is answered
-    /// by the book's word, or `again`.
-    pub fn answer<R: Wait, G: Gate>(
         &self,
         rt: &R,
         cpu: &mut Cpu<N>,
@@ -72,7 +48,7 @@ impl<N: Name> System<N> {
         line: &Line,
     ) -> Result<Told<N>, RequestStopped>
         ensures runs { IfOk result (λ r.
-            RunsNewly (SeatDeed N) self.now.arenas cpu.old.hand line.now cpu.new.hand
+            RunsLine (SeatDeed N) self.now.arenas cpu.old.hand line.now cpu.new.hand
             r.reply r.receipt r.is_new) }
         ensures answers { IfOk result (λ r.
             IsAnswerTo self.now.arenas line.now r.reply r.receipt) }

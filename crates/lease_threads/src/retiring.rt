@@ -23,11 +23,9 @@ impl<N: Name> System<N> {
     {
         let mut cpu = cpu;
         self.drain(rt, &mut cpu);
-        if cpu.hand.is_none() && cpu.is_drained() {
-            cpu.end();
-            Ok(())
-        } else {
-            Err(cpu)
+        match cpu.end() {
+            Ok(()) => Ok(()),
+            Err((cpu, _)) => Err(cpu),
         }
     }
 
@@ -50,7 +48,7 @@ impl<N: Name> System<N> {
         ensures left { RetiresSoundly self.now.arenas cpu.old.hand cpu.new.hand }
         ensures drained { IsDrained self.now.arenas cpu.new }
     {
-        if self.place_hand(rt, cpu) {
+        if self.place_hand(rt, cpu).is_ok() {
             self.drain_rounds(rt, cpu);
         }
     }

@@ -22,24 +22,26 @@ pub(crate) fn owner_of<N: Name>(root: &Root<N>) -> u32
 /// Arenas with their quantum caches, and the book of their leases, each part under a lock of its
 /// own. Workers share it. A contract sees what stands beside the locks: the arenas as they were set
 /// up, and of each the roots of the spans that it was set up with. Those that `grow` opens stand
-/// under the locks, where there is room for the end of all; `told` has room for what the end tells of
-/// each arena. A system is never dropped: `shut` ends it.
+/// under the locks, where there is room for the end of all. `told` is empty, with room for what the
+/// end tells of each arena, until that is told. A system is never dropped: `shut` ends it.
 pub struct System<N: Name> {
     pub(crate) parts: LockedParts<N>,
     pub(crate) roots: Vec<Vec<Root<N>>>,
-    pub(crate) told: Vec<Vec<Range>>,
+    pub(crate) told: Option<Vec<Vec<Range>>>,
     pub(crate) book: Mutex<MarkedBook<N>>,
 }
 
 impl<N: Name> Model for System<N> {
-    ghost use Rattle.std.specs.Prelude.{◌≡◌, length, vec_len};
+    ghost use Rattle.std.specs.Prelude.{◌≡◌, ◌≤◌, IfSome, length, vec_len, vec_capacity};
     ghost use Rattle.lease_threads.specs.Systems.{SystemState};
 
     ghost Value = { SystemState };
 
     ghost view = { λ s. record { arenas = s.parts.arenas; roots = s.roots.items } };
 
-    ghost invariant = { λ s. (vec_len s.roots ≡ length s.parts.arenas) × (vec_len s.told ≡ 0) };
+    ghost invariant = { λ s. (vec_len s.roots ≡ length s.parts.arenas)
+        × IfSome s.told (λ told.
+        (vec_len told ≡ 0) × (length s.parts.arenas ≤ vec_capacity told)) };
 }
 
 impl<N: Name> System<N> {

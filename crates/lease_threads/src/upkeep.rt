@@ -58,7 +58,7 @@ impl<N: Name> System<N> {
         ensures no_arena { length self.now.arenas ≤ arena → (result ≡ unbegun limit)
             × ((cpu.new.hand ≡ None) ⊎ KeepsHand cpu.old.hand cpu.new.hand limit result) }
     {
-        if !self.place_hand(rt, cpu) {
+        if self.place_hand(rt, cpu).is_err() {
             return unbegun(limit);
         }
         self.reap_empty(rt, cpu, arena, limit)

@@ -1,6 +1,6 @@
 //! An arena as its lock keeps it. What lies there when the lock is taken is known by its type
 //! alone, so that each event looks whether it is the arena that is meant.
-ghost use Rattle.std.specs.Prelude.{◌≡◌, ◌≢◌, ◌<◌, ◌≤◌, ◌↔◌, ◌++◌, List, [], Some, Ok, IsOk};
+ghost use Rattle.std.specs.Prelude.{◌≡◌, ◌≢◌, ◌<◌, ◌≤◌, ◌↔◌, ◌++◌, List, [], Some, None, Ok};
 ghost use Rattle.std.specs.Prelude.{IfSome, IfNone, IsSome, OnSome, vec_len, vec_capacity};
 ghost use Rattle.std.specs.Prelude.{true, false};
 ghost use Rattle.std.specs.Prelude.{OnOk, OnErr, IfOk};
@@ -10,7 +10,6 @@ ghost use Rattle.deed_core.specs.Request.{rounding_of, plain_of};
 ghost use Rattle.tag_arena.specs.ArenaState.{ranges_of};
 ghost use Rattle.tag_arena.specs.Calls.{IsTagged, RefusesCarve, RefusesSpan};
 ghost use Rattle.tag_arena.specs.Outcomes.{CarveOf, ImportOf, FreeOf, RemoveOf};
-ghost use Rattle.std.specs.Option.{option_map};
 ghost use Rattle.arena_tree.specs.Chains.{Node, quantum_in, source_of};
 ghost use Rattle.arena_tree.specs.Events.{Carve, Free, AddCarve};
 ghost use Rattle.arena_tree.specs.Tags.{wording_of};
@@ -62,6 +61,11 @@ impl<N: Name> Model for ArenaPart<N> {
         (record { source = p.source; arena = p.arena; roots = p.roots; beside = p.beside })
         p.room };
 }
+
+/// That no owned span of an arena was found to be wholly free, or another arena in its place. Only
+/// `ArenaPart` makes one, where it is asked.
+#[derive(PartialEq, Eq, Debug, Drop)]
+pub struct NoneWhole(());
 
 /// What the arena of this number answered, and at which step it was asked. Only `ArenaPart` makes
 /// one, where it is asked.
@@ -315,6 +319,7 @@ impl<N: Name> ArenaPart<N> {
         ensures arena { self.new.arena ≡ self.old.arena }
         ensures source { self.new.source ≡ self.old.source }
         ensures counted { OnSome result (self.new.beside ≡ 0) }
+        ensures numbers { OnSome result (self.new.roots.left ≡ self.old.roots.left) }
         ensures unchanged { IfNone result ((to.new.items ≡ to.old.items) × (self.new ≡ self.old)) }
     {
         if self.arena.id() != id {
@@ -333,43 +338,22 @@ impl<N: Name> ArenaPart<N> {
         Some(ranges)
     }
 
-    /// Takes out the lowest owned span that is wholly free.
-    pub(crate) fn remove_owned(&mut self) -> Option<SeatDeed<N>>
-        ensures event { RemoveOf self.old.arena (option_map (λ d. d) result) self.new.arena }
+    /// Takes out the lowest owned span that is wholly free, of the arena with this number; another
+    /// is left as it was.
+    pub(crate) fn remove_owned(&mut self, id: u32) -> Result<SeatDeed<N>, NoneWhole>
+        ensures mine { OnOk result (self.old.arena.id ≡ id) }
+        ensures taken { IfOk result (λ d. RemoveOf self.old.arena (Some d) self.new.arena) }
+        ensures none { OnErr result (self.old.arena.id ≡ id
+            → RemoveOf self.old.arena None self.new.arena) }
+        ensures other { self.old.arena.id ≢ id → self.new.arena ≡ self.old.arena }
         ensures rest { StaysButArena self.old self.new }
     {
-        self.arena.remove_owned()
-    }
-
-    /// Ends an arena in which no deed lies and whose further roots were handed out, and hands back
-    /// another.
-    pub(crate) fn close(self) -> Result<(), ArenaPart<N>>
-        ensures exactly { IsOk result ↔ ((self.arena.free ≡ []) × (self.roots.roots ≡ [])) }
-        ensures handed_back { IfErr result (λ same. same ≡ self) }
-    {
-        if !self.roots.roots().is_empty() {
-            return Err(self);
+        if self.arena.id() != id {
+            return Err(NoneWhole(()));
         }
-        let ArenaPart {
-            source,
-            arena,
-            roots,
-            beside,
-            room,
-        } = self;
-        match arena.close() {
-            Ok(()) => {
-                roots.end();
-                room.end();
-                Ok(())
-            }
-            Err(arena) => Err(ArenaPart {
-                source,
-                arena,
-                roots,
-                beside,
-                room,
-            }),
-        }
+        let Some(deed) = self.arena.remove_owned() else {
+            return Err(NoneWhole(()));
+        };
+        Ok(deed)
     }
 }

@@ -31,7 +31,7 @@ pub(crate) trait Depots {
 
 /// That each depot of so many arenas was asked to begin an interval. Only `tick_each` makes one. A
 /// contract sees how many arenas.
-#[derive(Clone, Copy, PartialEq, Eq, Debug)]
+#[derive(PartialEq, Eq, Debug, Drop)]
 pub struct Interval {
     arenas: usize,
 }

@@ -1,5 +1,5 @@
 //! How parts are taken from under their locks and ended.
-ghost use Rattle.std.specs.Prelude.{◌≡◌, [], OnOk, vec_len};
+ghost use Rattle.std.specs.Prelude.{◌≡◌, [], IfErr, OnOk, vec_len};
 
 use crate::kind_depots::KindDepot;
 use crate::not_empty::{NotEmpty, end_depot, end_part, end_slabs};
@@ -84,7 +84,9 @@ fn end_caches<N: Name>(alloc: Global, caches: &mut Vec<LockedCache<N>>) -> Resul
 fn end_cache<N: Name>(
     alloc: Global,
     cache: LockedCache<N>,
-) -> Result<(), (LockedCache<N>, NotEmpty)> {
+) -> Result<(), (LockedCache<N>, NotEmpty)>
+    ensures { IfErr result (λ same. same.0 ≡ cache) }
+{
     let LockedCache { kind, slab, depot } = cache;
     let depot = depot.into_inner();
     let own = depot.kind();

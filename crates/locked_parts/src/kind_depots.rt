@@ -1,5 +1,5 @@
 //! A depot as its lock keeps it, and its exchanges with a CPU.
-ghost use Rattle.std.specs.Prelude.{◌≡◌, ◌≢◌, ◌<◌, ◌↔◌, [], IsOk, IfSome, IfErr};
+ghost use Rattle.std.specs.Prelude.{◌≡◌, ◌≢◌, ◌<◌, [], IfSome};
 ghost use Rattle.std.specs.Prelude.{◌≤◌, ◌-◌, ◌^◌, true, false, None, min};
 ghost use Rattle.deed_core.specs.Covering.{units_tagged};
 ghost use Rattle.magazine_layer.specs.Magazines.{IsSize};
@@ -25,8 +25,8 @@ use std::marker::Model;
 
 /// The magazines of a quantum cache that no CPU has: all their rounds are chunks of it.
 pub(crate) struct KindDepot<D: Deed> {
-    kind: CacheKind,
-    depot: Depot<D>,
+    pub(crate) kind: CacheKind,
+    pub(crate) depot: Depot<D>,
 }
 
 impl<D: Deed> Model for KindDepot<D> {
@@ -301,18 +301,6 @@ impl<D: Deed> KindDepot<D> {
         let round = self.reap();
         *said = depot_says(*kind, step, word_of_given(&round));
         round
-    }
-
-    /// Ends one that has no round, and hands back one that has.
-    pub(crate) fn close(self) -> Result<(), KindDepot<D>>
-        ensures exactly { IsOk result ↔ (depot_rounds self.depot ≡ []) }
-        ensures handed_back { IfErr result (λ same. same ≡ self) }
-    {
-        let KindDepot { kind, depot } = self;
-        match depot.close() {
-            Ok(()) => Ok(()),
-            Err(depot) => Err(KindDepot { kind, depot }),
-        }
     }
 }
 

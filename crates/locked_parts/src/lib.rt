@@ -58,7 +58,7 @@ mod said;
 mod slab_parts;
 mod words;
 
-pub use arena_parts::{ArenaSaid, Grown};
+pub use arena_parts::{ArenaSaid, Grown, NoneWhole};
 pub use depot_walks::Interval;
 pub use gates::{EventName, Gate, NextStep, OpenGate, Pass, RequestStopped, StepCount};
 pub use kind_depots::DepotSaid;
@@ -68,7 +68,7 @@ pub use not_empty::NotEmpty;
 pub use own_caches::OwnCache;
 pub use own_rounds::{end_rounds, new_rounds};
 pub use part_sums::PartSums;
-pub use parts::{LockedArena, LockedParts};
+pub use parts::{ArenaEnded, LockedArena, LockedParts, NotTaken};
 pub use running::Running;
 pub use said::Said;
 pub use slab_parts::SlabSaid;

@@ -8,6 +8,7 @@ ghost use Rattle.locked_parts.specs.News.{BeginsAsSet};
 
 use crate::kind_depots::KindDepot;
 use crate::kinds::CacheKind;
+use crate::not_empty::end_depot;
 use crate::own_caches::FIRST_SIZE;
 use crate::parts::LockedCache;
 use arena_tree::{Tree, TreeArena};
@@ -62,7 +63,7 @@ impl<N: Name> NewCache<N> {
             Ok(()) => {}
             Err(_) => unreachable!(),
         }
-        match depot.close() {
+        match end_depot(depot) {
             Ok(()) => {}
             Err(_) => unreachable!(),
         }

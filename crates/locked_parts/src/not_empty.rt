@@ -19,9 +19,32 @@ pub(crate) fn end_part<N: Name>(part: ArenaPart<N>) -> Result<(), (ArenaPart<N>,
     ensures exactly { IsOk result ↔ ((part.arena.free ≡ []) × (part.roots.roots ≡ [])) }
     ensures handed_back { IfErr result (λ same. same.0 ≡ part) }
 {
-    match part.close() {
-        Ok(()) => Ok(()),
-        Err(part) => Err((part, NotEmpty(()))),
+    if !part.roots.roots().is_empty() {
+        return Err((part, NotEmpty(())));
+    }
+    let ArenaPart {
+        source,
+        arena,
+        roots,
+        beside,
+        room,
+    } = part;
+    match arena.close() {
+        Ok(()) => {
+            roots.end();
+            room.end();
+            Ok(())
+        }
+        Err(arena) => {
+            let part = ArenaPart {
+                source,
+                arena,
+                roots,
+                beside,
+                room,
+            };
+            Err((part, NotEmpty(())))
+        }
     }
 }
 
@@ -41,8 +64,9 @@ pub(crate) fn end_depot<D: Deed>(depot: KindDepot<D>) -> Result<(), (KindDepot<D
     ensures exactly { IsOk result ↔ (depot_rounds depot.depot ≡ []) }
     ensures handed_back { IfErr result (λ same. same.0 ≡ depot) }
 {
+    let KindDepot { kind, depot } = depot;
     match depot.close() {
         Ok(()) => Ok(()),
-        Err(depot) => Err((depot, NotEmpty(()))),
+        Err(depot) => Err((KindDepot { kind, depot }, NotEmpty(()))),
     }
 }

@@ -90,7 +90,7 @@ fn close_all<N: Name, R: Abort + Wait>(rt: &R, parts: &LockedParts<N>, mut roots
     };
     while !roots.is_empty() {
         let root = roots.remove(0);
-        let Some(deed) = parts.remove_owned(rt, 0) else {
+        let Ok(deed) = parts.remove_owned(rt, 0) else {
             stuck(rt, (root, roots))
         };
         match close(root, deed) {

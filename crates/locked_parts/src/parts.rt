@@ -1,6 +1,6 @@
 //! The parts of a system, each under its lock.
-ghost use Rattle.std.specs.Prelude.{◌≡◌, ◌+◌, ◌<◌, IfErr, IfSome, OnErr, OnOk, Err, length, true};
-ghost use Rattle.std.specs.Prelude.{IfOk, IfNone, [], ◌≤◌, vec_len, vec_capacity};
+ghost use Rattle.std.specs.Prelude.{◌≡◌, ◌+◌, ◌<◌, IfErr, IfSome, IsOk, OnErr, OnOk, Err, length, true};
+ghost use Rattle.std.specs.Prelude.{IfOk, IfNone, [], ◌≤◌, ◌↔◌, vec_len, vec_capacity};
 ghost use Rattle.arena_tree.specs.Chains.{quantum_in};
 ghost use Rattle.arena_tree.specs.Trees.{nodes_of};
 ghost use Rattle.locked_parts.specs.Kinds.{count_of_caches, caches_before, AreCachesBefore};
@@ -9,7 +9,7 @@ ghost use Rattle.locked_parts.specs.Growing.{MayRefuseGrow};
 ghost use Rattle.locked_parts.specs.Saying.{HasCache};
 ghost use Rattle.magazine_layer.specs.Magazines.{IsSize};
 
-use crate::arena_parts::{ArenaPart, Grown};
+use crate::arena_parts::{ArenaPart, Grown, NoneWhole};
 use crate::depot_walks::{Interval, resize_each, tick_each};
 use crate::kind_depots::KindDepot;
 use crate::kinds::{CacheKind, cache_count};
@@ -202,10 +202,36 @@ impl<N: Name> LockedParts<N> {
     }
 
     /// Takes the lowest owned span that is wholly free out of the arena with this number.
-    pub fn remove_owned<R: Wait>(&self, rt: &R, arena: u32) -> Option<SeatDeed<N>> {
-        let locked = self.arenas.get(arena as usize)?;
-        locked.part.lock(rt).remove_owned()
+    pub fn remove_owned<R: Wait>(&self, rt: &R, arena: u32) -> Result<SeatDeed<N>, NotTaken> {
+        match self.standing(arena) {
+            Ok(locked) => match locked.part.lock(rt).remove_owned(arena) {
+                Ok(deed) => Ok(deed),
+                Err(none) => Err(NotTaken::NoneWhole(none)),
+            },
+            Err(ended) => Err(NotTaken::Ended(ended)),
+        }
     }
+
+    /// The arena with this number, if it stands.
+    fn standing(&self, arena: u32) -> Result<&LockedArena<N>, ArenaEnded>
+        ensures { IsOk result ↔ (arena < self.now.standing) }
+    {
+        match self.arenas.get(arena as usize) {
+            Some(locked) => Ok(locked),
+            None => Err(ArenaEnded(())),
+        }
+    }
+}
+
+/// That an arena doesn't stand any more. Only `LockedParts` makes one, where it was found so.
+#[derive(PartialEq, Eq, Debug, Drop)]
+pub struct ArenaEnded(());
+
+/// Why no span was taken out of an arena.
+#[derive(PartialEq, Eq, Debug, Drop)]
+pub enum NotTaken {
+    Ended(ArenaEnded),
+    NoneWhole(NoneWhole),
 }
 
 /// How many quantum caches the arenas before each have.

@@ -95,7 +95,7 @@ fn ask<N: Name, R: Abort + Wait + AllocGlobal>(
     wanted: &str,
 ) {
     match system.request(rt, cpu, &OpenGate, &line(rt, text)) {
-        Ok((reply, _)) => same(rt, &reply, wanted),
+        Ok(told) => same(rt, &told.reply, wanted),
         Err(RequestStopped) => panic!(rt; "stopped"),
     }
 }

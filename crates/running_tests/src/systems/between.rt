@@ -5,7 +5,7 @@ use super::{ask, child, cpu, line, made, retire, root, shut};
 use arena_tree::Setup;
 use deed_table::{Ground, Name};
 use lease_proto::Reply;
-use lease_threads::{Cpu, Gate, NextStep, OpenGate, Pass, RequestStopped, System};
+use lease_threads::{Cpu, Gate, LineAnswer, NextStep, OpenGate, Pass, RequestStopped, System};
 use std::alloc::AllocGlobal;
 use std::marker::Brand;
 use std::process::Abort;
@@ -54,7 +54,12 @@ fn leased<N: Name, R: Abort + Wait + AllocGlobal>(
     let number = asked.saturating_add(1);
     let text = format!(in rt.alloc(); "lease 2 1 {number} d 2").expect(rt, "room");
     match system.request(rt, other, &OpenGate, &line(rt, &text)) {
-        Ok((Reply::Granted(granted), _)) => granted.base.get(),
+        Ok(
+            LineAnswer {
+                reply: Reply::Granted(granted),
+                ..
+            },
+        ) => granted.base.get(),
         _ => panic!(rt; "the other CPU isn't served"),
     }
 }
@@ -69,7 +74,12 @@ fn released<N: Name, R: Abort + Wait + AllocGlobal>(
     let number = asked.saturating_add(2);
     let text = format!(in rt.alloc(); "release 2 1 {number} d {base}").expect(rt, "room");
     match system.request(rt, other, &OpenGate, &line(rt, &text)) {
-        Ok((Reply::Released(_), _)) => {}
+        Ok(
+            LineAnswer {
+                reply: Reply::Released(_),
+                ..
+            },
+        ) => {}
         _ => panic!(rt; "the other CPU isn't served"),
     }
 }

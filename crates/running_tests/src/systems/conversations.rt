@@ -9,7 +9,7 @@ use lease_proto::{
     ChildLine, LeaseLine, LeaseOptions, Line, Op, PolicyWord, Reply, RootLine, SetupLine,
 };
 use lease_terms::{ArenaName, ClientId, Ordinal, Quantity, RequestId};
-use lease_threads::{Cpu, OpenGate, System};
+use lease_threads::{Cpu, LineAnswer, OpenGate, System};
 use std::alloc::AllocGlobal;
 use std::marker::Brand;
 use std::process::Abort;
@@ -410,7 +410,12 @@ fn lease_one<N: Name, R: Abort + Wait + AllocGlobal>(
         options: LeaseOptions::none(),
     };
     match system.request(rt, cpu, &OpenGate, &Line::Request(id, Op::Lease(lease))) {
-        Ok((Reply::Granted(grant), _)) => {
+        Ok(
+            LineAnswer {
+                reply: Reply::Granted(grant),
+                ..
+            },
+        ) => {
             assert!(rt; grant.base.get() == number.saturating_sub(1) && grant.len.get() == 1);
         }
         _ => panic!(rt; "no grant"),

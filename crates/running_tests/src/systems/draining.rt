@@ -162,8 +162,8 @@ fn tell<N: Name, R: Abort + Wait>(
     line: &Line,
 ) {
     match system.request(rt, cpu, &OpenGate, line) {
-        Ok((reply, _)) => {
-            client.got(&reply);
+        Ok(told) => {
+            client.got(&told.reply);
         }
         Err(_) => panic!(rt; "an open gate stops nothing"),
     }

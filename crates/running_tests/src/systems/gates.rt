@@ -115,7 +115,7 @@ fn first<N: Name, R: Abort + Wait + Clock + AllocGlobal>(
         answered: &flags.answered,
     };
     match system.request(rt, &mut cpu, &gate, &line(rt, "lease 1 1 1 m 4")) {
-        Ok((reply, _)) => same(rt, &reply, "granted 1 1 1 m 0 4"),
+        Ok(told) => same(rt, &told.reply, "granted 1 1 1 m 0 4"),
         Err(RequestStopped) => panic!(rt; "call 2 wasn't answered beside call 1"),
     }
     retire(rt, system, cpu);

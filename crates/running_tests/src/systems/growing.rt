@@ -9,7 +9,7 @@ use deed_core::Range;
 use deed_table::{Ground, Name};
 use lease_proto::Reply;
 use lease_terms::ArenaName;
-use lease_threads::{Cpu, OpenGate, RequestStopped, System};
+use lease_threads::{Cpu, LineAnswer, OpenGate, RequestStopped, System};
 use std::alloc::AllocGlobal;
 use std::marker::Brand;
 use std::process::Abort;
@@ -128,7 +128,12 @@ fn leased<N: Name, R: Abort + Wait + AllocGlobal>(
 ) -> u64 {
     let lease = format!(in rt.alloc(); "lease {client} 1 {number} m 1").expect(rt, "room");
     match system.request(rt, cpu, &OpenGate, &line(rt, &lease)) {
-        Ok((Reply::Granted(granted), _)) => granted.base.get(),
+        Ok(
+            LineAnswer {
+                reply: Reply::Granted(granted),
+                ..
+            },
+        ) => granted.base.get(),
         Ok(_) => panic!(rt; "no unit"),
         Err(RequestStopped) => panic!(rt; "stopped"),
     }

@@ -57,7 +57,7 @@ fn ask_by<N: Name, R: Abort + Wait + AllocGlobal>(
         ended: &ended,
     };
     match system.request(rt, cpu, &gate, &line(rt, text)) {
-        Ok((reply, _)) => same(rt, &reply, wanted),
+        Ok(told) => same(rt, &told.reply, wanted),
         Err(RequestStopped) => panic!(rt; "stopped"),
     }
     assert!(rt; !astray.load(Ordering::SeqCst), "another step");

@@ -87,7 +87,7 @@ fn told<N: Name, R: Abort + Wait + AllocGlobal>(
     wanted: &str,
     is_new: bool,
 ) {
-    match system.answer(rt, cpu, &OpenGate, &line(rt, text)) {
+    match system.request(rt, cpu, &OpenGate, &line(rt, text)) {
         Ok(told) => {
             same(rt, &told.reply, wanted);
             assert!(rt; told.is_new == is_new, "settled at another time");

@@ -58,7 +58,7 @@ fn late<N: Name, R: Abort + Wait + AllocGlobal>(
     one: &mut Cpu<N>,
     row: &Row,
 ) {
-    match gate.system.answer(rt, one, gate, &line(rt, row.0)) {
+    match gate.system.request(rt, one, gate, &line(rt, row.0)) {
         Ok(told) => {
             same(rt, &told.reply, row.1);
             assert!(rt; !told.is_new, "settled twice");

@@ -212,7 +212,7 @@ impl Tended {
     ) {
         for _ in rt.forever() {
             match system.request(rt, cpu, &OpenGate, line) {
-                Ok((reply, _)) => self.take(&reply),
+                Ok(told) => self.take(&told.reply),
                 Err(RequestStopped) => panic!(rt; "stopped"),
             }
             if self.client.resend().is_err() {

@@ -8,7 +8,7 @@ use deed_core::Range;
 use deed_table::{Ground, Name};
 use lease_proto::{Line, Reply};
 use lease_terms::ArenaName;
-use lease_threads::{Cpu, OpenGate, System};
+use lease_threads::{Cpu, LineAnswer, OpenGate, System};
 use std::alloc::AllocGlobal;
 use std::marker::Brand;
 use std::process::Abort;
@@ -135,10 +135,16 @@ fn answer<N: Name, R: Abort + Wait>(
     let most = cpu.units().saturating_add(MOST_CACHED);
     for _ in 0..2 {
         match system.request(rt, cpu, &OpenGate, line) {
-            Ok((Reply::Again(_), receipt)) => {
+            Ok(
+                LineAnswer {
+                    reply: Reply::Again(_),
+                    receipt,
+                    ..
+                },
+            ) => {
                 assert!(rt; receipt.is_none() && cpu.units() <= most);
             }
-            Ok((reply, _)) => return reply,
+            Ok(told) => return told.reply,
             Err(_) => panic!(rt; "an open gate stops nothing"),
         }
     }

@@ -1,31 +1,32 @@
-use Rattle.std.proofs.Common.{◌≡◌, ◌+◌, ◌<◌, ◌∙◌, Some, None, Ok, ap, sym, subst, arith, length, OnSome, IfSome}
-use Rattle.std.specs.Prelude.{Option, ok_or}
+use Rattle.std.proofs.Common.{◌≡◌, ◌+◌, ◌<◌, ◌∙◌, Some, None, ap, sym, subst, arith, length, OnSome, IfSome}
+use Rattle.std.specs.Prelude.{Option}
 use Rattle.std.specs.Global.{Vec}
 use Rattle.deed_core.specs.Extent.{Extent}
-use Rattle.lease_threads.specs.Ends.{AreInTurn, TellsArena}
+use Rattle.lease_threads.specs.Ends.{AreInTurn, AreRootsIn, TellsArena}
 use Rattle.lease_threads.specs.Systems.{SystemState}
 use Rattle.lease_threads.proofs.Gathered.{roots_later, told_later, told_more}
 use Rattle.lease_threads.proofs.gathering.gather.Goals as goal
 
 -- what was answered, where it was told
-if_told : {E A : Type 0} (told : Option A) (e : E) (t : A) (P : A → Type 0) → ok_or told e ≡ Ok t → IfSome told P → P t
-if_told None e t P is holds = absurd (cc)
-if_told (Some u) e t P is holds = let same : u ≡ t = cc in subst P same holds
+if_told : {A : Type 0} (told : Option A) (t : A) (P : A → Type 0) → told ≡ Some t → IfSome told P → P t
+if_told None t P is holds = absurd (cc)
+if_told (Some u) t P is holds = let same : u ≡ t = cc in subst P same holds
 
-on_told : {E A : Type 0} (told : Option A) (e : E) (t : A) (P : Type 0) → ok_or told e ≡ Ok t → OnSome told P → P
-on_told None e t P is holds = absurd (cc)
-on_told (Some u) e t P is holds = holds
+on_told : {A : Type 0} (told : Option A) (t : A) (P : Type 0) → told ≡ Some t → OnSome told P → P
+on_told None t P is holds = absurd (cc)
+on_told (Some u) t P is holds = holds
 
-pub returns-in_err-ranges-clause-roots : goal.returns-in_err-ranges-clause-roots
-returns-in_err-ranges-clause-roots g c =
-    roots_later c.args.system.now c.loop-id.system c.loop-id.invariant.arenas c.loop-id.invariant.roots c.gather_at.new.system.roots c.gather_at.ensures.roots
+pub returns-in-None-clause-roots : goal.returns-in-None-clause-roots
+returns-in-None-clause-roots g c =
+    subst (λ (s : SystemState). AreRootsIn c.args.system.now s.roots) (sym c.system-in-loop-id.view_is)
+    (roots_later c.args.system.now c.loop-id.system c.loop-id.invariant.arenas c.loop-id.invariant.roots c.gather_at.new.system.roots c.gather_at.ensures.roots)
 
 pub loop-id-preserved : goal.loop-id-preserved
 loop-id-preserved g c =
     let before = c.args.system.now in
     let now = c.loop-id.system in
-    let ranges = c.in_ok-ranges.ranges in
-    let is = sym c.ok_or.ensures.value ∙ c.in_ok-ranges.was in
+    let ranges = c.in-Some-gather_at.ranges in
+    let is = c.in-Some-gather_at.is in
     let count = ap length c.loop-id.invariant.arenas in
     let tree = ap length c.tree.ensures in
     let view = ap (λ (s : SystemState). length s.arenas) c.system.view_is in
@@ -34,10 +35,10 @@ loop-id-preserved g c =
       arenas = c.gather_at.ensures.arenas ∙ c.loop-id.invariant.arenas;
       roots = roots_later before now c.loop-id.invariant.arenas c.loop-id.invariant.roots c.gather_at.new.system.roots c.gather_at.ensures.roots;
       told = told_more before c.loop-id.told.items c.push_reserved.new.self.items ranges c.loop-id.id (sym c.loop-id.told.ok.0 ∙ c.loop-id.invariant.len) c.push_reserved.ensures.items c.loop-id.invariant.told
-          (told_later before now c.loop-id.invariant.arenas c.loop-id.invariant.roots c.loop-id.id ranges.items within (if_told c.gather_at.result _ ranges (λ (t : Vec Extent). TellsArena now c.loop-id.id t.items) is c.gather_at.ensures.told));
+          (told_later before now c.loop-id.invariant.arenas c.loop-id.invariant.roots c.loop-id.id ranges.items within (if_told c.gather_at.result ranges (λ (t : Vec Extent). TellsArena now c.loop-id.id t.items) is c.gather_at.ensures.told));
       len = omega (arith, c.loop-id.invariant.len, c.push_reserved.ensures.len);
       room = omega (arith, c.loop-id.invariant.room, c.push_reserved.ensures.capacity);
-      turn = on_told c.gather_at.result _ ranges (AreInTurn c.loop-id.id now.roots → AreInTurn (c.loop-id.id + 1) c.gather_at.new.system.roots) is c.gather_at.ensures.turn c.loop-id.invariant.turn;
+      turn = on_told c.gather_at.result ranges (AreInTurn c.loop-id.id now.roots → AreInTurn (c.loop-id.id + 1) c.gather_at.new.system.roots) is c.gather_at.ensures.turn c.loop-id.invariant.turn;
     }
 
 pub returns-clause-turn : goal.returns-clause-turn

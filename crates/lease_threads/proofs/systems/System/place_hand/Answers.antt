@@ -24,10 +24,10 @@ returns-in-Err-Stopped-clause-magazines g c = ap (λ (s : CpuState). map (λ (r 
 
 pub returns-in-Err-Stuck-clause-unplaced : goal.returns-in-Err-Stuck-clause-unplaced
 returns-in-Err-Stuck-clause-unplaced g c =
-    λ _. (let same = c.tree-tree.ensures ∙ ap (λ (s : SystemState). s.arenas) c.self.view_is in
+    (let same = c.tree-tree.ensures ∙ ap (λ (s : SystemState). s.arenas) c.self.view_is in
     ran_places _ _ _ _ (λ s. s.steps.noted) (λ s t e x d none. never_stops _ _ _ _ _ _ (λ _ _ no. no) d.0 d.3 none) c.args.self.now.arenas (subst IsTree same c.len.ensures.tree) c.in-Some.segment c.tree-tree.result.now _ _ (tag_return (λ (t : Tag). t) c.place.result) c.place.ensures.ran c.new-running.ensures.unstopped (ap (λ (p : LockedPartsState). nodes_of p.arenas) c.new-running.ensures.parts ∙ ap (λ (s : SystemState). nodes_of s.arenas) c.self.view_is) same c.args.cpu.now.hand c.hold.new.self.hand (sym (ap (λ (s : CpuState). s.hand) c.cpu.view_is) ∙ (sym c.take.ensures.value ∙ c.in-Some.is)) (rw (c.in-Err-Stuck.is, c.in-Err-Stuck.field-0-is) (ap (λ (s : CpuState). s.hand) c.hold.ensures)))
 
 pub returns-in-Err-Stopped-clause-unplaced : goal.returns-in-Err-Stopped-clause-unplaced
 returns-in-Err-Stopped-clause-unplaced g c =
-    λ _. (let same = c.tree-tree.ensures ∙ ap (λ (s : SystemState). s.arenas) c.self.view_is in
+    (let same = c.tree-tree.ensures ∙ ap (λ (s : SystemState). s.arenas) c.self.view_is in
     ran_places _ _ _ _ (λ s. s.steps.noted) (λ s t e x d none. never_stops _ _ _ _ _ _ (λ _ _ no. no) d.0 d.3 none) c.args.self.now.arenas (subst IsTree same c.len.ensures.tree) c.in-Some.segment c.tree-tree.result.now _ _ (tag_return (λ (t : Tag). t) c.place.result) c.place.ensures.ran c.new-running.ensures.unstopped (ap (λ (p : LockedPartsState). nodes_of p.arenas) c.new-running.ensures.parts ∙ ap (λ (s : SystemState). nodes_of s.arenas) c.self.view_is) same c.args.cpu.now.hand c.hold-in-Err-Stopped.new.self.hand (sym (ap (λ (s : CpuState). s.hand) c.cpu.view_is) ∙ (sym c.take.ensures.value ∙ c.in-Some.is)) (rw (c.in-Err-Stopped.is, c.in-Err-Stopped.field-0-is) (ap (λ (s : CpuState). s.hand) c.hold-in-Err-Stopped.ensures)))

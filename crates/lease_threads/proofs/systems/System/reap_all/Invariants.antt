@@ -1,5 +1,5 @@
 use Rattle.std.proofs.Common.{◌≡◌, None}
 use Rattle.lease_threads.proofs.systems.System.reap_all.Given as goal
 
-abbrev pub invariant-loop-below : goal.invariant-loop-below
-invariant-loop-below g l = l.cpu.hand ≡ None
+abbrev pub invariant-loop-arena : goal.invariant-loop-arena
+invariant-loop-arena g l = l.cpu.hand ≡ None
