@@ -1,19 +1,19 @@
 -- The roots of a system as they are brought together, and their ranges.
-use Rattle.std.proofs.Common.{◌≡◌, ℕ, ◌+◌, ◌/◌, ◌<◌, ◌++◌, inl, inr, List, [], ◌∷◌, Some, subst, sym, ap, ◌∙◌, arith, length, append-nil, append_assoc, get_or, set}
+use Rattle.std.proofs.Common.{◌≡◌, ℕ, ◌+◌, ◌/◌, ◌<◌, ◌≤◌, ◌++◌, inl, inr, List, [], ◌∷◌, Some, subst, sym, ap, ◌∙◌, arith, length, append-nil, append_assoc, get_or, set}
 use Rattle.std.specs.Prelude.{slice_get}
 use Rattle.std.specs.Global.{Vec}
 use Rattle.std.specs.List.Sorted.{IsPermutation}
 use Rattle.std.proofs.lemmas.List.{length-set}
-use Rattle.std.proofs.lemmas.List.Elements.{All-append, All-nil}
+use Rattle.std.proofs.lemmas.List.Elements.{All-append, All-from_get_or, All-nil}
 use Rattle.std.proofs.lemmas.List.Sorted.{IsPermutation-append, IsPermutation-refl, IsPermutation-trans}
-use Rattle.std.proofs.lemmas.Option.{slice_get_within}
+use Rattle.std.proofs.lemmas.Option.{slice_get-get_or, slice_get_within}
 use Rattle.deed_core.specs.Extent.{Extent}
 use Rattle.deed_core.specs.Holding.{Holding}
 use Rattle.deed_core.proofs.LawProofs.{pushed, read_is, slice_get_one, slice_get_some, written}
 use Rattle.arena_tree.specs.declared.limits.TheConstants.{MOST_SPANS}
 use Rattle.locked_parts.specs.Growing.{HasRootsMore}
 use Rattle.lease_threads.specs.Systems.{SystemState}
-use Rattle.lease_threads.specs.Ends.{AreInTurn, AreRangesOf, AreRootsFor, AreRootsIn, InTurn, TellsArena}
+use Rattle.lease_threads.specs.Ends.{AreClosed, AreClosedBelow, AreRangesOf, AreRootsFor, AreRootsIn, IsSoBelow, TellsArena}
 
 -- the roots of an arena behind which further ones were put, in any order
 pub more_roots : (id : ℕ) (own more all : List Holding) → HasRootsMore id own more → IsPermutation more all → AreRootsFor id own all
@@ -56,12 +56,18 @@ more_at s id v w count read more = record {
   ];
 }
 
--- the first arenas up to this one are in turn once it is
-pub turn_at : (roots : List (Vec Holding)) (id : ℕ) (w : Vec Holding) → InTurn w.items → AreInTurn id roots → AreInTurn (id + 1) (set roots id w)
-turn_at roots id w turn before k r at within = elim (written roots id k w r at) [
-  | inl is ↦ subst (λ (z : Vec Holding). InTurn z.items) (sym is.1) turn
+-- it is so of the first arenas up to this one once it is of this
+pub so_at : (P : List Holding → Type 0) (roots : List (Vec Holding)) (id : ℕ) (w : Vec Holding) → P w.items → IsSoBelow P id roots → IsSoBelow P (id + 1) (set roots id w)
+so_at P roots id w here before k r at within = elim (written roots id k w r at) [
+  | inl is ↦ subst (λ (z : Vec Holding). P z.items) (sym is.1) here
   | inr there ↦ before k r there.1 (let other = there.0 in omega (arith, within, other))
 ]
+
+-- where those of all arenas are closed, none has a root
+pub closed_all : (roots : List (Vec Holding)) (count : ℕ) → length roots ≤ count → AreClosedBelow count roots → AreClosed roots
+closed_all [] count few below = All-nil (λ (r : Vec Holding). r.items ≡ [])
+closed_all (x ∷ xs) count few below =
+    All-from_get_or (λ (r : Vec Holding). r.items ≡ []) (x ∷ xs) x (λ i within. below i (get_or (x ∷ xs) i x) (slice_get-get_or (x ∷ xs) i x within) (omega (arith, within, few)))
 
 -- what a system tells whose roots are those of another, and further ones
 module _ (s t : SystemState) (arenas : t.arenas ≡ s.arenas) (first : AreRootsIn s t.roots) where

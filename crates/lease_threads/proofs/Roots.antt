@@ -17,7 +17,7 @@ use Rattle.arena_tree.specs.declared.limits.TheConstants.{MOST_SPANS}
 use Rattle.arena_tree.specs.Chains.{quantum_in}
 use Rattle.arena_tree.specs.Trees.{nodes_of}
 use Rattle.locked_parts.specs.Kinds.{kinds_up_to, count_of_caches}
-use Rattle.locked_parts.specs.News.{NewArenaState, IsMadeAsSet, AreMadeAsSet, StandAsSet, locked_of, numbered_from, ranges_owned}
+use Rattle.locked_parts.specs.News.{NewArenaState, IsMadeAsSet, AreMadeAsSet, locked_of, numbered_from, ranges_owned}
 use Rattle.locked_parts.specs.States.{LockedArenaState}
 use Rattle.lease_threads.specs.Ends.{InOrder}
 use Rattle.lease_threads.specs.Openings.{roots_of, roots_of_first}
@@ -54,20 +54,6 @@ first_locked (y ∷ ys) x some is = ap (λ (z : NewArenaState). z.roots ∷ root
 pub first_stands : (made : List NewArenaState) (x : NewArenaState) → 0 < length made → x ≡ slice_index_or made 0 x → map locked_of made ≡ locked_of x ∷ map locked_of (remove made 0)
 first_stands [] x some is = absurd (omega (arith, some))
 first_stands (y ∷ ys) x some is = ap (λ (z : NewArenaState). locked_of z ∷ map locked_of ys) (sym is)
-
--- as they were made, so they stand
-pub stand_as_set : (arenas : List TreeArena) (made : List NewArenaState) (stand : List LockedArenaState) → length made ≡ length arenas → AreMadeAsSet arenas made → stand ≡ map locked_of made → StandAsSet arenas stand
-stand_as_set arenas made stand count all is = record {
-  count = ap length is ∙ length-map made locked_of ∙ count;
-  each = λ k a at. of_made k a (slice_get made k) refl (sym (slice_get-map locked_of made k) ∙ (ap (λ (l : List LockedArenaState). slice_get l k) (sym is) ∙ at));
-}
-  where
-    of_made : (k : ℕ) (a : LockedArenaState) (o : Option NewArenaState) → slice_get made k ≡ o → option_map locked_of (slice_get made k) ≡ Some a → a.kinds ≡ kinds_up_to k (quantum_in (nodes_of arenas) k) (count_of_caches arenas k)
-    of_made k a None none at = (let e : option_map locked_of None ≡ Some a = ap (option_map locked_of) (sym none) ∙ at in absurd (cc))
-    of_made k a (Some x) some at =
-        let e : Some (locked_of x) ≡ Some a = ap (option_map locked_of) (sym some) ∙ at in
-        let same : locked_of x ≡ a = cc in
-        ap (λ (l : LockedArenaState). l.kinds) (sym same) ∙ (all.each k x some).kinds
 
 -- and its roots are put behind others
 pub locked_more : (old new : List (Vec Holding)) (more : Vec Holding) (made rest all : List (List Holding)) → new ≡ old ++ more ∷ [] → made ≡ more.items ∷ rest

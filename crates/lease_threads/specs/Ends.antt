@@ -25,10 +25,18 @@ turn_of r = 2 ^ 64 - 1 - r.range.base
 abbrev pub InTurn : List Holding → Type 0
 InTurn roots = IsNonDecreasingBy turn_of roots
 
--- those of the first arenas, so many, do
+-- it is so of the roots of each of the first arenas, so many
+abbrev pub IsSoBelow : (List Holding → Type 0) → ℕ → List (Vec Holding) → Type 0
+IsSoBelow P count roots = (id : ℕ) (r : Vec Holding) → slice_get roots id ≡ Some r → id < count
+    → P r.items
+
+-- those stand in turn
 abbrev pub AreInTurn : ℕ → List (Vec Holding) → Type 0
-AreInTurn count roots = (id : ℕ) (r : Vec Holding) → slice_get roots id ≡ Some r → id < count
-    → InTurn r.items
+AreInTurn count roots = IsSoBelow InTurn count roots
+
+-- or are closed
+abbrev pub AreClosedBelow : ℕ → List (Vec Holding) → Type 0
+AreClosedBelow count roots = IsSoBelow (λ r. r ≡ []) count roots
 
 -- the roots of the arena of this number: those that it was set up with, and further ones, which
 -- grow opened

@@ -1,5 +1,5 @@
 //! How the roots of a system are closed.
-ghost use Rattle.std.specs.Prelude.{◌≡◌, ◌+◌, ◌<◌, [], ◌↔◌, length, None, IfErr, IfSome, IsOk};
+ghost use Rattle.std.specs.Prelude.{◌≡◌, ◌+◌, ◌<◌, [], length, None, IfErr, IfSome};
 ghost use Rattle.std.specs.Prelude.{◌==◌, IfNone, OnErr, OnOk, Some, position, slice_get};
 ghost use Rattle.deed_core.specs.Holding.{Holding};
 ghost use Rattle.std.specs.List.Sorted.{IsPermutation};
@@ -36,17 +36,11 @@ pub(crate) enum Open {
     NotTaken(NotTaken),
     /// What was taken out of its arena is of no root.
     Odd(OddDeed),
-    /// It was passed over.
-    Passed(PassedOver),
 }
 
 /// That no root of a deed's number is the deed's own. Only `close_by` makes one, where it looked.
 #[derive(PartialEq, Eq, Debug, Drop)]
 pub(crate) struct OddDeed(());
-
-/// That an arena has a root. Only `all_closed` makes one, where it found one.
-#[derive(PartialEq, Eq, Debug, Drop)]
-pub(crate) struct PassedOver(());
 
 /// Takes the spans of the roots out of their arenas, one arena after another, and closes each root
 /// by its deed, up to one that stays open. A deed that isn't the whole of a root's is in the hand.
@@ -59,13 +53,12 @@ pub(crate) fn close_each<N: Name, R: Wait>(
     ensures arenas { system.new.arenas ≡ system.old.arenas }
     ensures all { OnOk result (ends.AreClosed system.new.roots × (cpu.new.hand ≡ None)) }
 {
+    // For its clause: there are roots for each arena.
+    system.check();
     for id in 0..system.tree().len() as u32 {
         close_at(rt, id, system, cpu)?;
     }
-    match all_closed(&system.roots) {
-        Ok(()) => Ok(()),
-        Err(passed) => Err(Open::Passed(passed)),
-    }
+    Ok(())
 }
 
 /// The same with the roots of the arena of this number.
@@ -78,7 +71,10 @@ fn close_at<N: Name, R: Wait>(
     requires within { id < length system.old.arenas }
     requires hand { cpu.old.hand ≡ None }
     ensures arenas { system.new.arenas ≡ system.old.arenas }
-    ensures closed { OnOk result (cpu.new.hand ≡ None) }
+    ensures closed { OnOk result ((cpu.new.hand ≡ None)
+        × (ends.AreClosedBelow id system.old.roots
+        → ends.AreClosedBelow (id + 1) system.new.roots)) }
+    ensures count { length system.new.roots ≡ length system.old.roots }
 {
     close_all(rt, &system.parts, id, &mut system.roots[id as usize], cpu)
 }
@@ -122,17 +118,6 @@ fn close_one<N: Name, R: Wait>(
             cpu.hold(Segment::new(id, Route::Direct, deed));
             Err(Open::Odd(odd))
         }
-    }
-}
-
-/// Looks that no arena has a root.
-fn all_closed<N: Name>(roots: &[Vec<Root<N>>]) -> Result<(), PassedOver>
-    ensures { IsOk result ↔ ends.AreClosed roots.now }
-{
-    if roots.iter().all(|roots| roots.is_empty()) {
-        Ok(())
-    } else {
-        Err(PassedOver(()))
     }
 }
 

@@ -51,7 +51,9 @@ mod upkeep;
 
 pub use cpus::Cpu;
 pub use laws::line_laws;
-pub use locked_parts::{EventName, Gate, Interval, NextStep, OpenGate, Pass, RequestStopped};
+pub use locked_parts::{
+    EventName, Gate, Interval, NextStep, OpenGate, Pass, RequestStopped, Resized,
+};
 pub use quantum_cache::Reaping;
 pub use replies::{BookWord, LineAnswer, Told};
 pub use shutting::{Halted, StoppedAt};

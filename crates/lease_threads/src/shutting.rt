@@ -11,12 +11,11 @@ ghost use Rattle.locked_parts.specs.Kinds.{AreForSame};
 use crate::closing::{Open, close_each, first_open};
 use crate::cpus::{Cpu, HasSome};
 use crate::ending::{Left, end_parts};
-use crate::gathering::gather;
+use crate::gathering::{NotGathered, gather};
 use crate::hands::Unplaced;
 use crate::systems::System;
 use deed_core::{Range, Segment};
 use deed_table::{Name, SeatDeed};
-use std::alloc::AllocError;
 use std::marker::Model;
 use std::sync::Wait;
 
@@ -38,14 +37,14 @@ impl<N: Name> Model for Halted<N> {
 
     ghost view = { λ h. h.rest };
 
-    ghost invariant = { λ h. h.why ≡ whys.Untold → h.rest.told ≡ None };
+    ghost invariant = { λ h. (why : _) → h.why ≡ whys.Untold why → h.rest.told ≡ None };
 }
 
-/// Why an end stopped. What each but the first has is made where it was found, and nowhere else.
+/// Why an end stopped. What each has is made where it was found, and nowhere else.
 #[derive(Drop)]
 enum Why {
     /// The ranges couldn't be told.
-    Untold,
+    Untold(NotGathered),
     /// The hand wasn't placed.
     Unplaced(Unplaced),
     /// A root stays open.
@@ -95,7 +94,18 @@ impl<N: Name> Halted<N> {
     pub fn stopped_at(&self) -> StoppedAt
         ensures { result ≡ stop_of self.now }
     {
-        self.rest.stopped_at()
+        if self.rest.told.is_none() {
+            return StoppedAt::Memory;
+        }
+        if let Some(segment) = &self.rest.cpu.hand {
+            return StoppedAt::Segment(segment.arena());
+        }
+        // For its clause: how many arenas there are at most.
+        let _ = self.rest.system.tree().len();
+        match first_open(&self.rest.system.roots) {
+            Some(index) => StoppedAt::Root(index as u32),
+            None => StoppedAt::Parts,
+        }
     }
 
     /// The segment that can't be placed; None where a unit is still out.
@@ -129,31 +139,13 @@ impl<N: Name> Halted<N> {
 }
 
 impl<N: Name> Rest<N> {
-    /// Where its end stopped.
-    fn stopped_at(&self) -> StoppedAt
-        ensures { result ≡ stop_of self.now }
-    {
-        if self.told.is_none() {
-            return StoppedAt::Memory;
-        }
-        if let Some(segment) = &self.cpu.hand {
-            return StoppedAt::Segment(segment.arena());
-        }
-        // For its clause: how many arenas there are at most.
-        let _ = self.system.tree().len();
-        match first_open(&self.system.roots) {
-            Some(index) => StoppedAt::Root(index as u32),
-            None => StoppedAt::Parts,
-        }
-    }
-
     /// Tells the ranges, empties all parts, closes the roots, and ends what is left.
     fn end<R: Wait>(mut self, rt: &R) -> Result<Vec<Vec<Range>>, Halted<N>>
         ensures ranges { IfOk result (λ ranges. AreRangesLeft self ranges.items) }
         ensures rest { IfErr result (IsRestOf self) }
     {
-        if self.tell(rt).is_err() {
-            return Err(self.halt(Why::Untold));
+        if let Err(why) = self.tell(rt) {
+            return Err(self.halt(Why::Untold(why)));
         }
         match self.empty(rt) {
             Ok(()) => self.end_empty(),
@@ -186,14 +178,14 @@ impl<N: Name> Rest<N> {
 
     /// Its end stopped, for this reason.
     fn halt(self, why: Why) -> Halted<N>
-        requires { why ≡ whys.Untold → self.told ≡ None }
+        requires { (untold : _) → why ≡ whys.Untold untold → self.told ≡ None }
         ensures { result ≡ self }
     {
         Halted { rest: self, why }
     }
 
     /// Tells the ranges of the roots, if they aren't told.
-    fn tell<R: Wait>(&mut self, rt: &R) -> Result<(), AllocError>
+    fn tell<R: Wait>(&mut self, rt: &R) -> Result<(), NotGathered>
         ensures rest { IsRestOf self.old self.new }
         ensures told { OnOk result (IsSome self.new.told) }
         ensures untold { OnErr result (self.new.told ≡ None) }
@@ -213,7 +205,7 @@ impl<N: Name> Rest<N> {
         ensures told { self.new.told ≡ self.old.told }
         ensures empty { OnOk result
             (AreClosed self.new.system.roots × (self.new.segment ≡ None)) }
-        ensures found { IfErr result (λ why. why ≢ whys.Untold) }
+        ensures found { IfErr result (λ why. (untold : _) → why ≢ whys.Untold untold) }
     {
         if let Err(unplaced) = self.system.empty_parts(rt, &mut self.cpu) {
             return Err(Why::Unplaced(unplaced));

@@ -1,5 +1,5 @@
 //! The system: what stands beside the locks, and what stands under them.
-ghost use Rattle.std.specs.Prelude.{◌≡◌};
+ghost use Rattle.std.specs.Prelude.{◌≡◌, length};
 ghost use Rattle.arena_tree.specs.declared.limits.TheConstants.{MOST_SPANS};
 ghost use Rattle.lease_threads.specs.Ends as ends;
 
@@ -50,5 +50,13 @@ impl<N: Name> System<N> {
         ensures { result.now ≡ self.now.arenas }
     {
         self.parts.tree()
+    }
+
+    /// There are roots for each arena.
+    pub(crate) fn check(&self)
+        ensures { length self.now.roots ≡ length self.now.arenas }
+    {
+        // For its clause: what is always so of a system.
+        let _ = self.roots.len();
     }
 }

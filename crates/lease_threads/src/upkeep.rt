@@ -10,7 +10,7 @@ use crate::systems::System;
 use arena_tree::GrowFault;
 use deed_core::Range;
 use deed_table::Name;
-use locked_parts::{Grown, Interval, OpenGate, Running};
+use locked_parts::{Grown, Interval, OpenGate, Resized, Running};
 use quantum_cache::{EmptyingFault, ReapFault, Reaping, reap_arena};
 use std::sync::Wait;
 
@@ -23,16 +23,14 @@ impl<N: Name> System<N> {
         self.parts.tick(rt)
     }
 
-    /// Has the depots of the arena keep magazines of this size from here on, and says whether one
-    /// of them kept smaller ones before.
-    pub fn resize<R: Wait>(&self, rt: &R, arena: u32, size: usize) -> bool
+    /// Has the depots of the arena keep magazines of this size from here on, one after another, and
+    /// tells whether one of them kept smaller ones before. An arena that isn't there has none.
+    pub fn resize<R: Wait>(&self, rt: &R, arena: u32, size: usize) -> Resized
         requires { IsSize size }
-        ensures rose { result ≡ true → (3 < size) × (arena < length self.now.arenas)
-            × (0 < count_of_caches self.now.arenas arena) }
+        ensures asked { (result.arena ≡ arena) × (result.size ≡ size) }
+        ensures rose { result.rose ≡ true
+            → (3 < size) × (0 < count_of_caches self.now.arenas arena) }
     {
-        if arena as usize >= self.tree().len() {
-            return false;
-        }
         self.parts.resize(rt, arena, size)
     }
 

@@ -1,5 +1,5 @@
 -- By which part an event came, where that part was asked.
-use Rattle.std.proofs.Common.{◌≡◌, ℕ, ◌<◌, List, length, get_or, Option, Some, None, Result, Ok, Err, inl, inr, refl, subst}
+use Rattle.std.proofs.Common.{◌≡◌, ℕ, ◌-◌, ◌<◌, ◌≤◌, List, length, get_or, Option, Some, None, Result, Ok, Err, inl, inr, refl, subst, arith}
 use Rattle.deed_core.proofs.LawProofs.{slice_get_here}
 use Rattle.deed_core.specs.Tag.{Tag}
 use Rattle.deed_core.specs.declared.requests.Request.{Request}
@@ -19,7 +19,7 @@ use Rattle.arena_tree.specs.Events.{AnswerTo, Carve, Free, AddCarve, SlabTake, S
 use Rattle.arena_tree.specs.Tags.{wording_of, tag_ok, tag_all, tag_free, tag_add, tag_put, tag_slab}
 use Rattle.locked_parts.specs.Kinds.{OwnCacheState}
 use Rattle.locked_parts.specs.Owns.{cache_of}
-use Rattle.locked_parts.specs.Saying.{CameBy, HasCache, IsNoCache, arena_said, slabs_said, depot_said, number_of_cache}
+use Rattle.locked_parts.specs.Saying.{CameBy, HasCache, HasCacheAt, IsNoCache, arena_said, slabs_said, depot_said, number_of_cache}
 use Rattle.locked_parts.specs.States.{LockedArenaState, LockedPartsState}
 use Rattle.locked_parts.specs.Words.{given_word, carve_word, free_word, span_word, put_word, add_word, full_word, empty_word, fresh_word}
 use Rattle.locked_parts.specs.declared.gates.NextStep.{NextStep}
@@ -29,6 +29,10 @@ use Rattle.locked_parts.specs.declared.said.Said.{Said}
 -- an arena that stands has no cache of this number
 pub lacks : (p v : LockedPartsState) (arena cache : ℕ) (a : LockedArenaState) → v ≡ p → arena < length v.stand → a ≡ get_or v.stand arena a → ¬ HasCache a cache → IsNoCache p arena cache
 lacks p v arena cache a same within read lacking = subst (λ (q : LockedPartsState). IsNoCache q arena cache) same (inr (inr (a, slice_get_here v.stand arena a within read, lacking)))
+
+-- the quantum cache that was read is the one of its number
+pub stands_there : (a v : LockedArenaState) (number : ℕ) (k : CacheKind) → v ≡ a → 0 < number → number ≤ length v.kinds → k ≡ get_or v.kinds (number - 1) k → HasCacheAt a number k
+stands_there a v number k same some most read = subst (λ (q : LockedArenaState). HasCacheAt q number k) same (number - 1, omega (arith, some), slice_get_here v.kinds (number - 1) k (omega (arith, some, most)) read)
 
 module _ (p : LockedPartsState) (own : List OwnCacheState) (step : NextStep) (s : Said) where
   pub carved : (arena : ℕ) (q : Request) (r : Result Tag ArenaFault) (a : AnswerTo (Carve arena q)) → a ≡ wording_of asking.Refused r → s ≡ arena_said arena step (carve_word r) → CameBy p own step (Carve arena q) a s

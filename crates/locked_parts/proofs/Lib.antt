@@ -6,6 +6,7 @@ mod Slabs
 mod Wholes
 mod Walks
 mod Begins
+pub mod Stands
 mod Owns
 mod Numbers
 mod Grows

@@ -1,6 +1,7 @@
 -- Walks over depots.
-use Rattle.std.proofs.Common.{◌≡◌, ◌∙◌, ◌<◌, ◌||◌, ℕ, zero, suc, Bool, true, false, sym, subst, refl, arith}
-use Rattle.locked_parts.specs.Walks.{ResizesCaches}
+use Rattle.std.proofs.Common.{◌≡◌, ◌∙◌, ◌<◌, ◌||◌, ℕ, zero, suc, Bool, true, false, Option, inl, inr, sym, subst, refl, arith}
+use Rattle.locked_parts.specs.States.{LockedPartsState}
+use Rattle.locked_parts.specs.Walks.{ResizesCaches, ResizeSaidState, SaysResize}
 
 -- one of the two is so
 either : (P : Type 0) (rose before one : Bool) → (before ≡ true → P) → (one ≡ true → P) → rose ≡ before || one → rose ≡ true → P
@@ -17,6 +18,12 @@ rose_by resizes P arena size (suc n) s rose t is walk e = (
   omega (arith),
 )
 
--- where each rises above the least size alone
-pub rose_least : {S : Type 0} (same : S → S → Type 0) (arena size count : ℕ) (s : S) (rose : Bool) (t : S) → ResizesCaches (λ u a c n r v. same u v × (r ≡ true → 3 < n)) arena size count s rose t → rose ≡ true → (3 < size) × (0 < count)
-rose_least {S} same arena size count s rose t walk e = rose_by (λ u a c n r v. same u v × (r ≡ true → 3 < n)) (3 < size) arena size count s rose t (λ u v cache is. is.1 refl) walk e
+-- where the depots say so, each rises above the least size alone
+says_least : (p : LockedPartsState) (arena cache size : ℕ) (said : Option ResizeSaidState) → SaysResize p arena cache size true said → 3 < size
+says_least p arena cache size said (inl (none, e)) = absurd (let x : false ≡ true = sym e in cc)
+says_least p arena cache size said (inr (kind, one, stands, is, asked, e)) = (asked.1 (sym e)).1
+
+pub rose_least : {S : Type 0} (same : S → S → Type 0) (parts : S → LockedPartsState) (said : S → Option ResizeSaidState) (arena size count : ℕ) (s : S) (rose : Bool) (t : S)
+    → ResizesCaches (λ u a c n r v. same u v × SaysResize (parts u) a c n r (said v)) arena size count s rose t → rose ≡ true → (3 < size) × (0 < count)
+rose_least {S} same parts said arena size count s rose t walk e =
+    rose_by (λ u a c n r v. same u v × SaysResize (parts u) a c n r (said v)) (3 < size) arena size count s rose t (λ u v cache is. says_least (parts u) arena cache size (said v) is.1) walk e

@@ -8,5 +8,6 @@ pub mod Walks
 pub mod States
 pub mod Answers
 pub mod Growing
+pub mod Handing
 pub mod Words
 pub mod Saying

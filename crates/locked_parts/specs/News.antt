@@ -61,12 +61,16 @@ pub record IsMadeAsSet (arenas : List TreeArena) (id : ℕ) (a : NewArenaState) 
 pub record AreMadeAsSet (arenas : List TreeArena) (made : List NewArenaState) : Type 0 where
   pub each : (k : ℕ) (a : NewArenaState) → slice_get made k ≡ Some a → IsMadeAsSet arenas k a
 
--- the quantum caches that an arena has under their locks, as it was made with them
+-- what stands beside the lock of an arena, as it was made
 abbrev pub locked_of : NewArenaState → LockedArenaState
-locked_of a = record { kinds = map (λ c. c.kind) a.caches }
+locked_of a = record { number = a.id; kinds = map (λ c. c.kind) a.caches }
 
--- each arena stands, with the quantum caches that it was set up with
+-- the arena of this number stands, with the quantum caches that it was set up with
+pub record StandsAsSet (arenas : List TreeArena) (id : ℕ) (a : LockedArenaState) : Type 0 where
+  pub number : a.number ≡ id
+  pub kinds : a.kinds ≡ kinds_up_to id (quantum_in (nodes_of arenas) id) (count_of_caches arenas id)
+
+-- each arena does, in its place
 pub record StandAsSet (arenas : List TreeArena) (stand : List LockedArenaState) : Type 0 where
   pub count : length stand ≡ length arenas
-  pub each : (k : ℕ) (a : LockedArenaState) → slice_get stand k ≡ Some a
-      → a.kinds ≡ kinds_up_to k (quantum_in (nodes_of arenas) k) (count_of_caches arenas k)
+  pub each : (k : ℕ) (a : LockedArenaState) → slice_get stand k ≡ Some a → StandsAsSet arenas k a

@@ -1,6 +1,6 @@
 -- By which part an event came, at which step, and what it answered, as the part says under its
 -- lock; and where there is no such part.
-use Rattle.std.specs.Prelude.{◌≡◌, ◌≢◌, ◌⊎◌, ◌<◌, ◌≤◌, ℕ, List, Option, Some, None, Result, Ok, Err}
+use Rattle.std.specs.Prelude.{◌≡◌, ◌≢◌, ◌⊎◌, ◌+◌, ◌<◌, ◌≤◌, ℕ, List, Option, Some, None, Result, Ok, Err}
 use Rattle.std.specs.Prelude.{length, slice_get}
 use Rattle.deed_core.specs.Tag.{Tag}
 use Rattle.deed_core.specs.declared.segments.Route.{Route}
@@ -69,6 +69,15 @@ HasCache a cache = (0 < cache) × (cache ≤ length a.kinds)
 abbrev pub IsNoCache : LockedPartsState → (arena cache : ℕ) → Type 0
 IsNoCache p arena cache = (length p.arenas ≤ arena) ⊎ (p.standing ≤ arena)
     ⊎ ((a : LockedArenaState) × (slice_get p.stand arena ≡ Some a) × (¬ HasCache a cache))
+
+-- this cache stands at the place of that number
+abbrev pub HasCacheAt : LockedArenaState → ℕ → CacheKind → Type 0
+HasCacheAt a cache kind =
+    (place : ℕ) × (place + 1 ≡ cache) × (slice_get a.kinds place ≡ Some kind)
+
+abbrev pub StandsAt : LockedPartsState → (arena cache : ℕ) → CacheKind → Type 0
+StandsAt p arena cache kind =
+    (a : LockedArenaState) × (slice_get p.stand arena ≡ Some a) × HasCacheAt a cache kind
 
 -- or other slabs were found in its place, or another depot
 abbrev pub AreNoSlabs : LockedPartsState → (arena cache : ℕ) → NextStep → Said → Type 0

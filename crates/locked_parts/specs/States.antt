@@ -3,8 +3,10 @@ use Rattle.std.specs.Prelude.{ℕ, List}
 use Rattle.arena_tree.specs.declared.trees.TreeArena.{TreeArena}
 use Rattle.locked_parts.specs.declared.kinds.CacheKind.{CacheKind}
 
--- the quantum caches that stand beside an arena's lock, by number, from 1 on
+-- what stands beside an arena's lock: the number of the arena, and its quantum caches, by number,
+-- from 1 on
 pub record LockedArenaState : Type 0 where
+  pub number : ℕ
   pub kinds : List CacheKind
 
 -- the arenas by number, as they were set up; how many of them aren't ended, and these, which are

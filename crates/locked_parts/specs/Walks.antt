@@ -1,10 +1,10 @@
 -- Walks over the depots of quantum caches, in order of arenas and of caches, whatever keeps them.
-use Rattle.std.specs.Prelude.{◌≡◌, ◌⊎◌, ◌↔◌, ◌||◌, ℕ, zero, suc, Bool, false, IsTrue, List}
+use Rattle.std.specs.Prelude.{◌≡◌, ◌⊎◌, ◌↔◌, ◌<◌, ◌||◌, ℕ, zero, suc, Bool, true, false, IsTrue}
+use Rattle.std.specs.Prelude.{List}
 use Rattle.std.specs.Prelude.{Option, Some}
 use Rattle.arena_tree.specs.declared.trees.TreeArena.{TreeArena}
 use Rattle.locked_parts.specs.Kinds.{count_of_caches}
-use Rattle.locked_parts.specs.Owns.{cache_of}
-use Rattle.locked_parts.specs.Saying.{IsNoCache}
+use Rattle.locked_parts.specs.Saying.{IsNoCache, StandsAt}
 use Rattle.locked_parts.specs.States.{LockedPartsState}
 use Rattle.locked_parts.specs.declared.kinds.CacheKind.{CacheKind}
 
@@ -31,10 +31,35 @@ pub record TickSaidState : Type 0 where
 abbrev pub IsTickFor : CacheKind → TickSaidState → Type 0
 IsTickFor kind said = IsTrue said.begun ↔ (said.kind ≡ kind)
 
--- what was asked last for the depot of this cache says so; or there is no such cache
+-- what was asked last says so of the cache that stands at this place; or there is none
 abbrev pub SaysTick : LockedPartsState → (arena cache : ℕ) → Option TickSaidState → Type 0
 SaysTick p arena cache said = IsNoCache p arena cache
-    ⊎ ((one : TickSaidState) × (said ≡ Some one) × IsTickFor (cache_of p.arenas arena cache) one)
+    ⊎ ((kind : CacheKind) × (one : TickSaidState) × StandsAt p arena cache kind
+    × (said ≡ Some one) × IsTickFor kind one)
+
+-- which depot was asked to keep magazines of which size, and whether it had smaller ones
+pub record ResizeSaidState : Type 0 where
+  pub kind : CacheKind
+  pub size : ℕ
+  pub rose : Bool
+
+-- it was asked for the depot of this cache and for this size: where it is another it has none
+abbrev pub IsResizeFor : CacheKind → ℕ → ResizeSaidState → Type 0
+IsResizeFor kind size said = (said.size ≡ size)
+    × (said.rose ≡ true → (said.kind ≡ kind) × (3 < size))
+
+-- what was asked last says so of the cache that stands at this place; or there is none
+abbrev pub SaysResize : LockedPartsState → (arena cache size : ℕ) → Bool → Option ResizeSaidState
+    → Type 0
+SaysResize p arena cache size rose said = (IsNoCache p arena cache × (rose ≡ false))
+    ⊎ ((kind : CacheKind) × (one : ResizeSaidState) × StandsAt p arena cache kind
+    × (said ≡ Some one) × IsResizeFor kind size one × (rose ≡ one.rose))
+
+-- the depots of an arena were asked for magazines of a size, and whether one of them had smaller ones
+pub record ResizedState : Type 0 where
+  pub arena : ℕ
+  pub size : ℕ
+  pub rose : Bool
 
 -- the depots of the arena's first caches, so many, are asked one after another to keep magazines of
 -- this size, and whether one of them rose

@@ -1,10 +1,7 @@
 //! An arena as its lock keeps it. What lies there when the lock is taken is known by its type
 //! alone, so that each event looks whether it is the arena that is meant.
-ghost use Rattle.std.specs.Prelude.{◌≡◌, ◌≢◌, ◌<◌, ◌≤◌, ◌↔◌, ◌++◌, List, [], Some, None, Ok};
-ghost use Rattle.std.specs.Prelude.{IfSome, IfNone, IsSome, OnSome, vec_len, vec_capacity};
-ghost use Rattle.std.specs.Prelude.{true, false};
-ghost use Rattle.std.specs.Prelude.{OnOk, OnErr, IfOk};
-ghost use Rattle.std.specs.Prelude.{IfErr};
+ghost use Rattle.std.specs.Prelude.{◌≡◌, ◌≢◌, ◌<◌, ◌≤◌, ◌↔◌, ◌++◌, List, [], Some, None, Ok, true, false};
+ghost use Rattle.std.specs.Prelude.{IsOk, OnOk, OnErr, IfOk, IfErr, vec_len, vec_capacity};
 ghost use Rattle.deed_core.specs.Covering.{units_held};
 ghost use Rattle.deed_core.specs.Request.{rounding_of, plain_of};
 ghost use Rattle.tag_arena.specs.ArenaState.{ranges_of};
@@ -62,10 +59,64 @@ impl<N: Name> Model for ArenaPart<N> {
         p.room };
 }
 
-/// That no owned span of an arena was found to be wholly free, or another arena in its place. Only
-/// `ArenaPart` makes one, where it is asked.
+/// That the arena of this number was asked, and no owned span of it found to be wholly free, or
+/// another arena in its place. Only `ArenaPart` makes one, where it is asked.
 #[derive(PartialEq, Eq, Debug, Drop)]
-pub struct NoneWhole(());
+pub struct NoneWhole {
+    arena: u32,
+}
+
+impl Model for NoneWhole {
+    ghost use Rattle.std.specs.Prelude.{ℕ};
+
+    ghost Value = { ℕ };
+
+    ghost view = { λ n. n.arena };
+
+    ghost inverse = { λ n. record { arena = n } };
+}
+
+/// That the arena of this number was asked for its roots, and counts fewer beside its lock than were
+/// given, or is another. Only `ArenaPart` makes one, where it is asked.
+#[derive(PartialEq, Eq, Debug, Drop)]
+pub struct NotCounted {
+    arena: u32,
+}
+
+impl Model for NotCounted {
+    ghost use Rattle.std.specs.Prelude.{ℕ};
+
+    ghost Value = { ℕ };
+
+    ghost view = { λ n. n.arena };
+
+    ghost inverse = { λ n. record { arena = n } };
+}
+
+/// That the arena of this number handed its further roots over, with a list for ranges. Only
+/// `ArenaPart` makes one, where it is asked.
+#[derive(Drop)]
+pub struct HandedOver {
+    arena: u32,
+    ranges: Vec<Range>,
+}
+
+impl Model for HandedOver {
+    ghost use Rattle.locked_parts.specs.Handing.{HandedOverState};
+
+    ghost Value = { HandedOverState };
+
+    ghost view = { λ h. record { arena = h.arena; ranges = h.ranges } };
+}
+
+impl HandedOver {
+    /// The list, which has room for the ranges of all roots of the arena.
+    pub fn into_ranges(self) -> Vec<Range>
+        ensures { result ≡ self.ranges }
+    {
+        self.ranges
+    }
+}
 
 /// What the arena of this number answered, and at which step it was asked. Only `ArenaPart` makes
 /// one, where it is asked.
@@ -301,32 +352,33 @@ impl<N: Name> ArenaPart<N> {
     }
 
     /// Moves the further roots of the arena with this number behind those that stand beside the
-    /// lock, and gives the list that has room for the ranges of all. It takes no memory. None, with
-    /// nothing done, where another stands here, or more stand beside the lock than it counts there.
+    /// lock, and gives the list that has room for the ranges of all. It takes no memory. Nothing is
+    /// done where another stands here, or more stand beside the lock than it counts there.
     pub(crate) fn hand_over(
         &mut self,
         alloc: Global,
         id: u32,
         to: &mut Vec<Root<N>>,
-    ) -> Option<Vec<Range>>
-        ensures exactly { IsSome result
+    ) -> Result<HandedOver, NotCounted>
+        ensures exactly { IsOk result
             ↔ ((self.old.arena.id ≡ id) × (vec_len to.old ≤ self.old.beside)) }
-        ensures moved { OnSome result ((to.new.items ≡ to.old.items ++ self.old.roots.roots)
+        ensures moved { OnOk result ((to.new.items ≡ to.old.items ++ self.old.roots.roots)
             × (self.new.roots.roots ≡ [])) }
         ensures more { HasRootsMore id to.old.items to.new.items }
-        ensures room { IfSome result (λ ranges. (ranges.items ≡ [])
-            × (vec_len to.new ≤ vec_capacity ranges)) }
+        ensures room { IfOk result (λ handed. (handed.arena ≡ id) × (handed.ranges.items ≡ [])
+            × (vec_len to.new ≤ vec_capacity handed.ranges)) }
         ensures arena { self.new.arena ≡ self.old.arena }
         ensures source { self.new.source ≡ self.old.source }
-        ensures counted { OnSome result (self.new.beside ≡ 0) }
-        ensures numbers { OnSome result (self.new.roots.left ≡ self.old.roots.left) }
-        ensures unchanged { IfNone result ((to.new.items ≡ to.old.items) × (self.new ≡ self.old)) }
+        ensures counted { OnOk result (self.new.beside ≡ 0) }
+        ensures numbers { OnOk result (self.new.roots.left ≡ self.old.roots.left) }
+        ensures asked { IfErr result (λ asked. asked ≡ id) }
+        ensures unchanged { OnErr result ((to.new.items ≡ to.old.items) × (self.new ≡ self.old)) }
     {
         if self.arena.id() != id {
-            return None;
+            return Err(NotCounted { arena: id });
         }
         if to.len() > self.beside {
-            return None;
+            return Err(NotCounted { arena: id });
         }
         // For its clause: which numbers the roots have.
         let _ = self.roots.left();
@@ -335,7 +387,7 @@ impl<N: Name> ArenaPart<N> {
             Ok(()) => self.beside = 0,
             Err(AllocError) => unreachable!(),
         }
-        Some(ranges)
+        Ok(HandedOver { arena: id, ranges })
     }
 
     /// Takes out the lowest owned span that is wholly free, of the arena with this number; another
@@ -345,14 +397,15 @@ impl<N: Name> ArenaPart<N> {
         ensures taken { IfOk result (λ d. RemoveOf self.old.arena (Some d) self.new.arena) }
         ensures none { OnErr result (self.old.arena.id ≡ id
             → RemoveOf self.old.arena None self.new.arena) }
+        ensures asked { IfErr result (λ asked. asked ≡ id) }
         ensures other { self.old.arena.id ≢ id → self.new.arena ≡ self.old.arena }
         ensures rest { StaysButArena self.old self.new }
     {
         if self.arena.id() != id {
-            return Err(NoneWhole(()));
+            return Err(NoneWhole { arena: id });
         }
         let Some(deed) = self.arena.remove_owned() else {
-            return Err(NoneWhole(()));
+            return Err(NoneWhole { arena: id });
         };
         Ok(deed)
     }

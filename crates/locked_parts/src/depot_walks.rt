@@ -46,6 +46,34 @@ impl Model for Interval {
     ghost inverse = { λ n. record { arenas = n } };
 }
 
+/// That each depot of an arena was asked to keep magazines of a size from here on, and whether one of
+/// them had smaller ones. Only `resize_each` makes one. A contract sees which arena and size.
+#[derive(PartialEq, Eq, Debug, Drop)]
+pub struct Resized {
+    arena: u32,
+    size: usize,
+    rose: bool,
+}
+
+impl Model for Resized {
+    ghost use Rattle.locked_parts.specs.Walks.{ResizedState};
+
+    ghost Value = { ResizedState };
+
+    ghost view = { λ r. record { arena = r.arena; size = r.size; rose = r.rose } };
+
+    ghost inverse = { λ r. record { arena = r.arena; size = r.size; rose = r.rose } };
+}
+
+impl Resized {
+    /// Whether one of them had smaller ones.
+    pub fn rose(&self) -> bool
+        ensures { result ≡ self.now.rose }
+    {
+        self.rose
+    }
+}
+
 /// Begins an interval in each depot of the arenas, one after another.
 pub(crate) fn tick_each<D: Depots>(depots: &mut D, tree: &Tree) -> Interval
     ensures each { TicksArenas D.ticks tree.now (length tree.now) depots.old depots.new }
@@ -67,14 +95,25 @@ fn tick_caches<D: Depots>(depots: &mut D, arena: u32, count: u8)
 }
 
 /// Asks each depot of the arena for magazines of this size, one after another, and says whether one
-/// of them had smaller ones.
-pub(crate) fn resize_each<D: Depots>(depots: &mut D, tree: &Tree, arena: u32, size: usize) -> bool
-    requires within { arena < length tree.now }
-    requires size { IsSize size }
-    ensures { ResizesCaches D.resizes arena size (count_of_caches tree.now arena)
-        depots.old result depots.new }
+/// of them had smaller ones. An arena that isn't there has none.
+pub(crate) fn resize_each<D: Depots>(
+    depots: &mut D,
+    tree: &Tree,
+    arena: u32,
+    size: usize,
+) -> Resized
+    requires { IsSize size }
+    ensures each { ResizesCaches D.resizes arena size (count_of_caches tree.now arena)
+        depots.old result.rose depots.new }
+    ensures asked { (result.arena ≡ arena) × (result.size ≡ size) }
 {
-    resize_caches(depots, arena, cache_count(tree, arena), size)
+    let count = if (arena as usize) < tree.len() {
+        cache_count(tree, arena)
+    } else {
+        0
+    };
+    let rose = resize_caches(depots, arena, count, size);
+    Resized { arena, size, rose }
 }
 
 /// Asks those of the arena's first caches, so many.

@@ -51,9 +51,18 @@ fn end_locked<N: Name>(
     alloc: Global,
     locked: LockedArena<N>,
 ) -> Result<(), (LockedArena<N>, NotEmpty)> {
-    let LockedArena { part, mut caches } = locked;
+    let LockedArena {
+        number,
+        part,
+        mut caches,
+    } = locked;
     if let Err(found) = end_caches(alloc, &mut caches) {
-        return Err((LockedArena { part, caches }, found));
+        let left = LockedArena {
+            number,
+            part,
+            caches,
+        };
+        return Err((left, found));
     }
     match end_part(part.into_inner()) {
         Ok(()) => {
@@ -61,8 +70,12 @@ fn end_locked<N: Name>(
             Ok(())
         }
         Err((part, found)) => {
-            let part = Mutex::new(part);
-            Err((LockedArena { part, caches }, found))
+            let left = LockedArena {
+                number,
+                part: Mutex::new(part),
+                caches,
+            };
+            Err((left, found))
         }
     }
 }

@@ -9,7 +9,7 @@ ghost use Rattle.locked_parts.specs.Kinds.{IsOfKind};
 ghost use Rattle.locked_parts.specs.Saying.{IsOtherDepot, depot_said};
 ghost use Rattle.locked_parts.specs.Sums.{DepotTells};
 ghost use Rattle.locked_parts.specs.Swaps.{GivesFull, GivesEmpty, TakesFull};
-ghost use Rattle.locked_parts.specs.Walks.{IsTickFor};
+ghost use Rattle.locked_parts.specs.Walks.{IsResizeFor, IsTickFor};
 ghost use Rattle.locked_parts.specs.Words.{given_word, full_word, empty_word, fresh_word};
 
 use crate::gates::NextStep;
@@ -60,7 +60,7 @@ impl Model for DepotSaid {
 
 /// That the depot of this quantum cache was asked to begin an interval, and whether it did. Only
 /// `KindDepot` makes one, where it is asked.
-#[derive(Clone, Copy, PartialEq, Eq, Debug)]
+#[derive(PartialEq, Eq, Debug, Drop)]
 pub(crate) struct TickSaid {
     kind: CacheKind,
     begun: bool,
@@ -74,6 +74,34 @@ impl Model for TickSaid {
     ghost view = { λ s. record { kind = s.kind; begun = s.begun } };
 
     ghost inverse = { λ s. record { kind = s.kind; begun = s.begun } };
+}
+
+/// That the depot of this quantum cache was asked to keep magazines of this size from here on, and
+/// whether it had smaller ones. Only `KindDepot` makes one, where it is asked.
+#[derive(PartialEq, Eq, Debug, Drop)]
+pub(crate) struct ResizeSaid {
+    kind: CacheKind,
+    size: usize,
+    rose: bool,
+}
+
+impl Model for ResizeSaid {
+    ghost use Rattle.locked_parts.specs.Walks.{ResizeSaidState};
+
+    ghost Value = { ResizeSaidState };
+
+    ghost view = { λ s. record { kind = s.kind; size = s.size; rose = s.rose } };
+
+    ghost inverse = { λ s. record { kind = s.kind; size = s.size; rose = s.rose } };
+}
+
+impl ResizeSaid {
+    /// Whether it had smaller ones.
+    pub(crate) fn rose(&self) -> bool
+        ensures { result ≡ self.now.rose }
+    {
+        self.rose
+    }
 }
 
 /// That it answered so.
@@ -231,26 +259,34 @@ impl<D: Deed> KindDepot<D> {
         self.depot.resize(size)
     }
 
-    /// The same in the depot of this quantum cache, and says whether it had smaller ones; another
-    /// is left as it was.
-    pub(crate) fn resize_of(&mut self, kind: &CacheKind, size: usize) -> bool
+    /// The same in the depot of this quantum cache; another is left as it was. It says which one it
+    /// is, and whether it had smaller ones.
+    pub(crate) fn resize_of(&mut self, kind: &CacheKind, size: usize) -> ResizeSaid
         requires { IsSize size }
-        ensures rose { result ≡ true → (self.old.kind ≡ kind.now)
-            × (self.old.depot.size < size) × (self.new.depot ≡ after_resize size self.old.depot) }
-        ensures refused { result ≡ false → self.old.kind ≡ kind.now
+        ensures own { result.kind ≡ self.old.kind }
+        ensures said { IsResizeFor kind.now size result }
+        ensures rose { result.rose ≡ true → (self.old.depot.size < size)
+            × (self.new.depot ≡ after_resize size self.old.depot) }
+        ensures refused { result.rose ≡ false → self.old.kind ≡ kind.now
             → size ≤ self.old.depot.size }
-        ensures unchanged { result ≡ false → self.new ≡ self.old }
-        ensures greater { result ≡ true → 3 < size }
+        ensures unchanged { result.rose ≡ false → self.new ≡ self.old }
         ensures kind { self.new.kind ≡ self.old.kind }
     {
-        if !self.kind.is(kind) {
-            return false;
+        let own = self.kind;
+        if !own.is(kind) {
+            return ResizeSaid {
+                kind: own,
+                size,
+                rose: false,
+            };
         }
         // For its clause: what is always so of a depot.
         let _ = self.depot.size();
-        match self.resize(size) {
-            Ok(()) => true,
-            Err(NotGreater) => false,
+        let rose = self.resize(size).is_ok();
+        ResizeSaid {
+            kind: own,
+            size,
+            rose,
         }
     }
 

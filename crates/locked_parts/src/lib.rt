@@ -24,7 +24,8 @@
 //! `Swaps.antt` exchanges, `Answers.antt` what an event answers, `Saying.antt` by which part it
 //! came, `Words.antt` the plain words by which a part says that, `Gates.antt` what a gate is asked
 //! and may say, `News.antt` what parts are made as, `Growing.antt` which arenas get further roots
-//! and why not, `Walks.antt` walks over depots, `Sums.antt` what parts tell of themselves.
+//! and why not, `Handing.antt` what an arena gives out of its lock at the end, `Walks.antt` walks
+//! over depots, `Sums.antt` what parts tell of themselves.
 //!
 //! A part is found by its number, in constant time. An event costs what the part's own call does
 //! (`tag_arena`, `slab_layer`, `magazine_layer`) and a few looks whether it is the part that is
@@ -58,8 +59,8 @@ mod said;
 mod slab_parts;
 mod words;
 
-pub use arena_parts::{ArenaSaid, Grown, NoneWhole};
-pub use depot_walks::Interval;
+pub use arena_parts::{ArenaSaid, Grown, HandedOver, NoneWhole, NotCounted};
+pub use depot_walks::{Interval, Resized};
 pub use gates::{EventName, Gate, NextStep, OpenGate, Pass, RequestStopped, StepCount};
 pub use kind_depots::DepotSaid;
 pub use kinds::CacheKind;
@@ -68,7 +69,7 @@ pub use not_empty::NotEmpty;
 pub use own_caches::OwnCache;
 pub use own_rounds::{end_rounds, new_rounds};
 pub use part_sums::PartSums;
-pub use parts::{ArenaEnded, LockedArena, LockedParts, NotTaken};
+pub use parts::{ArenaEnded, LockedArena, LockedParts, NotHandedOver, NotTaken};
 pub use running::Running;
 pub use said::Said;
 pub use slab_parts::SlabSaid;

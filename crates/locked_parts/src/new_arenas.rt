@@ -120,6 +120,7 @@ impl<N: Name> NewArena<N> {
         } = self;
         lock_caches(caches, &mut locked);
         let arena = LockedArena {
+            number: part.arena.id(),
             part: Mutex::new(part),
             caches: locked,
         };

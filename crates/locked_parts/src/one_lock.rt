@@ -85,7 +85,7 @@ fn events_of<N: Name, R: Abort + Wait + AllocGlobal>(rt: &R, ground: Ground, set
 
 /// Closes the arena's roots, those that it was made with and those that were opened since.
 fn close_all<N: Name, R: Abort + Wait>(rt: &R, parts: &LockedParts<N>, mut roots: Vec<Root<N>>) {
-    let Some(_) = parts.hand_over(rt, 0, &mut roots) else {
+    let Ok(_) = parts.hand_over(rt, 0, &mut roots) else {
         stuck(rt, roots)
     };
     while !roots.is_empty() {
@@ -212,5 +212,5 @@ fn of_depot<N: Name, R: Abort + Wait + AllocGlobal>(rt: &R, parts: &LockedParts<
         Err(fault) => stuck(rt, fault),
     }
     let _ = parts.tick(rt);
-    assert!(rt; parts.resize(rt, 0, 7));
+    assert!(rt; parts.resize(rt, 0, 7).rose());
 }

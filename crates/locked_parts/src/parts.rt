@@ -1,17 +1,20 @@
 //! The parts of a system, each under its lock.
 ghost use Rattle.std.specs.Prelude.{◌≡◌, ◌+◌, ◌<◌, IfErr, IfSome, IsOk, OnErr, OnOk, Err, length, true};
-ghost use Rattle.std.specs.Prelude.{IfOk, IfNone, [], ◌≤◌, ◌↔◌, vec_len, vec_capacity};
+ghost use Rattle.std.specs.Prelude.{IfOk, IfNone, [], ◌≤◌, ◌↔◌, vec_len, vec_capacity, slice_get, Some};
 ghost use Rattle.arena_tree.specs.Chains.{quantum_in};
 ghost use Rattle.arena_tree.specs.Trees.{nodes_of};
 ghost use Rattle.locked_parts.specs.Kinds.{count_of_caches, caches_before, AreCachesBefore};
 ghost use Rattle.locked_parts.specs.Growing.{AnswersGrow, HasRootsMore, IsGrowthBy, IsRootArena};
 ghost use Rattle.locked_parts.specs.Growing.{MayRefuseGrow};
-ghost use Rattle.locked_parts.specs.Saying.{HasCache};
+ghost use Rattle.locked_parts.specs.Handing.{IsNotHandedOver, IsNotTaken};
+ghost use Rattle.locked_parts.specs.News.{StandAsSet};
+ghost use Rattle.locked_parts.specs.Saying.{HasCache, HasCacheAt};
+ghost use Rattle.locked_parts.specs.Walks.{IsResizeFor, IsTickFor};
 ghost use Rattle.magazine_layer.specs.Magazines.{IsSize};
 
-use crate::arena_parts::{ArenaPart, Grown, NoneWhole};
-use crate::depot_walks::{Interval, resize_each, tick_each};
-use crate::kind_depots::KindDepot;
+use crate::arena_parts::{ArenaPart, Grown, HandedOver, NoneWhole, NotCounted};
+use crate::depot_walks::{Interval, Resized, resize_each, tick_each};
+use crate::kind_depots::{KindDepot, ResizeSaid, TickSaid};
 use crate::kinds::{CacheKind, cache_count};
 use crate::locked_depots::LockedDepots;
 use arena_tree::{GrowFault, MOST_ARENAS, Tree};
@@ -38,9 +41,10 @@ impl<N: Name> Model for LockedCache<N> {
     ghost view = { λ c. c.kind };
 }
 
-/// An arena under its lock, and its quantum caches by their numbers, from 1 on. A contract sees
-/// these.
+/// An arena under its lock, and beside that its number, and its quantum caches by their numbers, from
+/// 1 on. A contract sees these.
 pub struct LockedArena<N: Name> {
+    pub(crate) number: u32,
     pub(crate) part: Mutex<ArenaPart<N>>,
     pub(crate) caches: Vec<LockedCache<N>>,
 }
@@ -50,7 +54,7 @@ impl<N: Name> Model for LockedArena<N> {
 
     ghost Value = { LockedArenaState };
 
-    ghost view = { λ a. record { kinds = a.caches.items } };
+    ghost view = { λ a. record { number = a.number; kinds = a.caches.items } };
 }
 
 /// Arenas with their quantum caches, each part under a lock of its own. A contract sees the arenas
@@ -76,10 +80,36 @@ impl<N: Name> Model for LockedParts<N> {
     ghost invariant = { λ p. AreCachesBefore p.tree p.caches_before };
 }
 
+impl<N: Name> LockedCache<N> {
+    /// Begins an interval in its depot, which says whether it is that.
+    pub(crate) fn tick<R: Wait>(&self, rt: &R) -> TickSaid
+        ensures { IsTickFor self.now result }
+    {
+        self.depot.lock(rt).tick_of(&self.kind)
+    }
+
+    /// Has its depot keep magazines of this size from here on, which says whether it is that, and
+    /// had smaller ones.
+    pub(crate) fn resize<R: Wait>(&self, rt: &R, size: usize) -> ResizeSaid
+        requires { IsSize size }
+        ensures { IsResizeFor self.now size result }
+    {
+        self.depot.lock(rt).resize_of(&self.kind, size)
+    }
+}
+
 impl<N: Name> LockedArena<N> {
+    /// Takes the lowest owned span that is wholly free out of the arena.
+    pub(crate) fn remove_owned<R: Wait>(&self, rt: &R) -> Result<SeatDeed<N>, NoneWhole>
+        ensures { IfErr result (λ asked. asked ≡ self.now.number) }
+    {
+        self.part.lock(rt).remove_owned(self.number)
+    }
+
     /// Where the quantum cache of this number is kept, if it stands.
     pub(crate) fn cache(&self, number: u8) -> Option<&LockedCache<N>>
-        ensures { IfNone result (¬ HasCache self.now number) }
+        ensures stands { IfSome result (λ cache. HasCacheAt self.now number cache.now) }
+        ensures none { IfNone result (¬ HasCache self.now number) }
     {
         if number == 0 {
             return None;
@@ -94,6 +124,7 @@ impl<N: Name> LockedArena<N> {
 impl<N: Name> LockedParts<N> {
     /// The arenas of a tree, in their order, under their locks.
     pub fn new(alloc: Global, tree: Tree, arenas: Vec<LockedArena<N>>) -> LockedParts<N>
+        requires { StandAsSet tree arenas.items }
         ensures arenas { result.arenas ≡ tree }
         ensures standing { result.standing ≡ length arenas.items }
         ensures stand { result.stand ≡ arenas.items }
@@ -140,12 +171,13 @@ impl<N: Name> LockedParts<N> {
         tick_each(&mut depots, &self.tree)
     }
 
-    /// Has the depots of the arena keep magazines of this size from here on, and says whether one
-    /// of them kept smaller ones before.
-    pub fn resize<R: Wait>(&self, rt: &R, arena: u32, size: usize) -> bool
-        requires within { arena < length self.now.arenas }
-        requires size { IsSize size }
-        ensures rose { result ≡ true → (3 < size) × (0 < count_of_caches self.now.arenas arena) }
+    /// Has the depots of the arena keep magazines of this size from here on, and tells whether one
+    /// of them kept smaller ones before. An arena that isn't there has none.
+    pub fn resize<R: Wait>(&self, rt: &R, arena: u32, size: usize) -> Resized
+        requires { IsSize size }
+        ensures asked { (result.arena ≡ arena) × (result.size ≡ size) }
+        ensures rose { result.rose ≡ true
+            → (3 < size) × (0 < count_of_caches self.now.arenas arena) }
     {
         let mut depots = LockedDepots::new(self, rt);
         resize_each(&mut depots, &self.tree, arena, size)
@@ -182,39 +214,48 @@ impl<N: Name> LockedParts<N> {
 
     /// Moves the further roots of the arena with this number behind those that it was made with, in
     /// order of opening, and gives a list that has room for the ranges of all. It takes no memory.
-    /// None, with nothing done, where the arena is ended, or more roots are given than it counts
-    /// beside its lock.
+    /// Nothing is done where the arena is ended, or more roots are given than it counts beside its
+    /// lock.
     pub fn hand_over<R: Wait>(
         &self,
         rt: &R,
         arena: u32,
         to: &mut Vec<Root<N>>,
-    ) -> Option<Vec<Range>>
+    ) -> Result<HandedOver, NotHandedOver>
         ensures more { HasRootsMore arena to.old.items to.new.items }
-        ensures room { IfSome result (λ ranges. (ranges.items ≡ [])
-            × (vec_len to.new ≤ vec_capacity ranges)) }
-        ensures unchanged { IfNone result (to.new.items ≡ to.old.items) }
+        ensures room { IfOk result (λ handed. (handed.arena ≡ arena) × (handed.ranges.items ≡ [])
+            × (vec_len to.new ≤ vec_capacity handed.ranges)) }
+        ensures refused { IfErr result (IsNotHandedOver self.now arena) }
+        ensures unchanged { OnErr result (to.new.items ≡ to.old.items) }
     {
-        let Some(locked) = self.arenas.get(arena as usize) else {
-            return None;
+        let locked = match self.standing(arena) {
+            Ok(locked) => locked,
+            Err(ended) => return Err(NotHandedOver::Ended(ended)),
         };
-        locked.part.lock(rt).hand_over(self.alloc, arena, to)
+        match locked.part.lock(rt).hand_over(self.alloc, arena, to) {
+            Ok(handed) => Ok(handed),
+            Err(asked) => Err(NotHandedOver::NotCounted(asked)),
+        }
     }
 
     /// Takes the lowest owned span that is wholly free out of the arena with this number.
-    pub fn remove_owned<R: Wait>(&self, rt: &R, arena: u32) -> Result<SeatDeed<N>, NotTaken> {
-        match self.standing(arena) {
-            Ok(locked) => match locked.part.lock(rt).remove_owned(arena) {
-                Ok(deed) => Ok(deed),
-                Err(none) => Err(NotTaken::NoneWhole(none)),
-            },
-            Err(ended) => Err(NotTaken::Ended(ended)),
+    pub fn remove_owned<R: Wait>(&self, rt: &R, arena: u32) -> Result<SeatDeed<N>, NotTaken>
+        ensures { IfErr result (IsNotTaken self.now arena) }
+    {
+        let locked = match self.standing(arena) {
+            Ok(locked) => locked,
+            Err(ended) => return Err(NotTaken::Ended(ended)),
+        };
+        match locked.remove_owned(rt) {
+            Ok(deed) => Ok(deed),
+            Err(asked) => Err(NotTaken::NoneWhole(asked)),
         }
     }
 
     /// The arena with this number, if it stands.
     fn standing(&self, arena: u32) -> Result<&LockedArena<N>, ArenaEnded>
-        ensures { IsOk result ↔ (arena < self.now.standing) }
+        ensures exactly { IsOk result ↔ (arena < self.now.standing) }
+        ensures here { IfOk result (λ locked. slice_get self.now.stand arena ≡ Some locked.now) }
     {
         match self.arenas.get(arena as usize) {
             Some(locked) => Ok(locked),
@@ -226,6 +267,13 @@ impl<N: Name> LockedParts<N> {
 /// That an arena doesn't stand any more. Only `LockedParts` makes one, where it was found so.
 #[derive(PartialEq, Eq, Debug, Drop)]
 pub struct ArenaEnded(());
+
+/// Why no root was handed over by an arena.
+#[derive(PartialEq, Eq, Debug, Drop)]
+pub enum NotHandedOver {
+    Ended(ArenaEnded),
+    NotCounted(NotCounted),
+}
 
 /// Why no span was taken out of an arena.
 #[derive(PartialEq, Eq, Debug, Drop)]

@@ -6,7 +6,7 @@ ghost use Rattle.arena_tree.specs.Chains.{quantum_in};
 ghost use Rattle.arena_tree.specs.Trees.{nodes_of};
 ghost use Rattle.locked_parts.specs.Kinds.{AreSlabsOf};
 ghost use Rattle.locked_parts.specs.Owns.{cache_of};
-ghost use Rattle.locked_parts.specs.Saying.{AreNoSlabs, IsNoArena, IsNoCache, IsNoDepot};
+ghost use Rattle.locked_parts.specs.Saying.{AreNoSlabs, IsNoArena, IsNoCache, IsNoDepot, StandsAt};
 
 use crate::arena_parts::ArenaPart;
 use crate::gates::NextStep;
@@ -62,6 +62,7 @@ impl<N: Name> LockedParts<N> {
         ensures kind { IfSome result (λ f. (f.0.arena ≡ arena) × (f.0.number ≡ number)
             × (0 < f.0.quantum) × (quantum_in (nodes_of self.now.arenas) arena ≡ f.0.quantum)) }
         ensures same { IfSome result (λ f. f.0 ≡ cache_of self.now.arenas arena number) }
+        ensures stands { IfSome result (λ f. StandsAt self.now arena number f.1.now) }
         ensures none { IfNone result (IsNoCache self.now arena number) }
     {
         if arena as usize >= self.tree.len() {

@@ -37,7 +37,7 @@ impl<N: Name, R: Abort + Wait + AllocGlobal> Gate for Between<'_, N, R> {
         released(self.rt, self.system, &mut other, asked, base);
         self.asked.store(asked.saturating_add(2), Ordering::SeqCst);
         let _ = self.system.tick(self.rt);
-        assert!(self.rt; !self.system.resize(self.rt, 0, 3));
+        assert!(self.rt; !self.system.resize(self.rt, 0, 3).rose());
         self.system.reap(self.rt, &mut other, 0, 8);
         Pass::Go
     }

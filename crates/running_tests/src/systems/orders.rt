@@ -101,7 +101,7 @@ fn in_order<N: Name, R: Abort + Wait + AllocGlobal>(
     let mut one = cpu(rt, &system, 5);
     ask_each(rt, &system, &mut one, asked.before);
     if let Some(arena) = asked.resized {
-        assert!(rt; system.resize(rt, arena, 15));
+        assert!(rt; system.resize(rt, arena, 15).rose());
     }
     for (text, reply, steps) in asked.rows {
         ask_by(rt, &system, &mut one, text, reply, steps);
@@ -334,9 +334,9 @@ fn filled<N: Name, R: Abort + Wait + AllocGlobal>(rt: &R, ground: Ground, setup:
 /// Magazines rise to this size.
 fn resized<N: Name, R: Abort + Wait>(rt: &R, system: &System<N>, size: u64) {
     let rose = match size {
-        7 => system.resize(rt, 0, 7),
-        15 => system.resize(rt, 0, 15),
-        _ => system.resize(rt, 0, 31),
+        7 => system.resize(rt, 0, 7).rose(),
+        15 => system.resize(rt, 0, 15).rose(),
+        _ => system.resize(rt, 0, 31).rose(),
     };
     assert!(rt; rose, "no greater size");
 }

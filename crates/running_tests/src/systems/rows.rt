@@ -98,8 +98,8 @@ fn reaped<N: Name, R: Abort + Wait + AllocGlobal>(rt: &R, ground: Ground, setup:
         "lease 1 1 15 d 64",
         "granted 1 1 15 d 0 64",
     );
-    assert!(rt; system.resize(rt, 0, 7));
-    assert!(rt; !system.resize(rt, 0, 7));
+    assert!(rt; system.resize(rt, 0, 7).rose());
+    assert!(rt; !system.resize(rt, 0, 7).rose());
     retire(rt, &system, two);
     shut(rt, system, &[(0, 64)]);
 }
@@ -117,11 +117,11 @@ fn risen<N: Name, R: Abort + Wait + AllocGlobal>(rt: &R, ground: Ground, setup: 
     requires { ground ≡ N.table }
 {
     let system: System<N> = made(rt, ground, setup);
-    assert!(rt; system.resize(rt, 0, 15));
-    assert!(rt; !system.resize(rt, 0, 15));
-    assert!(rt; !system.resize(rt, 0, 7));
-    assert!(rt; system.resize(rt, 0, 31));
-    assert!(rt; !system.resize(rt, 0, 15));
+    assert!(rt; system.resize(rt, 0, 15).rose());
+    assert!(rt; !system.resize(rt, 0, 15).rose());
+    assert!(rt; !system.resize(rt, 0, 7).rose());
+    assert!(rt; system.resize(rt, 0, 31).rose());
+    assert!(rt; !system.resize(rt, 0, 15).rose());
     shut(rt, system, &[(0, 64)]);
 }
 

@@ -170,7 +170,7 @@ fn change<N: Name, R: Abort + Wait>(rt: &R, system: &System<N>, cpu: &mut Cpu<N>
     for (text, wanted) in &ROUNDS {
         ask(rt, system, cpu, text, wanted);
     }
-    assert!(rt; system.resize(rt, 1, 7));
+    assert!(rt; system.resize(rt, 1, 7).rose());
     for text in &LAST {
         let reply = answer(rt, system, cpu, &line(rt, text));
         assert!(rt; matches!(&reply, Reply::Granted(_)), "at {text}");

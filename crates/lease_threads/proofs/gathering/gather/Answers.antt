@@ -1,5 +1,5 @@
-use Rattle.std.proofs.Common.{◌≡◌, ◌+◌, ◌<◌, ◌∙◌, Some, None, ap, sym, subst, arith, length, OnSome, IfSome}
-use Rattle.std.specs.Prelude.{Option}
+use Rattle.std.proofs.Common.{◌≡◌, ◌+◌, ◌<◌, ◌∙◌, Ok, Err, ap, sym, subst, arith, length, OnOk, IfOk}
+use Rattle.std.specs.Prelude.{Result}
 use Rattle.std.specs.Global.{Vec}
 use Rattle.deed_core.specs.Extent.{Extent}
 use Rattle.lease_threads.specs.Ends.{AreInTurn, AreRootsIn, TellsArena}
@@ -8,16 +8,16 @@ use Rattle.lease_threads.proofs.Gathered.{roots_later, told_later, told_more}
 use Rattle.lease_threads.proofs.gathering.gather.Goals as goal
 
 -- what was answered, where it was told
-if_told : {A : Type 0} (told : Option A) (t : A) (P : A → Type 0) → told ≡ Some t → IfSome told P → P t
-if_told None t P is holds = absurd (cc)
-if_told (Some u) t P is holds = let same : u ≡ t = cc in subst P same holds
+if_told : {A E : Type 0} (told : Result A E) (t : A) (P : A → Type 0) → told ≡ Ok t → IfOk told P → P t
+if_told (Err e) t P is holds = absurd (cc)
+if_told (Ok u) t P is holds = let same : u ≡ t = cc in subst P same holds
 
-on_told : {A : Type 0} (told : Option A) (t : A) (P : Type 0) → told ≡ Some t → OnSome told P → P
-on_told None t P is holds = absurd (cc)
-on_told (Some u) t P is holds = holds
+on_told : {A E : Type 0} (told : Result A E) (t : A) (P : Type 0) → told ≡ Ok t → OnOk told P → P
+on_told (Err e) t P is holds = absurd (cc)
+on_told (Ok u) t P is holds = holds
 
-pub returns-in-None-clause-roots : goal.returns-in-None-clause-roots
-returns-in-None-clause-roots g c =
+pub returns-in-Err-gather_at-clause-roots : goal.returns-in-Err-gather_at-clause-roots
+returns-in-Err-gather_at-clause-roots g c =
     subst (λ (s : SystemState). AreRootsIn c.args.system.now s.roots) (sym c.system-in-loop-id.view_is)
     (roots_later c.args.system.now c.loop-id.system c.loop-id.invariant.arenas c.loop-id.invariant.roots c.gather_at.new.system.roots c.gather_at.ensures.roots)
 
@@ -25,8 +25,8 @@ pub loop-id-preserved : goal.loop-id-preserved
 loop-id-preserved g c =
     let before = c.args.system.now in
     let now = c.loop-id.system in
-    let ranges = c.in-Some-gather_at.ranges in
-    let is = c.in-Some-gather_at.is in
+    let ranges = c.in-Ok-gather_at.ranges in
+    let is = c.in-Ok-gather_at.is in
     let count = ap length c.loop-id.invariant.arenas in
     let tree = ap length c.tree.ensures in
     let view = ap (λ (s : SystemState). length s.arenas) c.system.view_is in

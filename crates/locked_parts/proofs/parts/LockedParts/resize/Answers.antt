@@ -6,8 +6,9 @@ use Rattle.locked_parts.proofs.parts.LockedParts.resize.Goals as goal
 
 pub returns : goal.returns
 returns g c = record {
+  asked = c.resize_each.ensures.asked;
   rose = λ e.
       (let seen = ap (λ (s : LockedPartsState). s.arenas) c.self.view_is in
-      let risen = rose_least _ c.args.arena c.args.size _ _ c.resize_each.result _ c.resize_each.ensures e in
+      let risen = rose_least _ _ _ c.args.arena c.args.size _ _ c.resize_each.result.rose _ c.resize_each.ensures.each e in
       (risen.0, subst (λ arenas. 0 < count_of_caches arenas c.args.arena) seen risen.1));
 }
