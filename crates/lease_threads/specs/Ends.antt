@@ -1,6 +1,7 @@
 -- A system that comes to its end, and what is left of one that doesn't.
 use Rattle.std.specs.Prelude.{◌≡◌, ◌≢◌, ◌==◌, ◌⊎◌, ℕ, ◌-◌, ◌^◌, ◌/◌, ◌<◌, ◌++◌, List, [], All}
-use Rattle.std.specs.Prelude.{AllPairs, length, map, nat_lt, position, slice_get, Option, Some, None}
+use Rattle.std.specs.Prelude.{AllPairs, length, map, nat_lt, position, slice_get}
+use Rattle.std.specs.Prelude.{Option, Some, None}
 use Rattle.std.specs.Global.{Vec}
 use Rattle.std.specs.List.Sorted.{IsPermutation, IsNonDecreasingBy}
 use Rattle.deed_core.specs.Extent.{Extent}
@@ -8,7 +9,11 @@ use Rattle.deed_core.specs.Holding.{Holding}
 use Rattle.deed_core.specs.Tag.{Tag}
 use Rattle.arena_tree.specs.declared.limits.TheConstants.{MOST_SPANS}
 use Rattle.locked_parts.specs.Growing.{AreRootsOf}
+use Rattle.locked_parts.specs.Handing.{IsNotTaken}
+use Rattle.locked_parts.specs.States.{LockedPartsState}
 use Rattle.lease_threads.specs.Systems.{SystemState}
+use Rattle.lease_threads.specs.declared.closing.Open.{Open}
+use Rattle.lease_threads.specs.declared.closing.Open.TheVariants as opened
 use Rattle.lease_threads.specs.declared.shutting.StoppedAt.{StoppedAt}
 use Rattle.lease_threads.specs.declared.shutting.StoppedAt.TheVariants as stop
 
@@ -60,8 +65,8 @@ pub record AreRootsIn (s : SystemState) (all : List (Vec Holding)) : Type 0 wher
 abbrev pub InOrder : List Holding → Type 0
 InOrder roots = AllPairs (λ a b. a.root < b.root) roots
 
--- the ranges of all roots of the arena of this number, each once, in that order; these are the roots
--- that it was set up with
+-- the ranges of all roots of the arena of this number, each once, in that order; these are the
+-- roots that it was set up with
 pub record AreRangesFor (id : ℕ) (own : List Holding) (ranges : List Extent) : Type 0 where
   pub all : List Holding
   pub each : AreRootsFor id own all
@@ -84,6 +89,11 @@ abbrev pub IsOdd : List Holding → Holding → Type 0
 IsOdd roots deed = (position (λ root. root.root == deed.root) roots ≡ None)
     ⊎ ((index : ℕ) × (root : Holding) × (slice_get roots index ≡ Some root)
     × (root.root ≡ deed.root) × (root ≢ deed))
+
+-- a root of the arena of this number stays open, and why no span was taken out of that is so
+abbrev pub IsOpenAt : LockedPartsState → ℕ → Open → Type 0
+IsOpenAt p id (opened.NotTaken why) = IsNotTaken p id why
+IsOpenAt p id (opened.Odd found) = Unit {0}
 
 -- no arena has a root
 abbrev pub AreClosed : List (Vec Holding) → Type 0

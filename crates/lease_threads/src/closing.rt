@@ -1,14 +1,13 @@
 //! How the roots of a system are closed.
-ghost use Rattle.std.specs.Prelude.{◌≡◌, ◌+◌, ◌<◌, [], length, None, IfErr, IfSome};
-ghost use Rattle.std.specs.Prelude.{◌==◌, IfNone, OnErr, OnOk, Some, position, slice_get};
-ghost use Rattle.deed_core.specs.Holding.{Holding};
+ghost use Rattle.std.specs.Prelude.{◌≡◌, ◌+◌, ◌<◌, [], length, None, IfErr, IfSome, OnOk};
 ghost use Rattle.std.specs.List.Sorted.{IsPermutation};
 ghost use Rattle.lease_threads.specs.Ends as ends;
 
 use crate::cpus::Cpu;
+use crate::matching::{OddDeed, close_by};
 use crate::systems::System;
-use deed_core::{Deed, Route, Segment, insert_reserved};
-use deed_table::{Name, Root, SeatDeed, close};
+use deed_core::{Route, Segment};
+use deed_table::{Name, Root};
 use locked_parts::{LockedParts, NotTaken};
 use std::sync::Wait;
 
@@ -37,10 +36,6 @@ pub(crate) enum Open {
     /// What was taken out of its arena is of no root.
     Odd(OddDeed),
 }
-
-/// That no root of a deed's number is the deed's own. Only `close_by` makes one, where it looked.
-#[derive(PartialEq, Eq, Debug, Drop)]
-pub(crate) struct OddDeed(());
 
 /// Takes the spans of the roots out of their arenas, one arena after another, and closes each root
 /// by its deed, up to one that stays open. A deed that isn't the whole of a root's is in the hand.
@@ -89,6 +84,7 @@ fn close_all<N: Name, R: Wait>(
 ) -> Result<(), Open>
     requires hand { cpu.old.hand ≡ None }
     ensures closed { OnOk result ((cpu.new.hand ≡ None) × (roots.new.items ≡ [])) }
+    ensures asked { IfErr result (ends.IsOpenAt parts.now id) }
 {
     'roots: while !roots.is_empty() {
         close_one(rt, parts, id, roots, cpu)?;
@@ -107,6 +103,7 @@ fn close_one<N: Name, R: Wait>(
     requires hand { cpu.old.hand ≡ None }
     ensures closed { OnOk result ((cpu.new.hand ≡ None)
         × (length roots.new.items + 1 ≡ length roots.old.items)) }
+    ensures asked { IfErr result (ends.IsOpenAt parts.now id) }
 {
     let deed = match parts.remove_owned(rt, id) {
         Ok(deed) => deed,
@@ -127,53 +124,4 @@ pub(crate) fn first_open<N: Name>(roots: &[Vec<Root<N>>]) -> Option<usize>
     ensures within { IfSome result (λ index. index < length roots.now) }
 {
     roots.iter().position(|roots| roots.len() > 0)
-}
-
-/// Closes the root of these that has the deed's number, if the deed is of the whole of it.
-fn close_by<N: Name>(
-    roots: &mut Vec<Root<N>>,
-    deed: SeatDeed<N>,
-) -> Result<(), (SeatDeed<N>, OddDeed)>
-    ensures closed { OnOk result (length roots.new.items + 1 ≡ length roots.old.items) }
-    ensures odd { OnErr result (ends.IsOdd roots.old.items deed) }
-    ensures handed_back { IfErr result (λ same. same.0 ≡ deed) }
-    ensures unchanged { OnErr result (roots.new.items ≡ roots.old.items) }
-{
-    let number = deed.root();
-    let Some(index) = index_of(roots, number) else {
-        return Err((deed, OddDeed(())));
-    };
-    let root = roots.remove(index);
-    match close(root, deed) {
-        Ok(_) => Ok(()),
-        Err((root, deed)) => {
-            insert_reserved(roots, index, root);
-            Err((deed, OddDeed(())))
-        }
-    }
-}
-
-/// Where a root of this number stands, which is mostly the last; None only where none does.
-fn index_of<N: Name>(roots: &[Root<N>], number: u32) -> Option<usize>
-    ensures within { IfSome result (λ index. index < length roots.now) }
-    ensures found { IfSome result
-        (λ index. (r : Holding) × (slice_get roots.now index ≡ Some r) × (r.root ≡ number)) }
-    ensures none { IfNone result (position (λ root. root.root == number) roots.now ≡ None) }
-{
-    if let Some(root) = roots.last() {
-        if root.number() == number {
-            return Some(roots.len() - 1);
-        }
-    }
-    first_of(roots, number)
-}
-
-/// Where the first one stands.
-fn first_of<N: Name>(roots: &[Root<N>], number: u32) -> Option<usize>
-    ensures first { result ≡ position (λ root. root.root == number) roots.now }
-    ensures within { IfSome result (λ index. index < length roots.now) }
-    ensures found { IfSome result
-        (λ index. (r : Holding) × (slice_get roots.now index ≡ Some r) × (r.root ≡ number)) }
-{
-    roots.iter().position(|root| root.number() == number)
 }

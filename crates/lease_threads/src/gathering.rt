@@ -1,16 +1,15 @@
 //! How all roots of a system are brought together and their ranges told.
-ghost use Rattle.std.specs.Prelude.{◌≡◌, ◌↔◌, ◌+◌, ◌<◌, ◌≤◌, [], map, length};
-ghost use Rattle.std.specs.Prelude.{IfOk, OnOk, OnErr, IfSome, IfNone, Some, None, IsTrue};
-ghost use Rattle.std.specs.Prelude.{vec_len, vec_capacity};
-ghost use Rattle.locked_parts.specs.Growing.{AreRootsOf};
+ghost use Rattle.std.specs.Prelude.{◌≡◌, ◌+◌, ◌<◌, IfOk, OnOk, length};
 ghost use Rattle.lease_threads.specs.Ends.{AreRangesFor, AreRangesOf, AreRootsFor, AreRootsIn};
-ghost use Rattle.lease_threads.specs.Ends.{AreInTurn, InOrder, InTurn, TellsArena};
+ghost use Rattle.lease_threads.specs.Ends.{AreInTurn, InTurn, TellsArena};
 
 use crate::closing::put_in_turn;
-use crate::systems::{System, owner_of};
+use crate::systems::System;
+use crate::telling::{Misnumbered, tell};
+use crate::told_rooms::{NoRoom, take_room};
 use deed_core::Range;
 use deed_table::{Name, Root};
-use locked_parts::{HandedOver, LockedParts, NotHandedOver};
+use locked_parts::{LockedParts, NotHandedOver};
 use std::sync::Wait;
 
 /// Why the roots of a system aren't brought together. What each has is made where it was found, and
@@ -25,17 +24,9 @@ pub(crate) enum NotGathered {
     Misnumbered(Misnumbered),
 }
 
-/// That there is no room for what is told. Only `take_room` makes one.
-#[derive(PartialEq, Eq, Debug, Drop)]
-pub(crate) struct NoRoom(());
-
-/// That the numbers of roots don't rise, or aren't all of their arena. Only `tell` makes one.
-#[derive(PartialEq, Eq, Debug, Drop)]
-pub(crate) struct Misnumbered(());
-
 /// Takes the roots that `grow` opened from behind the locks, tells the ranges of all by arena, and
-/// puts the roots of each in the turn in which they are closed. Room for that was made before. Where
-/// an arena keeps its roots all the same, those that were taken so far stand with the others.
+/// puts the roots of each in the turn in which they are closed. Room for that was made before.
+/// Where an arena keeps its roots all the same, those that were taken so far stand with the others.
 pub(crate) fn gather<N: Name, R: Wait>(
     rt: &R,
     system: &mut System<N>,
@@ -61,18 +52,6 @@ pub(crate) fn gather<N: Name, R: Wait>(
         }
     }
     Ok(told)
-}
-
-/// Takes the room for what is told, if it wasn't given away.
-fn take_room(room: &mut Option<Vec<Vec<Range>>>) -> Result<Vec<Vec<Range>>, NoRoom>
-    ensures some { IfOk result (λ told. room.old ≡ Some told) }
-    ensures none { OnErr result (room.old ≡ None) }
-    ensures taken { room.new ≡ None }
-{
-    match room.take() {
-        Some(told) => Ok(told),
-        None => Err(NoRoom(())),
-    }
 }
 
 /// The same of the arena of this number.
@@ -114,39 +93,4 @@ fn gather_roots<N: Name, R: Wait>(
         }
         Err(found) => Err(NotGathered::Misnumbered(found)),
     }
-}
-
-/// The ranges of the roots, whose numbers rise and are all of this arena. A number that stands
-/// twice, or is of another, which no table opens, is refused.
-fn tell<N: Name>(id: u32, handed: HandedOver, roots: &[Root<N>]) -> Result<Vec<Range>, Misnumbered>
-    requires arena { handed.arena ≡ id }
-    requires none { handed.ranges.items ≡ [] }
-    requires room { length roots.now ≤ vec_capacity handed.ranges }
-    ensures order { OnOk result (InOrder roots.now) }
-    ensures of_arena { OnOk result (AreRootsOf id roots.now) }
-    ensures told { IfOk result (λ told. told.items ≡ map (λ r. r.range) roots.now) }
-    ensures refused { OnErr result (¬ (InOrder roots.now × AreRootsOf id roots.now)) }
-{
-    if !are_in_order(roots) || !are_of(id, roots) {
-        return Err(Misnumbered(()));
-    }
-    let mut ranges = handed.into_ranges();
-    for root in roots {
-        ranges.push_reserved(root.range());
-    }
-    Ok(ranges)
-}
-
-/// Whether the numbers of the roots rise.
-fn are_in_order<N: Name>(roots: &[Root<N>]) -> bool
-    ensures { IsTrue result ↔ InOrder roots.now }
-{
-    roots.is_sorted_by(|a, b| a.number() < b.number())
-}
-
-/// Whether the roots are all of the arena of this number.
-fn are_of<N: Name>(id: u32, roots: &[Root<N>]) -> bool
-    ensures { IsTrue result ↔ AreRootsOf id roots.now }
-{
-    roots.iter().all(|root| owner_of(root) == id)
 }

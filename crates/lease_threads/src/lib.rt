@@ -10,10 +10,10 @@
 //! it (shared_books), and tells what that ended with (replies). A segment that it left is the CPU's
 //! hand (hands). `tick`, `resize`, `grow` and `reap` (upkeep) keep the system in shape, and
 //! `retire` (retiring) ends a CPU. `shut` (shutting) ends a system: its roots are brought together
-//! from behind the locks and told (gathering), in room that was made for them, all that lies in its
-//! parts is placed (emptying), the roots are closed (closing), and its parts and its book are ended
-//! (ending). Those who watch a system are told what its parts and its book have, each under its own
-//! lock (sums).
+//! from behind the locks (gathering) and told (telling), in room that was made for that
+//! (told_rooms), all that lies in its parts is placed (emptying), the roots are closed (closing),
+//! each by the deed of its own (matching), and its parts and its book are ended (ending). Those who
+//! watch a system are told what its parts and its book have, each under its own lock (sums).
 //!
 //! What contracts see of a system and a CPU stands in `specs/Systems.antt`, what a line may be
 //! answered in `Replying.antt` and `Settling.antt`, that its list of steps was gone through in
@@ -39,6 +39,7 @@ mod gathering;
 mod hands;
 mod laws;
 mod marked_books;
+mod matching;
 mod openings;
 mod replies;
 mod requests;
@@ -47,6 +48,8 @@ mod shared_books;
 mod shutting;
 mod sums;
 mod systems;
+mod telling;
+mod told_rooms;
 mod upkeep;
 
 pub use cpus::Cpu;

@@ -102,8 +102,8 @@ impl<N: Name> MarkedBook<N> {
         }
     }
 
-    /// Ends a lease of an older incarnation of the client whose hello was taken; where none is left,
-    /// it is welcome.
+    /// Ends a lease of an older incarnation of the client whose hello was taken; where none is
+    /// left, it is welcome.
     pub(crate) fn sweep(
         &mut self,
         taken: &Taken<SeatDeed<N>>,
@@ -164,8 +164,8 @@ impl<N: Name> MarkedBook<N> {
         self.book.client_at(index)
     }
 
-    /// How many leases these clients have, in order of first hello: so many of them, from one on. It
-    /// stays at the greatest number.
+    /// How many leases these clients have, in order of first hello: so many of them, from one on.
+    /// It stays at the greatest number.
     pub(crate) fn leases(&self, from: usize, count: usize) -> usize
         requires { from + count < 2 ^ 64 }
         ensures { result ≡ min (leases_from self.now.accounts from count) (2 ^ 64 - 1) }

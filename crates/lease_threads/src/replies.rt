@@ -41,8 +41,8 @@ pub struct LineAnswer<V, W> {
     pub reply: Reply,
     pub receipt: Option<V>,
     pub word: Option<W>,
-    /// Whether the line was settled just now, by this receipt. A request that comes again gets what it
-    /// was settled by before, which is of the line that came first.
+    /// Whether the line was settled just now, by this receipt. A request that comes again gets what
+    /// it was settled by before, which is of the line that came first.
     pub is_new: bool,
 }
 

@@ -33,13 +33,13 @@ use std::sync::Wait;
 pub(crate) type Ended<N, T> = Result<T, CallFault<Segment<SeatDeed<N>>>>;
 
 impl<N: Name> System<N> {
-    /// Answers one line of a client, and tells whether the line was settled by that. Then a grant is
-    /// of the arena that the line names, by that one's quantum, and for what it asks; what is
-    /// released is the lease of the arena and the base that it names; and a refusal's word may be so.
-    /// What is settled neither now nor before is answered by the book's word, or `again`. The gate is
-    /// asked before each step; where it says Stop the request ends there, and the CPU keeps what that
-    /// left in its hand, and its magazines. A segment that can't be placed stays in the hand: each
-    /// request tries to place it first, and is answered `again` while it can't.
+    /// Answers one line of a client, and tells whether the line was settled by that. Then a grant
+    /// is of the arena that the line names, by that one's quantum, and for what it asks; what is
+    /// released is the lease of the arena and the base that it names; and a refusal's word may be
+    /// so. What is settled neither now nor before is answered by the book's word, or `again`. The
+    /// gate is asked before each step; where it says Stop the request ends there, and the CPU keeps
+    /// what that left in its hand, and its magazines. A segment that can't be placed stays in the
+    /// hand: each request tries to place it first, and is answered `again` while it can't.
     pub fn request<R: Wait, G: Gate>(
         &self,
         rt: &R,

@@ -158,7 +158,8 @@ impl<N: Name> Rest<N> {
         requires told { IsSome self.told }
         requires closed { AreClosed self.system.roots }
         ensures ranges { IfOk result (λ ranges. self.told ≡ Some ranges.items) }
-        ensures rest { IfErr result (λ rest. (rest.told ≡ self.told) × (rest.system ≡ self.system)) }
+        ensures rest { IfErr result
+            (λ rest. (rest.told ≡ self.told) × (rest.system ≡ self.system)) }
     {
         let Rest { told, system, cpu } = self;
         if let Err((cpu, has)) = cpu.end() {
@@ -220,9 +221,9 @@ impl<N: Name> Rest<N> {
 impl<N: Name> System<N> {
     /// Ends all leases, empties depots and slabs, hands imported spans back, and closes each root
     /// and the root of the book's mark: gives the ranges of the roots, a list for each arena in
-    /// order of setup, which has each once, in order of adding, whether the setup or `grow` added it.
-    /// All CPUs are to be retired before; what one of them still has is missing, and the rest of
-    /// the system comes back. It takes no memory.
+    /// order of setup, which has each once, in order of adding, whether the setup or `grow` added
+    /// it. All CPUs are to be retired before; what one of them still has is missing, and the rest
+    /// of the system comes back. It takes no memory.
     pub fn shut<R: Wait>(self, rt: &R) -> Result<Vec<Vec<Range>>, Halted<N>>
         ensures ranges { IfOk result (λ ranges. AreRangesOf self ranges.items) }
         ensures rest { IfErr result (IsRestOf (begun self)) }

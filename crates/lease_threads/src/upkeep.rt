@@ -3,6 +3,7 @@ ghost use Rattle.std.specs.Prelude.{◌≡◌, ◌⊎◌, ◌<◌, ◌≤◌, If
 ghost use Rattle.magazine_layer.specs.Magazines.{IsSize};
 ghost use Rattle.locked_parts.specs.Growing.{AnswersGrow, IsGrowthBy};
 ghost use Rattle.locked_parts.specs.Kinds.{AreForSame, count_of_caches};
+ghost use Rattle.locked_parts.specs.Walks.{IsResizedFor};
 ghost use Rattle.lease_threads.specs.Reaping.{ReapsSoundly, KeepsHand, unbegun};
 
 use crate::cpus::Cpu;
@@ -15,8 +16,8 @@ use quantum_cache::{EmptyingFault, ReapFault, Reaping, reap_arena};
 use std::sync::Wait;
 
 impl<N: Name> System<N> {
-    /// Begins an interval in each depot, one after another, in order of setup, and tells in how many
-    /// arenas.
+    /// Begins an interval in each depot, one after another, in order of setup, and tells in how
+    /// many arenas.
     pub fn tick<R: Wait>(&self, rt: &R) -> Interval
         ensures { result ≡ length self.now.arenas }
     {
@@ -27,7 +28,7 @@ impl<N: Name> System<N> {
     /// tells whether one of them kept smaller ones before. An arena that isn't there has none.
     pub fn resize<R: Wait>(&self, rt: &R, arena: u32, size: usize) -> Resized
         requires { IsSize size }
-        ensures asked { (result.arena ≡ arena) × (result.size ≡ size) }
+        ensures asked { IsResizedFor self.now.arenas arena size result }
         ensures rose { result.rose ≡ true
             → (3 < size) × (0 < count_of_caches self.now.arenas arena) }
     {

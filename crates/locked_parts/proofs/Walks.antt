@@ -21,7 +21,7 @@ rose_by resizes P arena size (suc n) s rose t is walk e = (
 -- where the depots say so, each rises above the least size alone
 says_least : (p : LockedPartsState) (arena cache size : ℕ) (said : Option ResizeSaidState) → SaysResize p arena cache size true said → 3 < size
 says_least p arena cache size said (inl (none, e)) = absurd (let x : false ≡ true = sym e in cc)
-says_least p arena cache size said (inr (kind, one, stands, is, asked, e)) = (asked.1 (sym e)).1
+says_least p arena cache size said (inr (kind, one, stands, is, asked, e)) = (asked.2 (sym e)).1
 
 pub rose_least : {S : Type 0} (same : S → S → Type 0) (parts : S → LockedPartsState) (said : S → Option ResizeSaidState) (arena size count : ℕ) (s : S) (rose : Bool) (t : S)
     → ResizesCaches (λ u a c n r v. same u v × SaysResize (parts u) a c n r (said v)) arena size count s rose t → rose ≡ true → (3 < size) × (0 < count)

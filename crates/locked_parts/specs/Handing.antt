@@ -20,7 +20,7 @@ IsNotTaken p arena (taking.Ended found) = p.standing ≤ arena
 IsNotTaken p arena (taking.NoneWhole asked) =
     (a : LockedArenaState) × (slice_get p.stand arena ≡ Some a) × (asked ≡ a.number)
 
--- no root was handed over: the arena is ended, or was asked for roots that it doesn't count
+-- no root was handed over: the arena is ended, or one was asked by this number
 abbrev pub IsNotHandedOver : LockedPartsState → ℕ → NotHandedOver → Type 0
 IsNotHandedOver p arena (handing.Ended found) = p.standing ≤ arena
 IsNotHandedOver p arena (handing.NotCounted asked) = asked ≡ arena

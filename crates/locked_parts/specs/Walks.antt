@@ -37,15 +37,17 @@ SaysTick p arena cache said = IsNoCache p arena cache
     ⊎ ((kind : CacheKind) × (one : TickSaidState) × StandsAt p arena cache kind
     × (said ≡ Some one) × IsTickFor kind one)
 
--- which depot was asked to keep magazines of which size, and whether it had smaller ones
+-- which depot was asked to keep magazines of which size, whether it is the one that was meant, and
+-- whether it had smaller ones
 pub record ResizeSaidState : Type 0 where
   pub kind : CacheKind
   pub size : ℕ
+  pub is_meant : Bool
   pub rose : Bool
 
--- it was asked for the depot of this cache and for this size: where it is another it has none
+-- it was asked for the depot of this cache and for this size: another than that has none
 abbrev pub IsResizeFor : CacheKind → ℕ → ResizeSaidState → Type 0
-IsResizeFor kind size said = (said.size ≡ size)
+IsResizeFor kind size said = (said.size ≡ size) × (IsTrue said.is_meant ↔ (said.kind ≡ kind))
     × (said.rose ≡ true → (said.kind ≡ kind) × (3 < size))
 
 -- what was asked last says so of the cache that stands at this place; or there is none
@@ -55,11 +57,18 @@ SaysResize p arena cache size rose said = (IsNoCache p arena cache × (rose ≡ 
     ⊎ ((kind : CacheKind) × (one : ResizeSaidState) × StandsAt p arena cache kind
     × (said ≡ Some one) × IsResizeFor kind size one × (rose ≡ one.rose))
 
--- the depots of an arena were asked for magazines of a size, and whether one of them had smaller ones
+-- so many depots of an arena were asked for magazines of a size, and whether one of them had
+-- smaller ones
 pub record ResizedState : Type 0 where
   pub arena : ℕ
+  pub depots : ℕ
   pub size : ℕ
   pub rose : Bool
+
+-- those of all quantum caches of the arena were asked for this size
+abbrev pub IsResizedFor : List TreeArena → (arena size : ℕ) → ResizedState → Type 0
+IsResizedFor arenas arena size resized = (resized.arena ≡ arena)
+    × (resized.depots ≡ count_of_caches arenas arena) × (resized.size ≡ size)
 
 -- the depots of the arena's first caches, so many, are asked one after another to keep magazines of
 -- this size, and whether one of them rose

@@ -1,7 +1,8 @@
 //! An arena as its lock keeps it. What lies there when the lock is taken is known by its type
 //! alone, so that each event looks whether it is the arena that is meant.
-ghost use Rattle.std.specs.Prelude.{◌≡◌, ◌≢◌, ◌<◌, ◌≤◌, ◌↔◌, ◌++◌, List, [], Some, None, Ok, true, false};
-ghost use Rattle.std.specs.Prelude.{IsOk, OnOk, OnErr, IfOk, IfErr, vec_len, vec_capacity};
+ghost use Rattle.std.specs.Prelude.{◌≡◌, ◌≢◌, ◌<◌, ◌≤◌, ◌↔◌, ◌++◌, List, [], Some, None, Ok};
+ghost use Rattle.std.specs.Prelude.{IsOk, OnOk, OnErr, IfOk, IfErr, true, false};
+ghost use Rattle.std.specs.Prelude.{vec_len, vec_capacity};
 ghost use Rattle.deed_core.specs.Covering.{units_held};
 ghost use Rattle.deed_core.specs.Request.{rounding_of, plain_of};
 ghost use Rattle.tag_arena.specs.ArenaState.{ranges_of};
@@ -76,8 +77,8 @@ impl Model for NoneWhole {
     ghost inverse = { λ n. record { arena = n } };
 }
 
-/// That the arena of this number was asked for its roots, and counts fewer beside its lock than were
-/// given, or is another. Only `ArenaPart` makes one, where it is asked.
+/// That the arena of this number was asked for its roots, and counts fewer beside its lock than
+/// were given, or is another. Only `ArenaPart` makes one, where it is asked.
 #[derive(PartialEq, Eq, Debug, Drop)]
 pub struct NotCounted {
     arena: u32,

@@ -2,7 +2,7 @@
 ghost use Rattle.std.specs.Prelude.{◌≡◌, ◌<◌, length};
 ghost use Rattle.magazine_layer.specs.Magazines.{IsSize};
 ghost use Rattle.locked_parts.specs.Kinds.{count_of_caches};
-ghost use Rattle.locked_parts.specs.Walks.{TicksCaches, TicksArenas, ResizesCaches};
+ghost use Rattle.locked_parts.specs.Walks.{IsResizedFor, TicksCaches, TicksArenas, ResizesCaches};
 
 use crate::kinds::cache_count;
 use arena_tree::Tree;
@@ -46,11 +46,12 @@ impl Model for Interval {
     ghost inverse = { λ n. record { arenas = n } };
 }
 
-/// That each depot of an arena was asked to keep magazines of a size from here on, and whether one of
-/// them had smaller ones. Only `resize_each` makes one. A contract sees which arena and size.
+/// That so many depots of an arena were asked to keep magazines of a size from here on, and whether
+/// one of them had smaller ones. Only `resize_each` makes one. A contract sees all.
 #[derive(PartialEq, Eq, Debug, Drop)]
 pub struct Resized {
     arena: u32,
+    depots: u8,
     size: usize,
     rose: bool,
 }
@@ -60,9 +61,19 @@ impl Model for Resized {
 
     ghost Value = { ResizedState };
 
-    ghost view = { λ r. record { arena = r.arena; size = r.size; rose = r.rose } };
+    ghost view = { λ r. record {
+      arena = r.arena;
+      depots = r.depots;
+      size = r.size;
+      rose = r.rose;
+    } };
 
-    ghost inverse = { λ r. record { arena = r.arena; size = r.size; rose = r.rose } };
+    ghost inverse = { λ r. record {
+      arena = r.arena;
+      depots = r.depots;
+      size = r.size;
+      rose = r.rose;
+    } };
 }
 
 impl Resized {
@@ -105,7 +116,7 @@ pub(crate) fn resize_each<D: Depots>(
     requires { IsSize size }
     ensures each { ResizesCaches D.resizes arena size (count_of_caches tree.now arena)
         depots.old result.rose depots.new }
-    ensures asked { (result.arena ≡ arena) × (result.size ≡ size) }
+    ensures asked { IsResizedFor tree.now arena size result }
 {
     let count = if (arena as usize) < tree.len() {
         cache_count(tree, arena)
@@ -113,7 +124,12 @@ pub(crate) fn resize_each<D: Depots>(
         0
     };
     let rose = resize_caches(depots, arena, count, size);
-    Resized { arena, size, rose }
+    Resized {
+        arena,
+        depots: count,
+        size,
+        rose,
+    }
 }
 
 /// Asks those of the arena's first caches, so many.

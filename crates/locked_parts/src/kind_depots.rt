@@ -4,7 +4,7 @@ ghost use Rattle.std.specs.Prelude.{◌≤◌, ◌-◌, ◌^◌, true, false, No
 ghost use Rattle.deed_core.specs.Covering.{units_tagged};
 ghost use Rattle.magazine_layer.specs.Magazines.{IsSize};
 ghost use Rattle.magazine_layer.specs.Depots.{new_depot, after_tick, after_resize, depot_rounds};
-ghost use Rattle.magazine_layer.specs.Calls.{DepotReapOf, ResizeOf};
+ghost use Rattle.magazine_layer.specs.Calls.{DepotReapOf};
 ghost use Rattle.locked_parts.specs.Kinds.{IsOfKind};
 ghost use Rattle.locked_parts.specs.Saying.{IsOtherDepot, depot_said};
 ghost use Rattle.locked_parts.specs.Sums.{DepotTells};
@@ -19,7 +19,7 @@ use crate::said::Said;
 use crate::words::{Word, word_of_empty, word_of_full, word_of_given};
 use arena_tree::FreshFault;
 use deed_core::{Deed, Segment};
-use magazine_layer::{Depot, EmptyFault, FullFault, Magazine, NotGreater, PutFullFault};
+use magazine_layer::{Depot, EmptyFault, FullFault, Magazine, PutFullFault};
 use std::alloc::Global;
 use std::marker::Model;
 
@@ -76,12 +76,14 @@ impl Model for TickSaid {
     ghost inverse = { λ s. record { kind = s.kind; begun = s.begun } };
 }
 
-/// That the depot of this quantum cache was asked to keep magazines of this size from here on, and
-/// whether it had smaller ones. Only `KindDepot` makes one, where it is asked.
+/// That the depot of this quantum cache was asked to keep magazines of this size from here on,
+/// whether it is the one that was meant, and whether it had smaller ones. Only `KindDepot` makes
+/// one, where it is asked.
 #[derive(PartialEq, Eq, Debug, Drop)]
 pub(crate) struct ResizeSaid {
     kind: CacheKind,
     size: usize,
+    is_meant: bool,
     rose: bool,
 }
 
@@ -90,9 +92,19 @@ impl Model for ResizeSaid {
 
     ghost Value = { ResizeSaidState };
 
-    ghost view = { λ s. record { kind = s.kind; size = s.size; rose = s.rose } };
+    ghost view = { λ s. record {
+      kind = s.kind;
+      size = s.size;
+      is_meant = s.is_meant;
+      rose = s.rose;
+    } };
 
-    ghost inverse = { λ s. record { kind = s.kind; size = s.size; rose = s.rose } };
+    ghost inverse = { λ s. record {
+      kind = s.kind;
+      size = s.size;
+      is_meant = s.is_meant;
+      rose = s.rose;
+    } };
 }
 
 impl ResizeSaid {
@@ -226,15 +238,8 @@ impl<D: Deed> KindDepot<D> {
         }
     }
 
-    /// Begins an interval.
-    pub(crate) fn tick(&mut self)
-        ensures { self.new ≡ record { kind = self.old.kind; depot = after_tick self.old.depot } }
-    {
-        self.depot.tick();
-    }
-
-    /// The same in the depot of this quantum cache; another is left as it was. It says which one it
-    /// is.
+    /// Begins an interval if it is the depot of this quantum cache; another is left as it was. It
+    /// says which one it is.
     pub(crate) fn tick_of(&mut self, kind: &CacheKind) -> TickSaid
         ensures own { result.kind ≡ self.old.kind }
         ensures said { IsTickFor kind.now result }
@@ -245,22 +250,13 @@ impl<D: Deed> KindDepot<D> {
         let own = self.kind;
         let begun = own.is(kind);
         if begun {
-            self.tick();
+            self.depot.tick();
         }
         TickSaid { kind: own, begun }
     }
 
-    /// Has magazines of a greater size from here on.
-    pub(crate) fn resize(&mut self, size: usize) -> Result<(), NotGreater>
-        requires { IsSize size }
-        ensures resized { ResizeOf self.old.depot size result self.new.depot }
-        ensures kind { self.new.kind ≡ self.old.kind }
-    {
-        self.depot.resize(size)
-    }
-
-    /// The same in the depot of this quantum cache; another is left as it was. It says which one it
-    /// is, and whether it had smaller ones.
+    /// Has magazines of this size from here on, if it is the depot of this quantum cache and had
+    /// smaller ones; another is left as it was. It says which one it is.
     pub(crate) fn resize_of(&mut self, kind: &CacheKind, size: usize) -> ResizeSaid
         requires { IsSize size }
         ensures own { result.kind ≡ self.old.kind }
@@ -277,15 +273,17 @@ impl<D: Deed> KindDepot<D> {
             return ResizeSaid {
                 kind: own,
                 size,
+                is_meant: false,
                 rose: false,
             };
         }
         // For its clause: what is always so of a depot.
         let _ = self.depot.size();
-        let rose = self.resize(size).is_ok();
+        let rose = self.depot.resize(size).is_ok();
         ResizeSaid {
             kind: own,
             size,
+            is_meant: true,
             rose,
         }
     }

@@ -1,6 +1,7 @@
 //! The parts of a system, each under its lock.
-ghost use Rattle.std.specs.Prelude.{◌≡◌, ◌+◌, ◌<◌, IfErr, IfSome, IsOk, OnErr, OnOk, Err, length, true};
-ghost use Rattle.std.specs.Prelude.{IfOk, IfNone, [], ◌≤◌, ◌↔◌, vec_len, vec_capacity, slice_get, Some};
+ghost use Rattle.std.specs.Prelude.{◌≡◌, ◌+◌, ◌<◌, ◌≤◌, ◌↔◌, [], IfErr, IfSome, IsOk, OnErr, OnOk};
+ghost use Rattle.std.specs.Prelude.{IfOk, IfNone, Err, Some, length, slice_get, true};
+ghost use Rattle.std.specs.Prelude.{vec_len, vec_capacity};
 ghost use Rattle.arena_tree.specs.Chains.{quantum_in};
 ghost use Rattle.arena_tree.specs.Trees.{nodes_of};
 ghost use Rattle.locked_parts.specs.Kinds.{count_of_caches, caches_before, AreCachesBefore};
@@ -9,7 +10,7 @@ ghost use Rattle.locked_parts.specs.Growing.{MayRefuseGrow};
 ghost use Rattle.locked_parts.specs.Handing.{IsNotHandedOver, IsNotTaken};
 ghost use Rattle.locked_parts.specs.News.{StandAsSet};
 ghost use Rattle.locked_parts.specs.Saying.{HasCache, HasCacheAt};
-ghost use Rattle.locked_parts.specs.Walks.{IsResizeFor, IsTickFor};
+ghost use Rattle.locked_parts.specs.Walks.{IsResizeFor, IsResizedFor, IsTickFor};
 ghost use Rattle.magazine_layer.specs.Magazines.{IsSize};
 
 use crate::arena_parts::{ArenaPart, Grown, HandedOver, NoneWhole, NotCounted};
@@ -41,8 +42,8 @@ impl<N: Name> Model for LockedCache<N> {
     ghost view = { λ c. c.kind };
 }
 
-/// An arena under its lock, and beside that its number, and its quantum caches by their numbers, from
-/// 1 on. A contract sees these.
+/// An arena under its lock, and beside that its number, and its quantum caches by their numbers,
+/// from 1 on. A contract sees these.
 pub struct LockedArena<N: Name> {
     pub(crate) number: u32,
     pub(crate) part: Mutex<ArenaPart<N>>,
@@ -88,7 +89,7 @@ impl<N: Name> LockedCache<N> {
         self.depot.lock(rt).tick_of(&self.kind)
     }
 
-    /// Has its depot keep magazines of this size from here on, which says whether it is that, and
+    /// Has its depot keep magazines of this size from here on, which says whether it is that and
     /// had smaller ones.
     pub(crate) fn resize<R: Wait>(&self, rt: &R, size: usize) -> ResizeSaid
         requires { IsSize size }
@@ -150,8 +151,8 @@ impl<N: Name> LockedParts<N> {
         &self.tree
     }
 
-    /// Where a CPU keeps its magazines for a quantum cache: after those for the caches of the arenas
-    /// before, and for the lesser ones of the arena.
+    /// Where a CPU keeps its magazines for a quantum cache: after those for the caches of the
+    /// arenas before, and for the lesser ones of the arena.
     pub(crate) fn own_index(&self, arena: u32, number: u8) -> usize
         ensures { arena < length self.now.arenas → 0 < number
             → result + 1 ≡ caches_before self.now.arenas arena + number }
@@ -175,7 +176,7 @@ impl<N: Name> LockedParts<N> {
     /// of them kept smaller ones before. An arena that isn't there has none.
     pub fn resize<R: Wait>(&self, rt: &R, arena: u32, size: usize) -> Resized
         requires { IsSize size }
-        ensures asked { (result.arena ≡ arena) × (result.size ≡ size) }
+        ensures asked { IsResizedFor self.now.arenas arena size result }
         ensures rose { result.rose ≡ true
             → (3 < size) × (0 < count_of_caches self.now.arenas arena) }
     {

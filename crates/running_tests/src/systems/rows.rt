@@ -120,6 +120,7 @@ fn risen<N: Name, R: Abort + Wait + AllocGlobal>(rt: &R, ground: Ground, setup: 
     assert!(rt; system.resize(rt, 0, 15).rose());
     assert!(rt; !system.resize(rt, 0, 15).rose());
     assert!(rt; !system.resize(rt, 0, 7).rose());
+    assert!(rt; !system.resize(rt, 1, 31).rose());
     assert!(rt; system.resize(rt, 0, 31).rose());
     assert!(rt; !system.resize(rt, 0, 15).rose());
     shut(rt, system, &[(0, 64)]);

@@ -5,6 +5,3 @@ use Rattle.lease_threads.proofs.openings.lock_parts.Goals as goal
 
 pub new-requires : goal.new-requires
 new-requires g c = stand_as_set c.args.tree c.args.made.items _ c.requires.count c.requires.set_up (c.lock_all.ensures.stand ∙ ap (λ l. l ++ map locked_of c.args.made.items) c.requires.none.0)
-
-pub returns-clause-stand : goal.returns-clause-stand
-returns-clause-stand g c = stand_as_set c.args.tree c.args.made.items c.new.result.stand c.requires.count c.requires.set_up (c.new.ensures.stand ∙ (c.lock_all.ensures.stand ∙ ap (λ l. l ++ map locked_of c.args.made.items) c.requires.none.0))

@@ -1,7 +1,7 @@
 use Rattle.std.proofs.Common.{◌≡◌, ◌∙◌, Some, Ok, Err, IsOk, inl, inr, rules, sym}
 use Rattle.std.specs.Prelude.{Result, slice_get}
 use Rattle.deed_core.proofs.LawProofs.{read_is}
-use Rattle.lease_threads.proofs.closing.close_by.Goals as goal
+use Rattle.lease_threads.proofs.matching.close_by.Goals as goal
 
 not_ok : {A E : Type 0} (r : Result A E) (e : E) → r ≡ Err e → IsOk r → ⊥
 not_ok (Ok a) e is ok = absurd (cc)
