@@ -1,7 +1,9 @@
 -- What a roll counts.
-use Rattle.std.specs.Prelude.{ℕ, ◌+◌, ◌-◌, ◌^◌, min, Result, Ok, Err}
+use Rattle.std.specs.Prelude.{ℕ, Bool, true, false, ◌+◌, ◌-◌, ◌^◌, min, Option, Some, None}
+use Rattle.std.specs.Prelude.{Result, Ok, Err}
 use Rattle.lease_tcp.specs.declared.rolls.NotEntered.{NotEntered}
 use Rattle.lease_tcp.specs.declared.rolls.NotEntered.TheVariants.{Full, Ended, Memory}
+use Rattle.lease_tcp.specs.declared.rolls.Row.{Row}
 
 -- a count of what came once more, which stays at the greatest number
 abbrev pub one_more : ℕ → ℕ
@@ -20,3 +22,12 @@ failed_after (Ok key) n = n
 failed_after (Err Full) n = n
 failed_after (Err Ended) n = n
 failed_after (Err Memory) n = one_more n
+
+-- how many were begun, once this row is begun, which counts only the first time
+abbrev pub begun_once : Bool → ℕ → ℕ
+begun_once false n = one_more n
+begun_once true n = n
+
+abbrev pub begun_after : Option Row → ℕ → ℕ
+begun_after None n = n
+begun_after (Some row) n = begun_once row.begun n

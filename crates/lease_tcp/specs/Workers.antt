@@ -11,7 +11,7 @@ use Rattle.lease_tcp.specs.declared.system_workers.TheConstants.{REAP_LIMIT}
 use Rattle.lease_threads.specs.Calling.{RunsLine}
 use Rattle.lease_threads.specs.Reaping.{KeepsHand, ReapsSoundly}
 use Rattle.lease_threads.specs.Replying.{IsAnswerTo, IsAgain}
-use Rattle.lease_threads.specs.Retiring.{RetiresSoundly}
+use Rattle.lease_threads.specs.Retiring.{IsDrained, RetiresSoundly}
 use Rattle.lease_threads.specs.Systems.{CpuState}
 use Rattle.locked_parts.specs.Kinds.{AreForSame}
 use Rattle.quantum_cache.specs.declared.reaps.Reaping.{Reaping}
@@ -30,6 +30,11 @@ pub record StaysCpu (old new : CpuState) : Type 0 where
 pub record SeatState : Type 0 where
   pub cpu : CpuState
   pub has_moved : Bool
+
+-- the arenas of a system, and how many seats connections share
+pub record SharedState : Type 0 where
+  pub arenas : List TreeArena
+  pub seats : ℕ
 
 -- units go through a CPU where a line is settled by this reply
 abbrev pub moves_units : Reply → Bool
@@ -58,6 +63,7 @@ Stays old new = (new.arenas ≡ old.arenas) × StaysCpu old.cpu new.cpu
 -- the CPU was drained, as far as can be told of a running system
 abbrev pub MayDrain : SystemWorkerState → SystemWorkerState → Type 0
 MayDrain old new = Stays old new × RetiresSoundly old.arenas old.cpu.hand new.cpu.hand
+    × IsDrained old.arenas new.cpu
 
 -- the arena of this number was reaped by the CPU, as far as can be told of a running system; or the
 -- CPU's hand can't be placed, and no look was taken

@@ -4,9 +4,9 @@ ghost use Rattle.std.specs.Prelude.{◌≡◌};
 
 use crate::houses::House;
 use crate::rounds::{Rounds, keep_rounds};
-use crate::seats::Reaped;
+use crate::seats::{Drained, Reaped};
 use crate::shared_cpus::SharedCpus;
-use crate::tidying::{Upkeep, tidy_by};
+use crate::tidying::{Tidied, Upkeep, tidy_by};
 use deed_table::Name;
 use lease_threads::Interval;
 use std::sync::Wait;
@@ -22,32 +22,34 @@ const ROUND: u64 = 1000;
 /// How often each arena is reaped in a round at most, by `REAP_LIMIT` looks at most each time.
 const REAPS: u32 = 64;
 
-/// Who keeps a house, and when it last went round.
+/// Who keeps a house, when it last went round, and what came of that if it was in this turn.
 #[derive(Drop)]
 struct Keeper<'a, N: Name, R> {
     rt: &'a R,
     house: &'a House<'a, N>,
     round: Option<Instant>,
+    done: Option<Tidied>,
 }
 
 impl<N: Name, R: Wait + Clock> Rounds for Keeper<'_, N, R> {
-    ghost use Rattle.std.specs.Prelude.{⊤};
+    ghost use Rattle.std.specs.Prelude.{◌≡◌, ⊤, false, true, is_some};
 
     // (of a flag no contract can say what threads make it, of a clock what it tells, of locks what
     // lies under them)
     ghost may_end = { λ _ _. ⊤ };
 
-    ghost may_rest = { λ _ _. ⊤ };
+    ghost may_rest = { λ _ rested. is_some rested.done ≡ false };
 
     ghost may_be_due = { λ _ _. ⊤ };
 
-    ghost may_go = { λ _ _. ⊤ };
+    ghost may_go = { λ _ gone. is_some gone.done ≡ true };
 
     fn is_over(&self) -> bool {
         self.house.is_over()
     }
 
     fn rest(&mut self) {
+        self.done = None;
         thread::sleep(self.rt, Duration::from_millis(KEEPER_TURN));
     }
 
@@ -56,7 +58,7 @@ impl<N: Name, R: Wait + Clock> Rounds for Keeper<'_, N, R> {
     }
 
     fn go(&mut self) {
-        go_round(self.rt, &self.house.cpus);
+        self.done = Some(go_round(self.rt, &self.house.cpus));
         self.round = Instant::now(self.rt).ok();
     }
 }
@@ -67,6 +69,7 @@ pub fn keep<N: Name, R: Wait + Clock>(rt: &R, house: &House<'_, N>) {
         rt,
         house,
         round: Instant::now(rt).ok(),
+        done: None,
     };
     keep_rounds(rt, &mut keeper);
 }
@@ -92,7 +95,9 @@ struct SharedUpkeep<'a, N: Name, R> {
 impl<N: Name, R: Wait> Upkeep for SharedUpkeep<'_, N, R> {
     ghost use Rattle.std.specs.Prelude.{◌≡◌, length};
 
-    ghost arenas = { λ u. length u.cpus.now };
+    ghost arenas = { λ u. length u.cpus.now.arenas };
+
+    ghost seats = { λ u. u.cpus.now.seats };
 
     // (its CPUs stay the same ones; of what lies under their locks no contract can say more)
     ghost may_drain = { λ u v. v.cpus ≡ u.cpus };
@@ -106,14 +111,8 @@ impl<N: Name, R: Wait> Upkeep for SharedUpkeep<'_, N, R> {
         cpus.system.tree().len() as u32
     }
 
-    fn drain(&mut self) {
-        let cpus = self.cpus;
-        for seat in cpus.seats {
-            let mut guard = seat.lock(self.rt);
-            if guard.rests() {
-                guard.drain(self.rt, cpus.system);
-            }
-        }
+    fn drain(&mut self) -> Drained {
+        drain_each(self.rt, self.cpus)
     }
 
     fn reap(&mut self, arena: u32) -> Reaped {
@@ -129,9 +128,21 @@ impl<N: Name, R: Wait> Upkeep for SharedUpkeep<'_, N, R> {
 /// Drains each CPU that moved nothing since the last round, reaps each arena, and ticks each
 /// depot, as `tidy_by` does. It has one seat at a time, and none for longer than one drain or reap
 /// takes.
-pub fn go_round<N: Name, R: Wait>(rt: &R, cpus: &SharedCpus<'_, N>) {
+pub fn go_round<N: Name, R: Wait>(rt: &R, cpus: &SharedCpus<'_, N>) -> Tidied {
     let mut upkeep = SharedUpkeep { rt, cpus };
-    tidy_by(&mut upkeep);
+    tidy_by(&mut upkeep)
+}
+
+/// Drains each CPU that moved nothing since the last round.
+fn drain_each<N: Name, R: Wait>(rt: &R, cpus: &SharedCpus<'_, N>) -> Drained
+    ensures { result ≡ cpus.now.seats }
+{
+    let mut drained = Drained::none();
+    for place in 0..cpus.seats.len() {
+        let one = cpus.seats[place].lock(rt).drain_at_rest(rt, cpus.system);
+        drained = drained.also(one);
+    }
+    drained
 }
 
 /// Reaps an arena, each time by a seat that is free then, until a reap ends before its limit, and

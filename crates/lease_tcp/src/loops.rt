@@ -8,7 +8,7 @@ use crate::doors::Door;
 use crate::entrances::Entrance;
 use crate::pacing::{Pace, PacedReader, PacedWriter};
 use crate::replying::ClientLines;
-use crate::rolls::SharedStream;
+use crate::rolls::Guest;
 use crate::shortages::{Overseer, Shortage};
 use crate::workers::Worker;
 use lease_server::{ServeFault, Watched};
@@ -84,8 +84,7 @@ impl<R: Wait + Clock, O: Overseer> Arrivals for TcpEntrance<'_, R, O> {
 impl<R: Wait + Clock, O: Overseer> Entrance for TcpEntrance<'_, R, O> {
     ghost use Rattle.std.specs.Prelude.{⊤};
 
-    /// The connection, and its key on the roll.
-    type Guest = (SharedStream, usize);
+    type Guest = Guest;
 
     ghost may_enter = { λ _ _ _ _. ⊤ };
 
@@ -93,27 +92,23 @@ impl<R: Wait + Clock, O: Overseer> Entrance for TcpEntrance<'_, R, O> {
 
     ghost may_leave = { λ _ _ _. ⊤ };
 
-    fn enter(&mut self, stream: TcpStream) -> Option<(SharedStream, usize)> {
+    fn enter(&mut self, stream: TcpStream) -> Option<Guest> {
         let Ok(stream) = Arc::new(self.alloc, stream) else {
             self.door.roll.fail(self.rt);
             return None;
         };
         match self.door.roll.enter(self.rt, &stream) {
-            Ok(key) => Some((stream, key)),
+            Ok(key) => Some(Guest { stream, key }),
             Err(_) => None,
         }
     }
 
-    fn talk<K: Worker, C: Counter>(
-        &mut self,
-        guest: &(SharedStream, usize),
-        lines: &mut ClientLines<K, C>,
-    ) {
-        serve_begun(self.rt, self.alloc, &guest.0, lines, self.door);
+    fn talk<K: Worker, C: Counter>(&mut self, guest: &Guest, lines: &mut ClientLines<K, C>) {
+        serve_begun(self.rt, self.alloc, guest, lines, self.door);
     }
 
-    fn leave(&mut self, guest: (SharedStream, usize)) {
-        self.door.roll.leave(self.rt, guest.1);
+    fn leave(&mut self, guest: Guest) {
+        self.door.roll.leave(self.rt, guest.key);
     }
 }
 
@@ -130,14 +125,14 @@ fn is_short(error: &io::Error) -> bool {
 pub(crate) fn serve_begun<R: Wait + Clock, K: Worker, C: Counter>(
     rt: &R,
     alloc: Global,
-    stream: &TcpStream,
+    guest: &Guest,
     lines: &mut ClientLines<K, C>,
     door: Door<'_>,
 )
     ensures { ServesSome K.may_reply C.may_count K.may_tidy lines.old lines.new }
 {
-    door.roll.begin(rt);
-    if let Err(ServeFault::Memory) = serve_stream(rt, alloc, stream, lines, door.pace) {
+    door.roll.begin(rt, guest.key);
+    if let Err(ServeFault::Memory) = serve_stream(rt, alloc, &guest.stream, lines, door.pace) {
         door.roll.fail(rt);
     }
 }

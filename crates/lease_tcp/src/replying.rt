@@ -49,7 +49,7 @@ impl<K: Worker, C> ClientLines<K, C> {
     pub fn tidy(&mut self)
         ensures { HasTidied K.may_tidy self.old self.new }
     {
-        self.worker.tidy();
+        let _ = self.worker.tidy();
     }
 }
 

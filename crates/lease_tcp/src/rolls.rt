@@ -1,12 +1,13 @@
 //! The connections that are served now, so that an end can reach each of them.
 ghost use Rattle.std.specs.Prelude.{◌≡◌, ◌≢◌, ◌+◌, ◌<◌, ◌≤◌, ◌↔◌, true, false, OnOk, OnErr};
-ghost use Rattle.std.specs.Prelude.{None, IfOk, IsErrOf};
+ghost use Rattle.std.specs.Prelude.{None, IfOk, IfSome, IsErrOf};
 ghost use Rattle.slab.specs.Slab.{ContainsKey, SameValues, Updates, get, slab_len};
-ghost use Rattle.lease_tcp.specs.Rolls.{failed_after, one_more, refused_after};
+ghost use Rattle.lease_tcp.specs.Rolls.{begun_after, failed_after, one_more, refused_after};
 
 use lease_watch::ConnectionCounts;
 use slab::Slab;
 use std::alloc::Global;
+use std::marker::Model;
 use std::net::{Shutdown, TcpStream};
 use std::sync::{Arc, Mutex, Wait};
 use std::thread;
@@ -21,6 +22,13 @@ const LOOKS: u64 = 100;
 /// A connection, which its thread and a roll have.
 pub type SharedStream = Arc<TcpStream, Global>;
 
+/// A connection that stands on a roll, and its key there.
+#[derive(Drop)]
+pub(crate) struct Guest {
+    pub(crate) stream: SharedStream,
+    pub(crate) key: usize,
+}
+
 /// Why a connection isn't served.
 #[derive(Clone, Copy, Debug, PartialEq, Eq)]
 pub enum NotEntered {
@@ -32,10 +40,17 @@ pub enum NotEntered {
     Memory,
 }
 
+/// A connection that stands on a roll, and whether it was begun to be served.
+#[derive(Drop)]
+struct Row {
+    stream: SharedStream,
+    begun: bool,
+}
+
 /// What lies under the lock of a roll: never more connections than there may be.
 #[derive(Drop)]
 struct Rows {
-    streams: Slab<SharedStream>,
+    streams: Slab<Row>,
     most: usize,
     ended: bool,
     total: u64,
@@ -44,19 +59,31 @@ struct Rows {
     ghost within: { slab_len streams ≤ most },
 }
 
-/// The connections that are served now, at most so many.
+/// The connections that are served now, at most so many. A contract sees how many that is.
 #[derive(Drop)]
 pub struct Roll {
+    most: usize,
     rows: Mutex<Rows>,
+}
+
+impl Model for Roll {
+    ghost use Rattle.std.specs.Prelude.{ℕ};
+
+    ghost Value = { ℕ };
+
+    ghost view = { λ r. r.most };
 }
 
 impl Roll {
     /// No connection is served yet. A roll for none would refuse each.
     pub fn new(alloc: Global, most: usize) -> Roll
         requires { 0 < most }
+        ensures { result ≡ most }
     {
+        let rows = Rows::new(alloc, most);
         Roll {
-            rows: Mutex::new(Rows::new(alloc, most)),
+            most: rows.most,
+            rows: Mutex::new(rows),
         }
     }
 
@@ -65,9 +92,9 @@ impl Roll {
         self.rows.lock(rt).enter(stream)
     }
 
-    /// Counts a connection that is begun to be served.
-    pub fn begin<R: Wait>(&self, rt: &R) {
-        self.rows.lock(rt).begin();
+    /// Counts the connection of this key, which is begun to be served, if it wasn't before.
+    pub fn begin<R: Wait>(&self, rt: &R, key: usize) {
+        self.rows.lock(rt).begin(key);
     }
 
     /// Counts a connection that ended, begun or not, for want of memory or a thread.
@@ -150,7 +177,11 @@ impl Rows {
             self.fail();
             return Err(NotEntered::Memory);
         };
-        match self.streams.insert(own) {
+        let row = Row {
+            stream: own,
+            begun: false,
+        };
+        match self.streams.insert(row) {
             Ok(key) => Ok(key),
             Err(_) => {
                 self.fail();
@@ -159,11 +190,23 @@ impl Rows {
         }
     }
 
-    /// Counts a connection that is begun to be served.
-    fn begin(&mut self)
-        ensures { self.new ≡ record self.old { total = one_more self.old.total } }
+    /// Counts the connection of this key, which is begun to be served, if it wasn't before.
+    fn begin(&mut self, key: usize)
+        ensures counted { self.new.total ≡ begun_after (get self.old.streams key) self.old.total }
+        ensures begun { IfSome (get self.new.streams key) (λ row. row.begun ≡ true) }
+        ensures others { (other : _) → other ≢ key
+            → get self.new.streams other ≡ get self.old.streams other }
+        ensures as_many { slab_len self.new.streams ≡ slab_len self.old.streams }
+        ensures kept { (self.new.most ≡ self.old.most) × (self.new.ended ≡ self.old.ended) }
+        ensures counts { (self.new.refused ≡ self.old.refused)
+            × (self.new.failed ≡ self.old.failed) }
     {
-        self.total = self.total.saturating_add(1);
+        if let Some(row) = self.streams.get_mut(key) {
+            if !row.begun {
+                row.begun = true;
+                self.total = self.total.saturating_add(1);
+            }
+        }
     }
 
     /// Counts a connection that failed.
@@ -207,8 +250,8 @@ impl Rows {
         ensures { self.new ≡ record self.old { ended = true } }
     {
         self.ended = true;
-        for (_, stream) in self.streams.iter() {
-            let _ = stream.shutdown(how);
+        for (_, row) in self.streams.iter() {
+            let _ = row.stream.shutdown(how);
         }
     }
 }

@@ -1,12 +1,12 @@
 //! The CPUs of a system, each under a lock, by which connections are served that share them.
-ghost use Rattle.std.specs.Prelude.{◌≡◌, ◌+◌, ◌⊎◌, ◌<◌, ◌≤◌, ◌↔◌, ◌||◌, ◌&&◌, false, true, length};
-ghost use Rattle.std.specs.Prelude.{IfSome, IsTrue, OnOk};
+ghost use Rattle.std.specs.Prelude.{◌≡◌, ◌+◌, ◌^◌, ◌⊎◌, ◌<◌, ◌≤◌, ◌↔◌, ◌||◌, ◌&&◌};
+ghost use Rattle.std.specs.Prelude.{IfSome, IsTrue, OnOk, false, true, length};
 ghost use Rattle.deed_table.specs.declared.deeds.SeatDeed.{SeatDeed};
 ghost use Rattle.lease_proto.specs.declared.limits.TheConstants.{MOST_CPUS};
 ghost use Rattle.lease_threads.specs.Calling.{RunsLine};
 ghost use Rattle.lease_threads.specs.Reaping.{KeepsHand, ReapsSoundly};
 ghost use Rattle.lease_threads.specs.Replying.{IsAgain, IsAnswerTo};
-ghost use Rattle.lease_threads.specs.Retiring.{RetiresSoundly};
+ghost use Rattle.lease_threads.specs.Retiring.{IsDrained, RetiresSoundly};
 ghost use Rattle.lease_threads.specs.Settling.{IsSettledAsAsked};
 ghost use Rattle.lease_tcp.specs.Workers.{StaysCpu, moves_units};
 ghost use Rattle.lease_tcp.specs.declared.system_workers.TheConstants.{REAP_LIMIT};
@@ -60,6 +60,42 @@ impl Reaped {
     }
 }
 
+/// That so many seats were drained, but for those that moved something lately. A seat makes one for
+/// itself, and only `also` one for more. A contract sees how many.
+#[derive(PartialEq, Eq, Debug, Drop)]
+pub struct Drained {
+    seats: usize,
+}
+
+impl Model for Drained {
+    ghost use Rattle.std.specs.Prelude.{ℕ};
+
+    ghost Value = { ℕ };
+
+    ghost view = { λ d. d.seats };
+
+    ghost inverse = { λ n. record { seats = n } };
+}
+
+impl Drained {
+    /// None yet.
+    pub fn none() -> Drained
+        ensures { result ≡ 0 }
+    {
+        Drained { seats: 0 }
+    }
+
+    /// These seats, and those after them.
+    pub fn also(self, more: Drained) -> Drained
+        requires { self + more < 2 ^ 64 }
+        ensures { result ≡ self + more }
+    {
+        Drained {
+            seats: self.seats + more.seats,
+        }
+    }
+}
+
 impl<N: Name> Seat<N> {
     /// A CPU that moved nothing yet.
     pub fn new(cpu: Cpu<N>) -> Seat<N>
@@ -102,7 +138,7 @@ impl<N: Name> Seat<N> {
     }
 
     /// Whether it moved nothing since this was asked last.
-    pub fn rests(&mut self) -> bool
+    fn rests(&mut self) -> bool
         ensures rests { IsTrue result ↔ (self.old.has_moved ≡ false) }
         ensures new { self.new ≡ record { cpu = self.old.cpu; has_moved = false } }
     {
@@ -112,12 +148,32 @@ impl<N: Name> Seat<N> {
     }
 
     /// Gives back what its CPU's hand and magazines hold, as far as that goes.
-    pub fn drain<R: Wait>(&mut self, rt: &R, system: &System<N>)
+    pub fn drain<R: Wait>(&mut self, rt: &R, system: &System<N>) -> Drained
+        ensures one { result ≡ 1 }
         ensures drained { RetiresSoundly system.now.arenas self.old.cpu.hand self.new.cpu.hand }
+        ensures emptied { IsDrained system.now.arenas self.new.cpu }
         ensures stays { StaysCpu self.old.cpu self.new.cpu }
         ensures noted { self.new.has_moved ≡ self.old.has_moved }
     {
         system.drain(rt, &mut self.cpu);
+        Drained { seats: 1 }
+    }
+
+    /// Drains its CPU if that moved nothing since this was asked last.
+    pub fn drain_at_rest<R: Wait>(&mut self, rt: &R, system: &System<N>) -> Drained
+        ensures one { result ≡ 1 }
+        ensures drained { self.old.has_moved ≡ false
+            → RetiresSoundly system.now.arenas self.old.cpu.hand self.new.cpu.hand }
+        ensures emptied { self.old.has_moved ≡ false → IsDrained system.now.arenas self.new.cpu }
+        ensures kept { self.old.has_moved ≡ true → self.new.cpu ≡ self.old.cpu }
+        ensures stays { StaysCpu self.old.cpu self.new.cpu }
+        ensures noted { self.new.has_moved ≡ false }
+    {
+        if self.rests() {
+            self.drain(rt, system)
+        } else {
+            Drained { seats: 1 }
+        }
     }
 
     /// Reaps an arena by its CPU, in `REAP_LIMIT` looks at most.

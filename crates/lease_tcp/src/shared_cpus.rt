@@ -8,7 +8,7 @@ use std::marker::Model;
 use std::sync::{Mutex, MutexGuard, Wait};
 
 /// A system and the seats of its CPUs, of which there is one at least. A contract sees the arenas
-/// of the system.
+/// of the system, and how many seats there are.
 #[derive(Drop)]
 pub struct SharedCpus<'a, N: Name> {
     pub(crate) system: &'a System<N>,
@@ -16,12 +16,12 @@ pub struct SharedCpus<'a, N: Name> {
 }
 
 impl<'a, N: Name> Model for SharedCpus<'a, N> {
-    ghost use Rattle.std.specs.Prelude.{◌<◌, List, length};
-    ghost use Rattle.arena_tree.specs.declared.trees.TreeArena.{TreeArena};
+    ghost use Rattle.std.specs.Prelude.{◌<◌, length};
+    ghost use Rattle.lease_tcp.specs.Workers.{SharedState};
 
-    ghost Value = { List TreeArena };
+    ghost Value = { SharedState };
 
-    ghost view = { λ c. c.system.now.arenas };
+    ghost view = { λ c. record { arenas = c.system.now.arenas; seats = length c.seats.now } };
 
     ghost invariant = { λ c. 0 < length c.seats.now };
 }
@@ -30,7 +30,8 @@ impl<'a, N: Name> SharedCpus<'a, N> {
     /// These seats of this system.
     pub fn new(system: &'a System<N>, seats: &'a [Mutex<Seat<N>>]) -> SharedCpus<'a, N>
         requires { 0 < length seats.now }
-        ensures { result ≡ system.entry.now.arenas }
+        ensures { result
+            ≡ record { arenas = system.entry.now.arenas; seats = length seats.entry.now } }
     {
         SharedCpus { system, seats }
     }

@@ -25,7 +25,7 @@ impl<'a, N: Name, R: Wait> Model for SharedWorker<'a, N, R> {
 
     ghost Value = { List TreeArena };
 
-    ghost view = { λ w. w.cpus.now };
+    ghost view = { λ w. w.cpus.now.arenas };
 }
 
 impl<'a, N: Name, R: Wait> SharedWorker<'a, N, R> {
@@ -36,7 +36,7 @@ impl<'a, N: Name, R: Wait> SharedWorker<'a, N, R> {
         place: usize,
         tally: &'a Tally,
     ) -> SharedWorker<'a, N, R>
-        ensures { result ≡ cpus.entry.now }
+        ensures { result ≡ cpus.entry.now.arenas }
     {
         SharedWorker {
             rt,
@@ -51,6 +51,8 @@ impl<N: Name, R: Wait> Worker for SharedWorker<'_, N, R> {
     ghost use Rattle.std.specs.Prelude.{◌≡◌};
     ghost use Rattle.deed_table.specs.declared.deeds.SeatDeed.{SeatDeed};
     ghost use Rattle.lease_tcp.specs.Workers.{MayShareReply};
+
+    type Tidied = ();
 
     ghost may_reply = { MayShareReply (SeatDeed N) };
 

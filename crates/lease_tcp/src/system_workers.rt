@@ -5,9 +5,9 @@ use crate::arrivals::{Reception, Served, serve_each};
 use crate::doors::Door;
 use crate::loops::TcpEntrance;
 use crate::replying::ClientLines;
-use crate::seats::{Reaped, Seat};
+use crate::seats::{Drained, Reaped, Seat};
 use crate::shortages::NoOne;
-use crate::tidying::{Upkeep, tidy_by};
+use crate::tidying::{Tidied, Upkeep, tidy_by};
 use crate::workers::Worker;
 use deed_table::Name;
 use lease_proto::{Line, Reply};
@@ -63,6 +63,8 @@ impl<N: Name, R: Wait> Worker for SystemWorker<'_, N, R> {
     ghost use Rattle.deed_table.specs.declared.deeds.SeatDeed.{SeatDeed};
     ghost use Rattle.lease_tcp.specs.Workers.{MayReply, MayTidy};
 
+    type Tidied = Tidied;
+
     ghost may_reply = { MayReply (SeatDeed N) };
 
     ghost may_tidy = { MayTidy };
@@ -71,8 +73,8 @@ impl<N: Name, R: Wait> Worker for SystemWorker<'_, N, R> {
         self.seat.answer(self.rt, self.system, line).reply
     }
 
-    fn tidy(&mut self) {
-        tidy_by(self);
+    fn tidy(&mut self) -> Tidied {
+        tidy_by(self)
     }
 }
 
@@ -80,6 +82,8 @@ impl<N: Name, R: Wait> Upkeep for SystemWorker<'_, N, R> {
     ghost use Rattle.lease_tcp.specs.Workers.{MayDrain, MayReap, MayTick, count_of_arenas};
 
     ghost arenas = { count_of_arenas };
+
+    ghost seats = { λ _. 1 };
 
     ghost may_drain = { MayDrain };
 
@@ -91,8 +95,8 @@ impl<N: Name, R: Wait> Upkeep for SystemWorker<'_, N, R> {
         self.system.tree().len() as u32
     }
 
-    fn drain(&mut self) {
-        self.seat.drain(self.rt, self.system);
+    fn drain(&mut self) -> Drained {
+        self.seat.drain(self.rt, self.system)
     }
 
     fn reap(&mut self, arena: u32) -> Reaped {

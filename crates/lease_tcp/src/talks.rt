@@ -10,7 +10,7 @@ use crate::houses::House;
 use crate::links::{Link, let_go};
 use crate::loops::{TcpEntrance, serve_begun};
 use crate::replying::ClientLines;
-use crate::rolls::{NotEntered, SharedStream};
+use crate::rolls::{Guest, NotEntered};
 use crate::shared_workers::SharedWorker;
 use crate::shortages::{Overseer, Shortage};
 use deed_table::Name;
@@ -73,7 +73,7 @@ fn admit<'s, E, N: Name + Send + Sync, R: Threads + Wait + Clock + Sync + AllocG
         Ok(key) => {
             let started = Builder::new()
                 .stack_size(STACK)
-                .spawn_scoped(scope, move || talk(rt, house, stream, key));
+                .spawn_scoped(scope, move || talk(rt, house, Guest { stream, key }));
             if started.is_err() {
                 house.door.roll.leave(rt, key);
                 house.door.roll.fail(rt);
@@ -105,17 +105,12 @@ pub fn turn_away<W: Write, L: Link>(writer: &mut Watched<W>, link: &mut L) -> Re
     told
 }
 
-/// Serves a connection that stands on the roll by this key.
-fn talk<N: Name, R: Wait + Clock + AllocGlobal>(
-    rt: &R,
-    house: &House<'_, N>,
-    stream: SharedStream,
-    key: usize,
-) {
-    let tally = house.door.counts.at(key);
-    let worker = SharedWorker::new(rt, &house.cpus, key, tally);
+/// Serves a connection that stands on the roll.
+fn talk<N: Name, R: Wait + Clock + AllocGlobal>(rt: &R, house: &House<'_, N>, guest: Guest) {
+    let tally = house.door.counts.at(guest.key);
+    let worker = SharedWorker::new(rt, &house.cpus, guest.key, tally);
     let mut lines = ClientLines::new(worker, tally);
-    serve_begun(rt, rt.alloc(), &stream, &mut lines, house.door);
+    serve_begun(rt, rt.alloc(), &guest, &mut lines, house.door);
     drop(lines.into_worker());
-    house.door.roll.leave(rt, key);
+    house.door.roll.leave(rt, guest.key);
 }

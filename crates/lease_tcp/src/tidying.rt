@@ -1,16 +1,19 @@
 //! How a system is tidied, by whatever does each part of it.
 ghost use Rattle.lease_tcp.specs.Tidying.{ReapsBelow, Tidies};
 
-use crate::seats::Reaped;
+use crate::seats::{Drained, Reaped};
 use lease_threads::Interval;
 
-/// What can tidy a system, part by part. A reap and a tick have to give what only `Seat::reap` and
+/// What can tidy a system, part by part. A drain, a reap and a tick have to give what only seats and
 /// a walk over the depots make, so that none is left out.
 pub trait Upkeep {
     ghost use Rattle.std.specs.Prelude.{◌≡◌, ℕ};
 
     // how many arenas it has
     ghost arenas: { Self → ℕ };
+
+    // how many seats it has
+    ghost seats: { Self → ℕ };
 
     // before and after, what may come of a drain
     ghost may_drain: { Self → Self → Type 0 };
@@ -25,9 +28,10 @@ pub trait Upkeep {
     fn arenas(&self) -> u32
         ensures { result ≡ arenas self.now };
 
-    /// Gives back what a CPU holds, as far as that goes.
-    fn drain(&mut self)
-        ensures { may_drain self.old self.new };
+    /// Gives back what the CPU of each seat holds, as far as that goes and its seat lets it.
+    fn drain(&mut self) -> Drained
+        ensures all { result ≡ seats self.old }
+        ensures drained { may_drain self.old self.new };
 
     /// Gives back what an arena's caches hold in excess, by a bounded number of steps, and tells what
     /// came of it, or of the last time where it was done several times.
@@ -41,13 +45,18 @@ pub trait Upkeep {
         ensures ticked { may_tick self.old self.new };
 }
 
+/// That a system was tidied. Only `tidy_by` makes one.
+#[derive(PartialEq, Eq, Debug, Drop)]
+pub struct Tidied(());
+
 /// Drains, then reaps each arena, then ticks.
-pub fn tidy_by<U: Upkeep>(upkeep: &mut U)
+pub fn tidy_by<U: Upkeep>(upkeep: &mut U) -> Tidied
     ensures { Tidies U.arenas U.may_drain U.may_reap U.may_tick upkeep.old upkeep.new }
 {
-    upkeep.drain();
+    let _ = upkeep.drain();
     reap_each(upkeep);
     let _ = upkeep.tick();
+    Tidied(())
 }
 
 /// Reaps each arena. Children come before their sources: what they hand back can be reaped there.

@@ -8,6 +8,9 @@ pub trait Worker {
     ghost use Rattle.lease_proto.specs.declared.lines.Line.{Line};
     ghost use Rattle.lease_proto.specs.declared.replies.Reply.{Reply};
 
+    /// What it gives once it has tidied, so that it can't give it otherwise; () where others tidy.
+    type Tidied: Drop;
+
     // From a worker, a line and a reply to it, and the worker after it: what the worker may do.
     // More than one reply may be allowed, since other workers are at work.
     ghost may_reply: { Self → Line → Reply → Self → Type 0 };
@@ -21,6 +24,6 @@ pub trait Worker {
 
     /// Gives back what caches hold in excess, by a bounded number of steps. It is called after each
     /// connection.
-    fn tidy(&mut self)
+    fn tidy(&mut self) -> Self::Tidied
         ensures { may_tidy self.old self.new };
 }

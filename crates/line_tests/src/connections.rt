@@ -22,6 +22,8 @@ struct Counted {
 }
 
 impl Worker for Counted {
+    type Tidied = ();
+
     ghost may_reply = { λ old _ _ new. new.tidies ≡ old.tidies };
 
     ghost may_tidy = { λ old new. new.replies ≡ old.replies };
@@ -197,6 +199,8 @@ struct Late<'a> {
 }
 
 impl Worker for Late<'_> {
+    type Tidied = ();
+
     ghost may_reply = { λ _ _ _ _. ⊤ };
 
     ghost may_tidy = { λ _ _. ⊤ };

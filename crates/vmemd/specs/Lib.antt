@@ -12,3 +12,4 @@ pub mod Running
 pub mod Watching
 pub mod Retrying
 pub mod Musters
+pub mod Plans

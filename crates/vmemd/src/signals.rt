@@ -1,9 +1,12 @@
 //! What the workers of a server share beside its system.
 
 use deed_table::Name;
-use lease_tcp::Shortage;
-use lease_threads::Cpu;
+use lease_tcp::{Door, Served, Shortage, accept_loop};
+use lease_threads::{Cpu, System};
+use std::alloc::Global;
+use std::sync::Wait;
 use std::sync::atomic::{AtomicBool, AtomicU64, Ordering};
+use std::time::Clock;
 
 /// What tells workers to stop, and what they tell.
 #[derive(Drop)]
@@ -20,6 +23,35 @@ pub struct Signals {
     descriptors: AtomicBool,
     /// Raised where there was no thread for one.
     threads: AtomicBool,
+}
+
+/// The CPU of a worker that was counted as ready. Only `Signals::add_ready` makes one, and it can do
+/// nothing but serve. It isn't to be dropped.
+pub struct ReadyCpu<N: Name> {
+    cpu: Cpu<N>,
+}
+
+/// That a worker that was counted as ready has served: only `ReadyCpu::serve` makes one.
+#[derive(PartialEq, Eq, Debug, Drop)]
+pub struct Worked(Served);
+
+/// That it was told of a worker that was out of memory for its CPU: only `Signals::starve` makes one.
+#[derive(PartialEq, Eq, Debug, Drop)]
+pub struct Starved(());
+
+impl<N: Name> ReadyCpu<N> {
+    /// Serves the door's connections by the system, as `accept_loop` does, and gives the CPU back.
+    pub fn serve<R: Wait + Clock>(
+        self,
+        rt: &R,
+        alloc: Global,
+        door: Door<'_>,
+        system: &System<N>,
+    ) -> (Cpu<N>, Worked) {
+        let ReadyCpu { cpu } = self;
+        let (cpu, served) = accept_loop(rt, alloc, door, system, cpu);
+        (cpu, Worked(served))
+    }
 }
 
 impl Signals {
@@ -46,8 +78,9 @@ impl Signals {
     }
 
     /// Tells that one more worker has its CPU, which is this one.
-    pub fn add_ready<N: Name>(&self, _cpu: &Cpu<N>) {
+    pub fn add_ready<N: Name>(&self, cpu: Cpu<N>) -> ReadyCpu<N> {
         self.ready.fetch_add(1, Ordering::SeqCst);
+        ReadyCpu { cpu }
     }
 
     /// How many workers have their CPU.
@@ -56,8 +89,9 @@ impl Signals {
     }
 
     /// Tells that a worker was out of memory for its CPU.
-    pub fn starve(&self) {
+    pub fn starve(&self) -> Starved {
         self.starved.store(true, Ordering::SeqCst);
+        Starved(())
     }
 
     /// Whether a worker was.

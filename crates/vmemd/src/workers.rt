@@ -9,10 +9,9 @@ use crate::attending::{Attended, attend};
 use crate::hosts::Host;
 use crate::musters::{Muster, are_ready};
 use crate::running::{Console, RunFault, Site};
-use crate::signals::Signals;
+use crate::signals::{Signals, Starved, Worked};
 use crate::stopping::{retire, stop};
 use deed_table::Name;
-use lease_tcp::accept_loop;
 use lease_threads::Cpu;
 use std::io::{Read, Write};
 use std::net::{Net, TcpListener, TcpStream};
@@ -111,22 +110,19 @@ fn attend_when_ready<N: Name, R: Wait, M: Muster, I: Read, W: Write>(
     }
 }
 
-/// What one worker does.
+/// What one worker does: it serves once it was counted as ready, or tells that it has no CPU.
 fn work<
     N: Name,
     R: Net<Listener = TcpListener, Stream = TcpStream> + Wait + Clock + Eprint + AllocGlobal,
->(rt: &R, site: &Site<'_, N>, number: u32)
+>(rt: &R, site: &Site<'_, N>, number: u32) -> Result<Worked, Starved>
     requires { number < MOST_CPUS }
 {
-    let cpu = match Cpu::new(rt.alloc(), site.system, number) {
-        Ok(Some(cpu)) => cpu,
+    let ready = match Cpu::new(rt.alloc(), site.system, number) {
+        Ok(Some(cpu)) => site.signals.add_ready(cpu),
         Ok(None) => unreachable!(),
-        Err(_) => {
-            site.signals.starve();
-            return;
-        }
+        Err(_) => return Err(site.signals.starve()),
     };
-    site.signals.add_ready(&cpu);
-    let (cpu, _) = accept_loop(rt, rt.alloc(), site.door, site.system, cpu);
+    let (cpu, worked) = ready.serve(rt, rt.alloc(), site.door, site.system);
     retire(rt, site.system, site.signals, cpu);
+    Ok(worked)
 }
