@@ -138,9 +138,8 @@ fn drain_each<N: Name, R: Wait>(rt: &R, cpus: &SharedCpus<'_, N>) -> Drained
     ensures { result ≡ cpus.now.seats }
 {
     let mut drained = Drained::none();
-    for place in 0..cpus.seats.len() {
-        let one = cpus.seats[place].lock(rt).drain_at_rest(rt, cpus.system);
-        drained = drained.also(one);
+    for seat in cpus.seats {
+        drained = drained.also(seat.lock(rt).drain_at_rest(rt, cpus.system));
     }
     drained
 }
