@@ -3,7 +3,7 @@
 ghost use Rattle.std.specs.Prelude.{◌≡◌};
 
 use crate::houses::House;
-use crate::rounds::{Rounds, keep_rounds};
+use crate::rounds::{Kept, Rounds, keep_rounds};
 use crate::seats::{Drained, Reaped};
 use crate::shared_cpus::SharedCpus;
 use crate::tidying::{Tidied, Upkeep, tidy_by};
@@ -64,14 +64,14 @@ impl<N: Name, R: Wait + Clock> Rounds for Keeper<'_, N, R> {
 }
 
 /// Goes round each second, as `keep_rounds` does, until all connections have ended.
-pub fn keep<N: Name, R: Wait + Clock>(rt: &R, house: &House<'_, N>) {
+pub fn keep<N: Name, R: Wait + Clock>(rt: &R, house: &House<'_, N>) -> Kept {
     let mut keeper = Keeper {
         rt,
         house,
         round: Instant::now(rt).ok(),
         done: None,
     };
-    keep_rounds(rt, &mut keeper);
+    keep_rounds(rt, &mut keeper)
 }
 
 /// Whether a second has passed since the last round. It has where the clock can't be read.

@@ -36,13 +36,17 @@ pub trait Rounds {
         ensures { may_go self.old self.new };
 }
 
+/// That rounds were gone until all was found over: `keep_rounds` alone makes one.
+#[derive(PartialEq, Eq, Debug, Drop)]
+pub struct Kept(());
+
 /// Goes round each time that it is due, until all is over.
-pub fn keep_rounds<R: Wait, K: Rounds>(rt: &R, rounds: &mut K)
+pub fn keep_rounds<R: Wait, K: Rounds>(rt: &R, rounds: &mut K) -> Kept
     ensures { KeepsRounds K.may_end K.may_rest K.may_be_due K.may_go rounds.old rounds.new }
 {
     for _ in rt.forever() {
         if rounds.is_over() {
-            return;
+            return Kept(());
         }
         take_turn(rounds);
     }

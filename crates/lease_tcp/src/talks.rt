@@ -36,11 +36,12 @@ pub fn serve_talks<
     N: Name + Send + Sync,
     R: Threads + Wait + Clock + Sync + AllocGlobal,
     O: Overseer,
->(rt: &R, house: &House<'_, N>, overseer: &O) {
-    thread::scope(thread::scope_env(), rt, move |scope| {
-        let _ = accept_talks(rt, scope, house, overseer);
+>(rt: &R, house: &House<'_, N>, overseer: &O) -> Begun {
+    let begun = thread::scope(thread::scope_env(), rt, move |scope| {
+        accept_talks(rt, scope, house, overseer)
     });
     house.over.store(true, Ordering::SeqCst);
+    begun
 }
 
 /// Starts a thread for each connection, as they come, until the door is closed.
