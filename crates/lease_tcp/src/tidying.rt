@@ -4,8 +4,8 @@ ghost use Rattle.lease_tcp.specs.Tidying.{ReapsBelow, Tidies};
 use crate::seats::{Drained, Reaped};
 use lease_threads::Interval;
 
-/// What can tidy a system, part by part. A drain, a reap and a tick have to give what only seats and
-/// a walk over the depots make, so that none is left out.
+/// What can tidy a system, part by part. A drain, a reap and a tick have to give what only seats
+/// and a walk over the depots make, so that none is left out.
 pub trait Upkeep {
     ghost use Rattle.std.specs.Prelude.{◌≡◌, ℕ};
 

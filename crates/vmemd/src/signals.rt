@@ -25,8 +25,8 @@ pub struct Signals {
     threads: AtomicBool,
 }
 
-/// The CPU of a worker that was counted as ready. Only `Signals::add_ready` makes one, and it can do
-/// nothing but serve. It isn't to be dropped.
+/// The CPU of a worker that was counted as ready: only `Signals::add_ready` makes one. It can do
+/// nothing but serve, and isn't to be dropped.
 pub struct ReadyCpu<N: Name> {
     cpu: Cpu<N>,
 }
@@ -35,7 +35,7 @@ pub struct ReadyCpu<N: Name> {
 #[derive(PartialEq, Eq, Debug, Drop)]
 pub struct Worked(Served);
 
-/// That it was told of a worker that was out of memory for its CPU: only `Signals::starve` makes one.
+/// That a worker told that it was out of memory for its CPU: only `Signals::starve` makes one.
 #[derive(PartialEq, Eq, Debug, Drop)]
 pub struct Starved(());
 
