@@ -1,8 +1,7 @@
 -- How a server is planned.
-use Rattle.std.specs.Prelude.{ℕ, Option, Some, None}
+use Rattle.std.specs.Prelude.{ℕ, unwrap_or}
+use Rattle.vmemd.specs.declared.running.Plan.{Plan}
 
--- how many connections are served at a time, by how many workers there are, and how many connections
--- share their CPUs, if they do
-abbrev pub most_of : ℕ → Option ℕ → ℕ
-most_of workers None = workers
-most_of workers (Some connections) = connections
+-- how many connections it serves at a time
+abbrev pub most_of : Plan → ℕ
+most_of plan = unwrap_or plan.connections plan.workers
