@@ -1,5 +1,5 @@
 -- What a roll counts.
-use Rattle.std.specs.Prelude.{ℕ, Bool, true, false, ◌+◌, ◌-◌, ◌^◌, min, Option, Some, None}
+use Rattle.std.specs.Prelude.{◌≡◌, ℕ, Bool, true, false, ◌+◌, ◌-◌, ◌^◌, min, Option, Some, None}
 use Rattle.std.specs.Prelude.{Result, Ok, Err}
 use Rattle.lease_tcp.specs.declared.rolls.NotEntered.{NotEntered}
 use Rattle.lease_tcp.specs.declared.rolls.NotEntered.TheVariants.{Full, Ended, Memory}
@@ -31,3 +31,13 @@ begun_once true n = n
 abbrev pub begun_after : Option Row → ℕ → ℕ
 begun_after None n = n
 begun_after (Some row) n = begun_once row.begun n
+
+-- the row as it stands then
+abbrev pub begun_row : Option Row → Option Row
+begun_row None = None
+begun_row (Some row) = Some (record row { begun = true })
+
+-- a row stands there, and wasn't begun
+abbrev pub IsUnbegun : Option Row → Type 0
+IsUnbegun None = ⊥
+IsUnbegun (Some row) = row.begun ≡ false

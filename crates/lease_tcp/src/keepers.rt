@@ -1,6 +1,6 @@
 //! What tidies a system whose connections share its CPUs: by time, since such a connection may stay
 //! for ever.
-ghost use Rattle.std.specs.Prelude.{◌≡◌};
+ghost use Rattle.std.specs.Prelude.{◌≡◌, None, true};
 
 use crate::houses::House;
 use crate::rounds::{Kept, Rounds, keep_rounds};
@@ -28,11 +28,12 @@ struct Keeper<'a, N: Name, R> {
     rt: &'a R,
     house: &'a House<'a, N>,
     round: Option<Instant>,
+    /// What a contract sees: no round is gone without it.
     done: Option<Tidied>,
 }
 
 impl<N: Name, R: Wait + Clock> Rounds for Keeper<'_, N, R> {
-    ghost use Rattle.std.specs.Prelude.{◌≡◌, ⊤, false, true, is_some};
+    ghost use Rattle.std.specs.Prelude.{◌≡◌, ⊤, None, false, true, is_some};
 
     // (of a flag no contract can say what threads make it, of a clock what it tells, of locks what
     // lies under them)
@@ -40,7 +41,7 @@ impl<N: Name, R: Wait + Clock> Rounds for Keeper<'_, N, R> {
 
     ghost may_rest = { λ _ rested. is_some rested.done ≡ false };
 
-    ghost may_be_due = { λ _ _. ⊤ };
+    ghost may_be_due = { λ keeper due. keeper.round ≡ None → due ≡ true };
 
     ghost may_go = { λ _ gone. is_some gone.done ≡ true };
 
@@ -75,7 +76,9 @@ pub fn keep<N: Name, R: Wait + Clock>(rt: &R, house: &House<'_, N>) -> Kept {
 }
 
 /// Whether a second has passed since the last round. It has where the clock can't be read.
-fn is_due<C: Clock>(clock: &C, round: Option<Instant>) -> bool {
+fn is_due<C: Clock>(clock: &C, round: Option<Instant>) -> bool
+    ensures { round ≡ None → result ≡ true }
+{
     let Some(since) = round else {
         return true;
     };

@@ -74,7 +74,7 @@ pub use links::{Link, let_go};
 pub use loops::{ACCEPT_PAUSE, pause};
 pub use pacing::{Pace, PacedReader, PacedWriter};
 pub use replying::ClientLines;
-pub use rolls::{NotEntered, Roll, SharedStream};
+pub use rolls::Roll;
 pub use rounds::{Kept, Rounds, keep_rounds};
 pub use seats::{Drained, Reaped, Seat, new_seats};
 pub use shared_cpus::SharedCpus;

@@ -97,10 +97,7 @@ impl<R: Wait + Clock, O: Overseer> Entrance for TcpEntrance<'_, R, O> {
             self.door.roll.fail(self.rt);
             return None;
         };
-        match self.door.roll.enter(self.rt, &stream) {
-            Ok(key) => Some(Guest { stream, key }),
-            Err(_) => None,
-        }
+        self.door.roll.enter(self.rt, stream).ok()
     }
 
     fn talk<K: Worker, C: Counter>(&mut self, guest: &Guest, lines: &mut ClientLines<K, C>) {
@@ -108,7 +105,7 @@ impl<R: Wait + Clock, O: Overseer> Entrance for TcpEntrance<'_, R, O> {
     }
 
     fn leave(&mut self, guest: Guest) {
-        self.door.roll.leave(self.rt, guest.key);
+        self.door.roll.leave(self.rt, guest);
     }
 }
 
@@ -131,8 +128,8 @@ pub(crate) fn serve_begun<R: Wait + Clock, K: Worker, C: Counter>(
 )
     ensures { ServesSome K.may_reply C.may_count K.may_tidy lines.old lines.new }
 {
-    door.roll.begin(rt, guest.key);
-    if let Err(ServeFault::Memory) = serve_stream(rt, alloc, &guest.stream, lines, door.pace) {
+    door.roll.begin(rt, guest);
+    if let Err(ServeFault::Memory) = serve_stream(rt, alloc, guest.stream(), lines, door.pace) {
         door.roll.fail(rt);
     }
 }

@@ -1,8 +1,9 @@
 //! The connections that are served now, so that an end can reach each of them.
 ghost use Rattle.std.specs.Prelude.{◌≡◌, ◌≢◌, ◌+◌, ◌<◌, ◌≤◌, ◌↔◌, true, false, OnOk, OnErr};
-ghost use Rattle.std.specs.Prelude.{None, IfOk, IfSome, IsErrOf};
-ghost use Rattle.slab.specs.Slab.{ContainsKey, SameValues, Updates, get, slab_len};
-ghost use Rattle.lease_tcp.specs.Rolls.{begun_after, failed_after, one_more, refused_after};
+ghost use Rattle.std.specs.Prelude.{None, IfOk, IsErrOf};
+ghost use Rattle.slab.specs.Slab.{SameValues, Updates, get, slab_len};
+ghost use Rattle.lease_tcp.specs.Rolls.{IsUnbegun, begun_after, begun_row};
+ghost use Rattle.lease_tcp.specs.Rolls.{failed_after, one_more, refused_after};
 
 use lease_watch::ConnectionCounts;
 use slab::Slab;
@@ -20,18 +21,30 @@ const END_PAUSE: u64 = 10;
 const LOOKS: u64 = 100;
 
 /// A connection, which its thread and a roll have.
-pub type SharedStream = Arc<TcpStream, Global>;
+pub(crate) type SharedStream = Arc<TcpStream, Global>;
 
-/// A connection that stands on a roll, and its key there.
+/// A connection that stands on a roll, and its key there. Only `Roll::enter` makes one.
 #[derive(Drop)]
 pub(crate) struct Guest {
-    pub(crate) stream: SharedStream,
-    pub(crate) key: usize,
+    stream: SharedStream,
+    key: usize,
+}
+
+impl Guest {
+    /// The connection.
+    pub(crate) fn stream(&self) -> &TcpStream {
+        &self.stream
+    }
+
+    /// Its key, which no other on the roll has.
+    pub(crate) fn key(&self) -> usize {
+        self.key
+    }
 }
 
 /// Why a connection isn't served.
 #[derive(Clone, Copy, Debug, PartialEq, Eq)]
-pub enum NotEntered {
+pub(crate) enum NotEntered {
     /// There are as many as there may be.
     Full,
     /// All are to end.
@@ -59,9 +72,10 @@ struct Rows {
     ghost within: { slab_len streams ≤ most },
 }
 
-/// The connections that are served now, at most so many. A contract sees how many that is.
+/// The connections that are served now, at most so many. A contract sees for how many it is made.
 #[derive(Drop)]
 pub struct Roll {
+    /// What a contract sees: the rows have it too, behind their lock.
     most: usize,
     rows: Mutex<Rows>,
 }
@@ -87,24 +101,39 @@ impl Roll {
         }
     }
 
-    /// Enters a connection, and gives its key.
-    pub fn enter<R: Wait>(&self, rt: &R, stream: &SharedStream) -> Result<usize, NotEntered> {
-        self.rows.lock(rt).enter(stream)
+    /// Enters a connection.
+    pub(crate) fn enter<R: Wait>(
+        &self,
+        rt: &R,
+        stream: SharedStream,
+    ) -> Result<Guest, (NotEntered, SharedStream)> {
+        let entered = self.rows.lock(rt).enter(&stream);
+        match entered {
+            Ok(key) => Ok(Guest { stream, key }),
+            Err(why) => Err((why, stream)),
+        }
     }
 
-    /// Counts the connection of this key, which is begun to be served, if it wasn't before.
-    pub fn begin<R: Wait>(&self, rt: &R, key: usize) {
-        self.rows.lock(rt).begin(key);
+    /// Counts the connection, which is begun to be served, if it wasn't before.
+    pub(crate) fn begin<R: Wait>(&self, rt: &R, guest: &Guest) {
+        self.rows.lock(rt).begin(guest.key);
     }
 
-    /// Counts a connection that ended, begun or not, for want of memory or a thread.
-    pub fn fail<R: Wait>(&self, rt: &R) {
+    /// Counts a connection that ended, begun or not, for want of memory.
+    pub(crate) fn fail<R: Wait>(&self, rt: &R) {
         self.rows.lock(rt).fail();
     }
 
-    /// The connection of this key has ended.
-    pub fn leave<R: Wait>(&self, rt: &R, key: usize) {
-        self.rows.lock(rt).leave(key);
+    /// The connection of this key ended unbegun, for want of a thread, and is counted as failed.
+    pub(crate) fn fail_unbegun<R: Wait>(&self, rt: &R, key: usize) {
+        let mut rows = self.rows.lock(rt);
+        rows.leave(key);
+        rows.fail();
+    }
+
+    /// The connection has ended.
+    pub(crate) fn leave<R: Wait>(&self, rt: &R, guest: Guest) {
+        self.rows.lock(rt).leave(guest.key);
     }
 
     /// Has all connections end, after what they sent by now is answered. Those that haven't within
@@ -152,7 +181,7 @@ impl Rows {
     /// be. It is counted where it is turned away, or fails, and only there.
     fn enter(&mut self, stream: &SharedStream) -> Result<usize, NotEntered>
         ensures entered { IfOk result (λ key. (get self.old.streams key ≡ None)
-            × ContainsKey self.new.streams key) }
+            × IsUnbegun (get self.new.streams key)) }
         ensures others { IfOk result (λ key. (other : _) → other ≢ key
             → get self.new.streams other ≡ get self.old.streams other) }
         ensures more { OnOk result (slab_len self.new.streams ≡ slab_len self.old.streams + 1) }
@@ -193,7 +222,7 @@ impl Rows {
     /// Counts the connection of this key, which is begun to be served, if it wasn't before.
     fn begin(&mut self, key: usize)
         ensures counted { self.new.total ≡ begun_after (get self.old.streams key) self.old.total }
-        ensures begun { IfSome (get self.new.streams key) (λ row. row.begun ≡ true) }
+        ensures begun { get self.new.streams key ≡ begun_row (get self.old.streams key) }
         ensures others { (other : _) → other ≢ key
             → get self.new.streams other ≡ get self.old.streams other }
         ensures as_many { slab_len self.new.streams ≡ slab_len self.old.streams }

@@ -70,19 +70,19 @@ fn admit<'s, E, N: Name + Send + Sync, R: Threads + Wait + Clock + Sync + AllocG
         house.door.roll.fail(rt);
         return;
     };
-    match house.door.roll.enter(rt, &stream) {
-        Ok(key) => {
+    match house.door.roll.enter(rt, stream) {
+        Ok(guest) => {
+            let key = guest.key();
             let started = Builder::new()
                 .stack_size(STACK)
-                .spawn_scoped(scope, move || talk(rt, house, Guest { stream, key }));
+                .spawn_scoped(scope, move || talk(rt, house, guest));
             if started.is_err() {
-                house.door.roll.leave(rt, key);
-                house.door.roll.fail(rt);
+                house.door.roll.fail_unbegun(rt, key);
                 overseer.lacks(Shortage::Thread);
             }
         }
-        Err(NotEntered::Full) => turn_stream_away(&stream),
-        Err(NotEntered::Ended | NotEntered::Memory) => {}
+        Err((NotEntered::Full, stream)) => turn_stream_away(&stream),
+        Err((NotEntered::Ended | NotEntered::Memory, _)) => {}
     }
 }
 
@@ -108,10 +108,10 @@ pub fn turn_away<W: Write, L: Link>(writer: &mut Watched<W>, link: &mut L) -> Re
 
 /// Serves a connection that stands on the roll.
 fn talk<N: Name, R: Wait + Clock + AllocGlobal>(rt: &R, house: &House<'_, N>, guest: Guest) {
-    let tally = house.door.counts.at(guest.key);
-    let worker = SharedWorker::new(rt, &house.cpus, guest.key, tally);
+    let tally = house.door.counts.at(guest.key());
+    let worker = SharedWorker::new(rt, &house.cpus, guest.key(), tally);
     let mut lines = ClientLines::new(worker, tally);
     serve_begun(rt, rt.alloc(), &guest, &mut lines, house.door);
     drop(lines.into_worker());
-    house.door.roll.leave(rt, guest.key);
+    house.door.roll.leave(rt, guest);
 }

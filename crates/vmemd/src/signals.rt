@@ -1,4 +1,6 @@
-//! What the workers of a server share beside its system.
+//! What the workers of a server share beside its system, and what each of them has.
+ghost use Rattle.std.specs.Prelude.{◌<◌};
+ghost use Rattle.lease_proto.specs.declared.limits.TheConstants.{MOST_CPUS};
 
 use deed_table::Name;
 use lease_tcp::{Door, Served, Shortage, accept_loop};
@@ -25,8 +27,8 @@ pub struct Signals {
     threads: AtomicBool,
 }
 
-/// The CPU of a worker that was counted as ready: only `Signals::add_ready` makes one. It can do
-/// nothing but serve, and isn't to be dropped.
+/// The CPU of a worker that was counted as ready: only `Signals::gather` makes one. It can do nothing
+/// but serve, and isn't to be dropped.
 pub struct ReadyCpu<N: Name> {
     cpu: Cpu<N>,
 }
@@ -35,7 +37,7 @@ pub struct ReadyCpu<N: Name> {
 #[derive(PartialEq, Eq, Debug, Drop)]
 pub struct Worked(Served);
 
-/// That a worker told that it was out of memory for its CPU: only `Signals::starve` makes one.
+/// That there was no memory for a worker's CPU, which is told: only `Signals::gather` makes one.
 #[derive(PartialEq, Eq, Debug, Drop)]
 pub struct Starved(());
 
@@ -77,10 +79,27 @@ impl Signals {
         &self.stop
     }
 
-    /// Tells that one more worker has its CPU, which is this one.
-    pub fn add_ready<N: Name>(&self, cpu: Cpu<N>) -> ReadyCpu<N> {
-        self.ready.fetch_add(1, Ordering::SeqCst);
-        ReadyCpu { cpu }
+    /// Makes the CPU of this number for a worker, and tells that one more has its own; or tells that
+    /// there is no memory for it.
+    pub fn gather<N: Name>(
+        &self,
+        alloc: Global,
+        system: &System<N>,
+        number: u32,
+    ) -> Result<ReadyCpu<N>, Starved>
+        requires { number < MOST_CPUS }
+    {
+        match Cpu::new(alloc, system, number) {
+            Ok(Some(cpu)) => {
+                self.ready.fetch_add(1, Ordering::SeqCst);
+                Ok(ReadyCpu { cpu })
+            }
+            Ok(None) => unreachable!(),
+            Err(_) => {
+                self.starved.store(true, Ordering::SeqCst);
+                Err(Starved(()))
+            }
+        }
     }
 
     /// How many workers have their CPU.
@@ -88,13 +107,7 @@ impl Signals {
         self.ready.load(Ordering::SeqCst)
     }
 
-    /// Tells that a worker was out of memory for its CPU.
-    pub fn starve(&self) -> Starved {
-        self.starved.store(true, Ordering::SeqCst);
-        Starved(())
-    }
-
-    /// Whether a worker was.
+    /// Whether there was none for a worker's CPU.
     pub fn is_starved(&self) -> bool {
         self.starved.load(Ordering::SeqCst)
     }

@@ -12,7 +12,6 @@ use crate::running::{Console, RunFault, Site};
 use crate::signals::{Signals, Starved, Worked};
 use crate::stopping::{retire, stop};
 use deed_table::Name;
-use lease_threads::Cpu;
 use std::io::{Read, Write};
 use std::net::{Net, TcpListener, TcpStream};
 use std::sync::Wait;
@@ -117,11 +116,7 @@ fn work<
 >(rt: &R, site: &Site<'_, N>, number: u32) -> Result<Worked, Starved>
     requires { number < MOST_CPUS }
 {
-    let ready = match Cpu::new(rt.alloc(), site.system, number) {
-        Ok(Some(cpu)) => site.signals.add_ready(cpu),
-        Ok(None) => unreachable!(),
-        Err(_) => return Err(site.signals.starve()),
-    };
+    let ready = site.signals.gather(rt.alloc(), site.system, number)?;
     let (cpu, worked) = ready.serve(rt, rt.alloc(), site.door, site.system);
     retire(rt, site.system, site.signals, cpu);
     Ok(worked)
