@@ -123,6 +123,7 @@ fn push_link(out: &mut Vec<u8>, arena: &ArenaName) -> Result<(), AllocError>
     put(out, Markup::LeasesEnd)
 }
 
+/// An arena, with a bar of its units.
 #[tactic(auto, unfolding(crate::specs::Pages::arena_part))]
 fn push_arena(out: &mut Vec<u8>, arena: &ArenaSeen) -> Result<(), AllocError>
     ensures { OnOk result (out.new.items ≡ out.old.items ++ spec.arena_part arena.now) }

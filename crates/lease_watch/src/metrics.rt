@@ -56,6 +56,7 @@ fn push_values(out: &mut Vec<u8>, values: &[(Family, u64)]) -> Result<(), AllocE
     Ok(())
 }
 
+/// Which program it is.
 #[tactic(auto, unfolding(crate::specs::Metrics::build_text))]
 fn push_build(out: &mut Vec<u8>, version: &Version) -> Result<(), AllocError>
     ensures { OnOk result (out.new.items ≡ out.old.items ++ spec.build_text version.now) }
@@ -66,6 +67,7 @@ fn push_build(out: &mut Vec<u8>, version: &Version) -> Result<(), AllocError>
     push_closing(out, 1)
 }
 
+/// The label that has its version.
 #[tactic(auto, unfolding(crate::specs::Samples::label))]
 fn push_version_label(out: &mut Vec<u8>, version: &Version) -> Result<(), AllocError>
     ensures { OnOk result (out.new.items
@@ -106,6 +108,7 @@ fn push_words(out: &mut Vec<u8>, family: Family, counts: &WordCounts) -> Result<
     push_each_word(out, family, family.words(), counts)
 }
 
+/// A sample for each of these words.
 fn push_each_word(
     out: &mut Vec<u8>,
     family: Family,
@@ -121,6 +124,7 @@ fn push_each_word(
     Ok(())
 }
 
+/// What each arena was set up as, and where its units are.
 #[tactic(auto, unfolding(crate::specs::Metrics::arenas_text))]
 fn push_arenas(out: &mut Vec<u8>, arenas: &[ArenaSeen]) -> Result<(), AllocError>
     ensures { OnOk result (out.new.items ≡ out.old.items ++ spec.arenas_text arenas.now) }
@@ -131,6 +135,7 @@ fn push_arenas(out: &mut Vec<u8>, arenas: &[ArenaSeen]) -> Result<(), AllocError
     push_units(out, arenas)
 }
 
+/// What each was set up as.
 fn push_setups(out: &mut Vec<u8>, arenas: &[ArenaSeen]) -> Result<(), AllocError>
     ensures { OnOk result (out.new.items ≡ out.old.items ++ flat_map spec.setup_text arenas.now) }
 {
@@ -152,6 +157,7 @@ fn push_setup(out: &mut Vec<u8>, arena: &ArenaSeen) -> Result<(), AllocError>
     push_closing(out, 1)
 }
 
+/// The labels that have its name and its source.
 #[tactic(auto, unfolding(crate::specs::Metrics::names_text))]
 fn push_names(out: &mut Vec<u8>, arena: &ArenaSeen) -> Result<(), AllocError>
     ensures { OnOk result (out.new.items ≡ out.old.items ++ spec.names_text arena.now) }
@@ -161,6 +167,7 @@ fn push_names(out: &mut Vec<u8>, arena: &ArenaSeen) -> Result<(), AllocError>
     push_source(out, &arena.source)
 }
 
+/// Those that have its quantum and its qmax.
 #[tactic(auto, unfolding(crate::specs::Metrics::limits_text))]
 fn push_limits(out: &mut Vec<u8>, arena: &ArenaSeen) -> Result<(), AllocError>
     ensures { OnOk result (out.new.items ≡ out.old.items ++ spec.limits_text arena.now) }
@@ -181,6 +188,7 @@ fn push_source(out: &mut Vec<u8>, source: &Option<ArenaName>) -> Result<(), Allo
     }
 }
 
+/// Where the units of each are.
 fn push_units(out: &mut Vec<u8>, arenas: &[ArenaSeen]) -> Result<(), AllocError>
     ensures { OnOk result (out.new.items ≡ out.old.items ++ flat_map spec.units_text arenas.now) }
 {

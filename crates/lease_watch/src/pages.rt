@@ -25,6 +25,7 @@ pub fn page_text(alloc: Global, seen: &Seen) -> Result<Vec<u8>, AllocError>
     Ok(out)
 }
 
+/// The head of the page, with what was done lately.
 #[tactic(auto, unfolding(crate::specs::Pages::page_head))]
 fn push_head(out: &mut Vec<u8>, version: &Version, lately: &Work) -> Result<(), AllocError>
     ensures { OnOk result

@@ -45,6 +45,7 @@ pub(crate) fn clients_in(query: &[u8]) -> Option<ListQuery>
     list_in(query, Listed::Clients)
 }
 
+/// The list that a query names.
 fn list_in(query: &[u8], of: Listed) -> Option<ListQuery>
     ensures { result ≡ spec.list_in query.now of }
 {

@@ -79,6 +79,7 @@ fn page_at(path: &[u8], query: &[u8]) -> Wanted
     }
 }
 
+/// What is wanted by a query of a list.
 fn list_by(query: Option<ListQuery>) -> Wanted
     ensures { result ≡ spec.list_by query }
 {

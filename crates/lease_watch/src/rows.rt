@@ -111,6 +111,7 @@ pub fn list_text(alloc: Global, rows: &[LeaseRow]) -> Result<Vec<u8>, AllocError
     Ok(out)
 }
 
+/// The rows of a list, with a comma between two.
 #[tactic(auto, unfolding(crate::specs::Rows::rows_text))]
 fn push_rows(out: &mut Vec<u8>, rows: &[LeaseRow]) -> Result<(), AllocError>
     ensures { OnOk result (out.new.items ≡ out.old.items ++ spec.rows_text rows.now) }
@@ -122,6 +123,7 @@ fn push_rows(out: &mut Vec<u8>, rows: &[LeaseRow]) -> Result<(), AllocError>
     push_more(out, more)
 }
 
+/// Those after the first.
 fn push_more(out: &mut Vec<u8>, rows: &[LeaseRow]) -> Result<(), AllocError>
     ensures { OnOk result (out.new.items ≡ out.old.items ++ flat_map spec.next_text rows.now) }
 {
@@ -131,6 +133,7 @@ fn push_more(out: &mut Vec<u8>, rows: &[LeaseRow]) -> Result<(), AllocError>
     Ok(())
 }
 
+/// One of these, behind its comma.
 fn push_next(out: &mut Vec<u8>, row: &LeaseRow) -> Result<(), AllocError>
     ensures { OnOk result (out.new.items ≡ out.old.items ++ spec.next_text row.now) }
 {
@@ -138,6 +141,7 @@ fn push_next(out: &mut Vec<u8>, row: &LeaseRow) -> Result<(), AllocError>
     push_row(out, row)
 }
 
+/// A row, as an object of JSON.
 #[tactic(auto, unfolding(crate::specs::Rows::row_text))]
 fn push_row(out: &mut Vec<u8>, row: &LeaseRow) -> Result<(), AllocError>
     ensures { OnOk result (out.new.items ≡ out.old.items ++ spec.row_text row.now) }

@@ -121,6 +121,7 @@ fn push_words_table(
     put(out, Markup::TableEnd)
 }
 
+/// A row for each of these words.
 fn push_word_rows(
     out: &mut Vec<u8>,
     family: Family,
@@ -146,6 +147,7 @@ fn push_value_rows(out: &mut Vec<u8>, values: &[(Family, u64)]) -> Result<(), Al
     Ok(())
 }
 
+/// The table of what the server is at.
 #[tactic(auto, unfolding(crate::specs::Pages::state_table))]
 fn push_state(out: &mut Vec<u8>, seen: &Seen) -> Result<(), AllocError>
     ensures { OnOk result (out.new.items ≡ out.old.items ++ spec.state_table seen.now) }

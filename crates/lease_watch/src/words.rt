@@ -108,6 +108,7 @@ impl Word {
     }
 }
 
+/// The word that a refusal is counted by.
 fn of_refusal(refusal: Refusal) -> Word
     ensures { result ≡ spec.refusal_word refusal }
 {

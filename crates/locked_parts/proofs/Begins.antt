@@ -39,12 +39,12 @@ few_before arenas zero = omega arith
 few_before arenas (suc id) = omega (arith, before_next arenas id, few_before arenas id, few (slice_get arenas id))
 
 module _ {X : Type 0} where
-  at_first : (xs ys : List X) (k : ℕ) (x : X) → slice_get xs k ≡ Some x → slice_get (xs ++ ys) k ≡ Some x
+  pub at_first : (xs ys : List X) (k : ℕ) (x : X) → slice_get xs k ≡ Some x → slice_get (xs ++ ys) k ≡ Some x
   at_first [] ys k x at = absurd (let e : None ≡ Some x = at in cc)
   at_first (z ∷ xs) ys zero x at = at
   at_first (z ∷ xs) ys (suc k) x at = at_first xs ys k x at
 
-  at_second : (xs ys : List X) (n : ℕ) → slice_get (xs ++ ys) (length xs + n) ≡ slice_get ys n
+  pub at_second : (xs ys : List X) (n : ℕ) → slice_get (xs ++ ys) (length xs + n) ≡ slice_get ys n
   at_second [] ys n = (let e : length {A = X} [] + n ≡ n = omega arith in ap (slice_get ys) e)
   at_second (z ∷ xs) ys n = (let e : length (z ∷ xs) + n ≡ suc (length xs + n) = omega arith in ap (slice_get (z ∷ (xs ++ ys))) e ∙ at_second xs ys n)
 

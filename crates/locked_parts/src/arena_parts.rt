@@ -2,7 +2,7 @@
 //! alone, so that each event looks whether it is the arena that is meant.
 ghost use Rattle.std.specs.Prelude.{◌≡◌, ◌≢◌, ◌<◌, ◌≤◌, ◌↔◌, ◌++◌, List, [], Some, None, Ok};
 ghost use Rattle.std.specs.Prelude.{IsOk, OnOk, OnErr, IfOk, IfErr, true, false};
-ghost use Rattle.std.specs.Prelude.{vec_len, vec_capacity};
+ghost use Rattle.std.specs.Prelude.{vec_len};
 ghost use Rattle.deed_core.specs.Covering.{units_held};
 ghost use Rattle.deed_core.specs.Request.{rounding_of, plain_of};
 ghost use Rattle.tag_arena.specs.ArenaState.{ranges_of};
@@ -14,6 +14,7 @@ ghost use Rattle.arena_tree.specs.Tags.{wording_of};
 ghost use Rattle.locked_parts.specs.Answers.{AnswersSoundly, StaysButArena};
 ghost use Rattle.locked_parts.specs.Growing.{CanGrow, HasRootsMore, IsOfArena, PartGrew};
 ghost use Rattle.locked_parts.specs.Growing.{IsGrowthBy, RefusesGrow};
+ghost use Rattle.locked_parts.specs.Handing.{IsHandedOver};
 ghost use Rattle.locked_parts.specs.Saying.{IsOtherArena, arena_said};
 ghost use Rattle.locked_parts.specs.Sums.{ArenaTells};
 ghost use Rattle.locked_parts.specs.Words.{carve_word, free_word, span_word};
@@ -366,8 +367,7 @@ impl<N: Name> ArenaPart<N> {
         ensures moved { OnOk result ((to.new.items ≡ to.old.items ++ self.old.roots.roots)
             × (self.new.roots.roots ≡ [])) }
         ensures more { HasRootsMore id to.old.items to.new.items }
-        ensures room { IfOk result (λ handed. (handed.arena ≡ id) × (handed.ranges.items ≡ [])
-            × (vec_len to.new ≤ vec_capacity handed.ranges)) }
+        ensures room { IfOk result (IsHandedOver id to.new) }
         ensures arena { self.new.arena ≡ self.old.arena }
         ensures source { self.new.source ≡ self.old.source }
         ensures counted { OnOk result (self.new.beside ≡ 0) }

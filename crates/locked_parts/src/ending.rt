@@ -1,10 +1,12 @@
 //! How parts are taken from under their locks and ended.
 ghost use Rattle.std.specs.Prelude.{◌≡◌, [], IfErr, OnOk, vec_len};
+ghost use Rattle.locked_parts.specs.States.{AreInPlace};
 
 use crate::kind_depots::KindDepot;
-use crate::not_empty::{NotEmpty, end_depot, end_part, end_slabs};
+use crate::locked_arenas::LockedArena;
+use crate::not_empty::{NotEmpty, end_depot, end_slabs};
 use crate::own_caches::FIRST_SIZE;
-use crate::parts::{LockedArena, LockedCache, LockedParts};
+use crate::parts::{LockedCache, LockedParts};
 use deed_table::Name;
 use std::alloc::Global;
 use std::sync::Mutex;
@@ -35,10 +37,11 @@ impl<N: Name> LockedParts<N> {
 
 /// Ends arenas in which no deed lies, the last first.
 fn end_all<N: Name>(alloc: Global, arenas: &mut Vec<LockedArena<N>>) -> Result<(), NotEmpty>
-    ensures { OnOk result (vec_len arenas.new ≡ 0) }
+    ensures none { OnOk result (vec_len arenas.new ≡ 0) }
+    ensures in_place { AreInPlace arenas.old.items → AreInPlace arenas.new.items }
 {
     while let Some(locked) = arenas.pop() {
-        if let Err((locked, found)) = end_locked(alloc, locked) {
+        if let Err((locked, found)) = locked.end(alloc) {
             arenas.push_reserved(locked);
             return Err(found);
         }
@@ -46,42 +49,11 @@ fn end_all<N: Name>(alloc: Global, arenas: &mut Vec<LockedArena<N>>) -> Result<(
     Ok(())
 }
 
-/// Ends an arena in which no deed lies, with its caches.
-fn end_locked<N: Name>(
-    alloc: Global,
-    locked: LockedArena<N>,
-) -> Result<(), (LockedArena<N>, NotEmpty)> {
-    let LockedArena {
-        number,
-        part,
-        mut caches,
-    } = locked;
-    if let Err(found) = end_caches(alloc, &mut caches) {
-        let left = LockedArena {
-            number,
-            part,
-            caches,
-        };
-        return Err((left, found));
-    }
-    match end_part(part.into_inner()) {
-        Ok(()) => {
-            caches.destroy_empty();
-            Ok(())
-        }
-        Err((part, found)) => {
-            let left = LockedArena {
-                number,
-                part: Mutex::new(part),
-                caches,
-            };
-            Err((left, found))
-        }
-    }
-}
-
 /// Ends quantum caches in which no deed lies, the last first.
-fn end_caches<N: Name>(alloc: Global, caches: &mut Vec<LockedCache<N>>) -> Result<(), NotEmpty>
+pub(crate) fn end_caches<N: Name>(
+    alloc: Global,
+    caches: &mut Vec<LockedCache<N>>,
+) -> Result<(), NotEmpty>
     ensures { OnOk result (caches.new.items ≡ []) }
 {
     while let Some(cache) = caches.pop() {

@@ -7,14 +7,14 @@ ghost use Rattle.locked_parts.specs.News.{IsMadeAsSet, locked_of, numbered_from,
 use crate::arena_parts::ArenaPart;
 use crate::end_rooms::EndRoom;
 use crate::kinds::cache_count;
+use crate::locked_arenas::LockedArena;
 use crate::new_caches::{NewCache, add_caches, end_caches, lock_caches};
 use crate::owned_spans::{end_whole, own_each};
-use crate::parts::{LockedArena, LockedCache};
+use crate::parts::LockedCache;
 use arena_tree::{MOST_SPANS, OwnedSpan, Tree, TreeArena};
 use deed_table::{Name, Opener, Root, Roots};
 use std::alloc::{AllocError, Global};
 use std::marker::Model;
-use std::sync::Mutex;
 use tag_arena::Arena;
 
 /// An arena all of whose units are free, with a root of each span that it owns, its new caches, and
@@ -119,12 +119,7 @@ impl<N: Name> NewArena<N> {
             mut locked,
         } = self;
         lock_caches(caches, &mut locked);
-        let arena = LockedArena {
-            number: part.arena.id(),
-            part: Mutex::new(part),
-            caches: locked,
-        };
-        (arena, roots)
+        (LockedArena::new(part, locked), roots)
     }
 
     /// Ends it, and closes its roots.

@@ -149,9 +149,9 @@ impl<N: Name> LockedParts<N> {
     fn arena_units<R: Wait>(&self, rt: &R, arena: u32) -> (u128, u128)
         ensures { ArenaTells arena result.0 result.1 }
     {
-        match self.arenas.get(arena as usize) {
-            Some(locked) => locked.part.lock(rt).units_of(arena),
-            None => (0, 0),
+        match self.standing(arena) {
+            Ok(locked) => locked.units(rt),
+            Err(_) => (0, 0),
         }
     }
 }

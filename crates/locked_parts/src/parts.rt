@@ -1,22 +1,21 @@
 //! The parts of a system, each under its lock.
-ghost use Rattle.std.specs.Prelude.{◌≡◌, ◌+◌, ◌<◌, ◌≤◌, ◌↔◌, [], IfErr, IfSome, IsOk, OnErr, OnOk};
-ghost use Rattle.std.specs.Prelude.{IfOk, IfNone, Err, Some, length, slice_get, true};
-ghost use Rattle.std.specs.Prelude.{vec_len, vec_capacity};
+ghost use Rattle.std.specs.Prelude.{◌≡◌, ◌+◌, ◌<◌, ◌≤◌, ◌↔◌, IfErr, IfSome, IsOk, OnErr, OnOk};
+ghost use Rattle.std.specs.Prelude.{IfOk, IfNone, Err, length, true};
 ghost use Rattle.arena_tree.specs.Chains.{quantum_in};
 ghost use Rattle.arena_tree.specs.Trees.{nodes_of};
 ghost use Rattle.locked_parts.specs.Kinds.{count_of_caches, caches_before, AreCachesBefore};
 ghost use Rattle.locked_parts.specs.Growing.{AnswersGrow, HasRootsMore, IsGrowthBy, IsRootArena};
 ghost use Rattle.locked_parts.specs.Growing.{MayRefuseGrow};
-ghost use Rattle.locked_parts.specs.Handing.{IsNotHandedOver, IsNotTaken};
+ghost use Rattle.locked_parts.specs.Handing.{IsHandedOver, IsNotHandedOver, IsNotTaken};
 ghost use Rattle.locked_parts.specs.News.{StandAsSet};
-ghost use Rattle.locked_parts.specs.Saying.{HasCache, HasCacheAt};
 ghost use Rattle.locked_parts.specs.Walks.{IsResizeFor, IsResizedFor, IsTickFor};
 ghost use Rattle.magazine_layer.specs.Magazines.{IsSize};
 
-use crate::arena_parts::{ArenaPart, Grown, HandedOver, NoneWhole, NotCounted};
+use crate::arena_parts::{Grown, HandedOver, NoneWhole, NotCounted};
 use crate::depot_walks::{Interval, Resized, resize_each, tick_each};
 use crate::kind_depots::{KindDepot, ResizeSaid, TickSaid};
 use crate::kinds::{CacheKind, cache_count};
+use crate::locked_arenas::LockedArena;
 use crate::locked_depots::LockedDepots;
 use arena_tree::{GrowFault, MOST_ARENAS, Tree};
 use deed_core::Range;
@@ -42,22 +41,6 @@ impl<N: Name> Model for LockedCache<N> {
     ghost view = { λ c. c.kind };
 }
 
-/// An arena under its lock, and beside that its number, and its quantum caches by their numbers,
-/// from 1 on. A contract sees these.
-pub struct LockedArena<N: Name> {
-    pub(crate) number: u32,
-    pub(crate) part: Mutex<ArenaPart<N>>,
-    pub(crate) caches: Vec<LockedCache<N>>,
-}
-
-impl<N: Name> Model for LockedArena<N> {
-    ghost use Rattle.locked_parts.specs.States.{LockedArenaState};
-
-    ghost Value = { LockedArenaState };
-
-    ghost view = { λ a. record { number = a.number; kinds = a.caches.items } };
-}
-
 /// Arenas with their quantum caches, each part under a lock of its own. A contract sees the arenas
 /// as they were set up, and those that stand, which are the first ones.
 pub struct LockedParts<N: Name> {
@@ -71,14 +54,14 @@ pub struct LockedParts<N: Name> {
 impl<N: Name> Model for LockedParts<N> {
     ghost use Rattle.std.specs.Prelude.{vec_len};
     ghost use Rattle.locked_parts.specs.Kinds.{AreCachesBefore};
-    ghost use Rattle.locked_parts.specs.States.{LockedPartsState};
+    ghost use Rattle.locked_parts.specs.States.{AreInPlace, LockedPartsState};
 
     ghost Value = { LockedPartsState };
 
     ghost view = { λ p.
         record { arenas = p.tree; standing = vec_len p.arenas; stand = p.arenas.items } };
 
-    ghost invariant = { λ p. AreCachesBefore p.tree p.caches_before };
+    ghost invariant = { λ p. AreCachesBefore p.tree p.caches_before × AreInPlace p.arenas.items };
 }
 
 impl<N: Name> LockedCache<N> {
@@ -99,31 +82,9 @@ impl<N: Name> LockedCache<N> {
     }
 }
 
-impl<N: Name> LockedArena<N> {
-    /// Takes the lowest owned span that is wholly free out of the arena.
-    pub(crate) fn remove_owned<R: Wait>(&self, rt: &R) -> Result<SeatDeed<N>, NoneWhole>
-        ensures { IfErr result (λ asked. asked ≡ self.now.number) }
-    {
-        self.part.lock(rt).remove_owned(self.number)
-    }
-
-    /// Where the quantum cache of this number is kept, if it stands.
-    pub(crate) fn cache(&self, number: u8) -> Option<&LockedCache<N>>
-        ensures stands { IfSome result (λ cache. HasCacheAt self.now number cache.now) }
-        ensures none { IfNone result (¬ HasCache self.now number) }
-    {
-        if number == 0 {
-            return None;
-        }
-        if number as usize > self.caches.len() {
-            return None;
-        }
-        Some(&self.caches[number as usize - 1])
-    }
-}
-
 impl<N: Name> LockedParts<N> {
     /// The arenas of a tree, in their order, under their locks.
+    #[tactic(auto, using(crate::proofs::Stands::set_in_place))]
     pub fn new(alloc: Global, tree: Tree, arenas: Vec<LockedArena<N>>) -> LockedParts<N>
         requires { StandAsSet tree arenas.items }
         ensures arenas { result.arenas ≡ tree }
@@ -194,7 +155,7 @@ impl<N: Name> LockedParts<N> {
         ensures grown { IfOk result (IsGrowthBy arena range) }
     {
         match self.root_arena(arena)? {
-            Some(locked) => locked.part.lock(rt).grow(arena, range),
+            Some(locked) => locked.grow(rt, range),
             None => Err(GrowFault::NoMemory),
         }
     }
@@ -202,6 +163,8 @@ impl<N: Name> LockedParts<N> {
     /// The arena with this number, which has to be a root; None where it is ended.
     fn root_arena(&self, arena: u32) -> Result<Option<&LockedArena<N>>, GrowFault>
         ensures root { OnOk result (IsRootArena self.now.arenas arena) }
+        ensures here { IfOk result (λ it. IfSome it (λ locked. locked.now.number ≡ arena)) }
+        ensures ended { IfOk result (λ it. IfNone it (self.now.standing ≤ arena)) }
         ensures refused { IfErr result (MayRefuseGrow self.now.arenas arena) }
     {
         if arena as usize >= self.tree.len() {
@@ -210,7 +173,7 @@ impl<N: Name> LockedParts<N> {
         if self.tree.arena(arena).source.is_some() {
             return Err(GrowFault::NotRoot);
         }
-        Ok(self.arenas.get(arena as usize))
+        Ok(self.standing(arena).ok())
     }
 
     /// Moves the further roots of the arena with this number behind those that it was made with, in
@@ -224,8 +187,7 @@ impl<N: Name> LockedParts<N> {
         to: &mut Vec<Root<N>>,
     ) -> Result<HandedOver, NotHandedOver>
         ensures more { HasRootsMore arena to.old.items to.new.items }
-        ensures room { IfOk result (λ handed. (handed.arena ≡ arena) × (handed.ranges.items ≡ [])
-            × (vec_len to.new ≤ vec_capacity handed.ranges)) }
+        ensures room { IfOk result (IsHandedOver arena to.new) }
         ensures refused { IfErr result (IsNotHandedOver self.now arena) }
         ensures unchanged { OnErr result (to.new.items ≡ to.old.items) }
     {
@@ -233,7 +195,7 @@ impl<N: Name> LockedParts<N> {
             Ok(locked) => locked,
             Err(ended) => return Err(NotHandedOver::Ended(ended)),
         };
-        match locked.part.lock(rt).hand_over(self.alloc, arena, to) {
+        match locked.hand_over(rt, self.alloc, to) {
             Ok(handed) => Ok(handed),
             Err(asked) => Err(NotHandedOver::NotCounted(asked)),
         }
@@ -254,9 +216,9 @@ impl<N: Name> LockedParts<N> {
     }
 
     /// The arena with this number, if it stands.
-    fn standing(&self, arena: u32) -> Result<&LockedArena<N>, ArenaEnded>
+    pub(crate) fn standing(&self, arena: u32) -> Result<&LockedArena<N>, ArenaEnded>
         ensures exactly { IsOk result ↔ (arena < self.now.standing) }
-        ensures here { IfOk result (λ locked. slice_get self.now.stand arena ≡ Some locked.now) }
+        ensures here { IfOk result (λ locked. locked.now.number ≡ arena) }
     {
         match self.arenas.get(arena as usize) {
             Some(locked) => Ok(locked),

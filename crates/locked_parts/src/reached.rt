@@ -41,15 +41,10 @@ impl<N: Name> LockedParts<N> {
         if arena as usize >= self.tree.len() {
             return None;
         }
-        if arena as usize >= self.arenas.len() {
+        let Ok(locked) = self.standing(arena) else {
             return None;
-        }
-        let locked = &self.arenas[arena as usize];
-        let part = locked.part.lock(rt);
-        if !part.is(said, step, arena) {
-            return None;
-        }
-        Some(part)
+        };
+        locked.reach(rt, said, step)
     }
 
     /// The quantum cache of this number, with where its parts are kept, if it stands.
