@@ -1,6 +1,7 @@
 //! Both bodies of an arena, `tag_arena`'s and the plain one for tests, answer each call alike.
 mod bodies;
 mod chances;
+mod edges;
 mod imports;
 mod walks;
 

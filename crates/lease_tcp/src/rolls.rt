@@ -63,13 +63,13 @@ struct Row {
 /// What lies under the lock of a roll: never more connections than there may be.
 #[derive(Drop)]
 struct Rows {
-    streams: Slab<Row>,
+    entered: Slab<Row>,
     most: usize,
     ended: bool,
     total: u64,
     refused: u64,
     failed: u64,
-    ghost within: { slab_len streams ≤ most },
+    ghost within: { slab_len entered ≤ most },
 }
 
 /// The connections that are served now, at most so many. A contract sees for how many it is made.
@@ -156,19 +156,19 @@ impl Roll {
 
     /// Whether none is served.
     fn is_empty<R: Wait>(&self, rt: &R) -> bool {
-        self.rows.lock(rt).streams.is_empty()
+        self.rows.lock(rt).entered.is_empty()
     }
 }
 
 impl Rows {
     /// None came yet.
     fn new(alloc: Global, most: usize) -> Rows
-        ensures none { slab_len result.streams ≡ 0 }
+        ensures none { slab_len result.entered ≡ 0 }
         ensures open { (result.most ≡ most) × (result.ended ≡ false) }
         ensures uncounted { (result.total ≡ 0) × (result.refused ≡ 0) × (result.failed ≡ 0) }
     {
         Rows {
-            streams: Slab::new(alloc),
+            entered: Slab::new(alloc),
             most,
             ended: false,
             total: 0,
@@ -180,15 +180,15 @@ impl Rows {
     /// Enters a connection. It is refused as one too many just where there are as many as there may
     /// be. It is counted where it is turned away, or fails, and only there.
     fn enter(&mut self, stream: &SharedStream) -> Result<usize, NotEntered>
-        ensures entered { IfOk result (λ key. (get self.old.streams key ≡ None)
-            × IsUnbegun (get self.new.streams key)) }
+        ensures entered { IfOk result (λ key. (get self.old.entered key ≡ None)
+            × IsUnbegun (get self.new.entered key)) }
         ensures others { IfOk result (λ key. (other : _) → other ≢ key
-            → get self.new.streams other ≡ get self.old.streams other) }
-        ensures more { OnOk result (slab_len self.new.streams ≡ slab_len self.old.streams + 1) }
-        ensures same { OnErr result (SameValues self.old.streams self.new.streams) }
-        ensures as_many { OnErr result (slab_len self.new.streams ≡ slab_len self.old.streams) }
+            → get self.new.entered other ≡ get self.old.entered other) }
+        ensures more { OnOk result (slab_len self.new.entered ≡ slab_len self.old.entered + 1) }
+        ensures same { OnErr result (SameValues self.old.entered self.new.entered) }
+        ensures as_many { OnErr result (slab_len self.new.entered ≡ slab_len self.old.entered) }
         ensures full { IsErrOf result NotEntered.Full
-            ↔ ((self.old.ended ≡ false) × (slab_len self.old.streams ≡ self.old.most)) }
+            ↔ ((self.old.ended ≡ false) × (slab_len self.old.entered ≡ self.old.most)) }
         ensures ended { IsErrOf result NotEntered.Ended ↔ (self.old.ended ≡ true) }
         ensures kept { (self.new.most ≡ self.old.most) × (self.new.ended ≡ self.old.ended)
             × (self.new.total ≡ self.old.total) }
@@ -198,7 +198,7 @@ impl Rows {
         if self.ended {
             return Err(NotEntered::Ended);
         }
-        if self.streams.len() >= self.most {
+        if self.entered.len() >= self.most {
             self.refused = self.refused.saturating_add(1);
             return Err(NotEntered::Full);
         }
@@ -210,7 +210,7 @@ impl Rows {
             stream: own,
             begun: false,
         };
-        match self.streams.insert(row) {
+        match self.entered.insert(row) {
             Ok(key) => Ok(key),
             Err(_) => {
                 self.fail();
@@ -221,16 +221,16 @@ impl Rows {
 
     /// Counts the connection of this key, which is begun to be served, if it wasn't before.
     fn begin(&mut self, key: usize)
-        ensures counted { self.new.total ≡ begun_after (get self.old.streams key) self.old.total }
-        ensures begun { get self.new.streams key ≡ begun_row (get self.old.streams key) }
+        ensures counted { self.new.total ≡ begun_after (get self.old.entered key) self.old.total }
+        ensures begun { get self.new.entered key ≡ begun_row (get self.old.entered key) }
         ensures others { (other : _) → other ≢ key
-            → get self.new.streams other ≡ get self.old.streams other }
-        ensures as_many { slab_len self.new.streams ≡ slab_len self.old.streams }
+            → get self.new.entered other ≡ get self.old.entered other }
+        ensures as_many { slab_len self.new.entered ≡ slab_len self.old.entered }
         ensures kept { (self.new.most ≡ self.old.most) × (self.new.ended ≡ self.old.ended) }
         ensures counts { (self.new.refused ≡ self.old.refused)
             × (self.new.failed ≡ self.old.failed) }
     {
-        if let Some(row) = self.streams.get_mut(key) {
+        if let Some(row) = self.entered.get_mut(key) {
             if !row.begun {
                 row.begun = true;
                 self.total = self.total.saturating_add(1);
@@ -247,27 +247,27 @@ impl Rows {
 
     /// The connection of this key has ended. That is counted nowhere: it was where it was begun.
     fn leave(&mut self, key: usize)
-        ensures left { Updates self.old.streams self.new.streams key None }
-        ensures fewer { slab_len self.new.streams ≤ slab_len self.old.streams }
+        ensures left { Updates self.old.entered self.new.entered key None }
+        ensures fewer { slab_len self.new.entered ≤ slab_len self.old.entered }
         ensures kept { (self.new.most ≡ self.old.most) × (self.new.ended ≡ self.old.ended) }
         ensures counts { (self.new.total ≡ self.old.total) × (self.new.refused ≡ self.old.refused)
             × (self.new.failed ≡ self.old.failed) }
     {
-        let left = self.streams.try_remove(key);
+        let left = self.entered.try_remove(key);
         drop(left);
     }
 
     /// How many there are, were begun, were turned away and failed.
     fn counts(&self) -> ConnectionCounts
         ensures { result ≡ record {
-          served = slab_len self.now.streams;
+          served = slab_len self.now.entered;
           total = self.now.total;
           refused = self.now.refused;
           failed = self.now.failed;
         } }
     {
         ConnectionCounts {
-            served: self.streams.len() as u64,
+            served: self.entered.len() as u64,
             total: self.total,
             refused: self.refused,
             failed: self.failed,
@@ -279,7 +279,7 @@ impl Rows {
         ensures { self.new ≡ record self.old { ended = true } }
     {
         self.ended = true;
-        for (_, row) in self.streams.iter() {
+        for (_, row) in self.entered.iter() {
             let _ = row.stream.shutdown(how);
         }
     }

@@ -1,7 +1,7 @@
 //! How all roots of a system are brought together and their ranges told.
-ghost use Rattle.std.specs.Prelude.{◌≡◌, ◌+◌, ◌<◌, IfOk, OnOk, length};
+ghost use Rattle.std.specs.Prelude.{◌≡◌, ◌+◌, ◌<◌, IfErr, IfOk, OnOk, length};
 ghost use Rattle.lease_threads.specs.Ends.{AreRangesFor, AreRangesOf, AreRootsFor, AreRootsIn};
-ghost use Rattle.lease_threads.specs.Ends.{AreInTurn, InTurn, TellsArena};
+ghost use Rattle.lease_threads.specs.Ends.{AreInTurn, InTurn, IsUngatheredAt, TellsArena};
 
 use crate::closing::put_in_turn;
 use crate::systems::System;
@@ -26,7 +26,8 @@ pub(crate) enum NotGathered {
 
 /// Takes the roots that `grow` opened from behind the locks, tells the ranges of all by arena, and
 /// puts the roots of each in the turn in which they are closed. Room for that was made before.
-/// Where an arena keeps its roots all the same, those that were taken so far stand with the others.
+/// Where an arena keeps its roots all the same, those that were taken so far stand with the others,
+/// and the room is gone.
 pub(crate) fn gather<N: Name, R: Wait>(
     rt: &R,
     system: &mut System<N>,
@@ -42,14 +43,8 @@ pub(crate) fn gather<N: Name, R: Wait>(
     };
     let count = system.tree().len();
     for id in 0..count as u32 {
-        match gather_at(rt, id, system) {
-            Ok(ranges) => told.push_reserved(ranges),
-            Err(why) => {
-                told.clear();
-                system.told = Some(told);
-                return Err(why);
-            }
-        }
+        let ranges = gather_at(rt, id, system)?;
+        told.push_reserved(ranges);
     }
     Ok(told)
 }
@@ -79,6 +74,7 @@ fn gather_roots<N: Name, R: Wait>(
 ) -> Result<Vec<Range>, NotGathered>
     ensures roots { AreRootsFor id roots.old.items roots.new.items }
     ensures told { IfOk result (λ told. AreRangesFor id roots.old.items told.items) }
+    ensures asked { IfErr result (IsUngatheredAt parts.now id) }
     ensures turn { OnOk result (InTurn roots.new.items) }
 {
     let handed = match parts.hand_over(rt, id, roots) {

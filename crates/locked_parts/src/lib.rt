@@ -15,10 +15,10 @@
 //! (end_rooms): it is made under the same lock, before a root is opened.
 //!
 //! `Running` (running) is `arena_tree::Parts` over them for one CPU, which has two magazines for
-//! each quantum cache (own_caches, own_rounds): each event of a shared part takes its lock, and no
-//! other (locked_events, own_events; a test, one_lock), and asks the gate (gates) before. Intervals
-//! and sizes of magazines are for all depots, one after another: such a walk (depot_walks) is
-//! proved over whatever keeps the depots, and goes over the locks (locked_depots).
+//! each quantum cache (own_caches, magazine_sets): each event of a shared part takes its lock, and
+//! no other (locked_events, own_events; a test, one_lock), and asks the gate (gates) before.
+//! Intervals and sizes of magazines are for all depots, one after another: such a walk
+//! (depot_walks) is proved over whatever keeps the depots, and goes over the locks (locked_depots).
 //!
 //! `specs/Kinds.antt` has quantum caches and what contracts see of magazines and depots,
 //! `Swaps.antt` exchanges, `Answers.antt` what an event answers, `Saying.antt` by which part it
@@ -43,6 +43,7 @@ mod kinds;
 mod locked_arenas;
 mod locked_depots;
 mod locked_events;
+mod magazine_sets;
 mod new_arenas;
 mod new_caches;
 mod not_empty;
@@ -50,7 +51,6 @@ mod not_empty;
 mod one_lock;
 mod own_caches;
 mod own_events;
-mod own_rounds;
 mod owned_spans;
 mod part_sums;
 mod parts;
@@ -66,10 +66,10 @@ pub use gates::{EventName, Gate, NextStep, OpenGate, Pass, RequestStopped, StepC
 pub use kind_depots::DepotSaid;
 pub use kinds::CacheKind;
 pub use locked_arenas::LockedArena;
+pub use magazine_sets::{end_rounds, new_rounds};
 pub use new_arenas::NewArena;
 pub use not_empty::NotEmpty;
 pub use own_caches::OwnCache;
-pub use own_rounds::{end_rounds, new_rounds};
 pub use part_sums::PartSums;
 pub use parts::{ArenaEnded, LockedParts, NotHandedOver, NotTaken};
 pub use running::Running;

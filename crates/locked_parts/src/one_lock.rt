@@ -11,9 +11,9 @@ use crate::locked_events::{
     add_carve_in, carve_in, depot_reap_in, free_in, slab_add_in, slab_put_in, slab_reap_in,
     slab_take_in,
 };
+use crate::magazine_sets::{end_rounds, new_rounds};
 use crate::new_arenas::NewArena;
 use crate::own_events::{swap_empty_in, swap_fresh_in, swap_full_in};
-use crate::own_rounds::{end_rounds, new_rounds};
 use crate::parts::LockedParts;
 use crate::said::Said;
 use arena_tree::{GivenFault, GrowFault, NewRoot, Setting, Setup};

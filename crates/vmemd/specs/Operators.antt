@@ -26,6 +26,11 @@ module _ {S : Type 0} (arenas : S → List TreeArena)
   abbrev pub TellsLine : S → List ℕ → List ℕ → S → Type 0
   TellsLine old line reply new = TellsRead old (grow_of line) reply new
 
+-- whether a root grew, or why it didn't
+abbrev pub outcome_of : {A : Type 0} → Result A GrowFault → Result (Unit {0}) GrowFault
+outcome_of (Ok grown) = Ok tt
+outcome_of (Err fault) = Err fault
+
 -- A running system is seen by its arenas, which stay. Whether a range suits a root lies behind its
 -- lock.
 abbrev pub all_arenas : List TreeArena → List TreeArena

@@ -10,15 +10,20 @@ use lease_call::{grow_outcome, growth_asked};
 use lease_proto::{ErrorWord, GrowLine, outcome_line};
 use lease_server::Teller;
 use lease_threads::System;
+use locked_parts::Grown;
 use std::marker::Model;
 use std::sync::Wait;
 
 /// Whose roots can grow while they are used.
 pub trait Grower {
-    ghost use Rattle.std.specs.Prelude.{◌≡◌, ℕ, List, Result};
+    ghost use Rattle.std.specs.Prelude.{◌≡◌, ℕ, IfOk, List, Result};
     ghost use Rattle.deed_core.specs.Extent.{Extent};
     ghost use Rattle.arena_tree.specs.declared.trees.TreeArena.{TreeArena};
     ghost use Rattle.arena_tree.specs.declared.part_faults.GrowFault.{GrowFault};
+    ghost use Rattle.vmemd.specs.Operators.{outcome_of};
+
+    /// That a root grew.
+    type Grown: Drop;
 
     // its arenas
     ghost arenas: { Self → List TreeArena };
@@ -26,13 +31,17 @@ pub trait Grower {
     // what may come of an arena that is to grow by a range, by its number
     ghost grows: { Self → ℕ → Extent → Result (Unit {0}) GrowFault → Self → Type 0 };
 
+    // it was the arena of this number, by this range
+    ghost is_growth: { Self.Grown → ℕ → Extent → Type 0 };
+
     /// The arenas, as they were set up.
     fn tree(&self) -> &Tree
         ensures { result.now ≡ arenas self.now };
 
     /// Gives the root of this number a further span of this range.
-    fn grow(&mut self, arena: u32, range: Range) -> Result<(), GrowFault>
-        ensures { grows self.old arena range result self.new };
+    fn grow(&mut self, arena: u32, range: Range) -> Result<Self::Grown, GrowFault>
+        ensures grows { grows self.old arena range (outcome_of result) self.new }
+        ensures grown { IfOk result (λ grown. is_growth grown arena range) };
 }
 
 /// The answer to a line of an operator, given without its line feed. `grow` is the one that is
@@ -51,7 +60,10 @@ fn grow<G: Grower>(line: &GrowLine, grower: &mut G) -> Result<(), ErrorWord>
     ensures { TellsGrowth G.grows (G.arenas grower.old) line.now grower.old result grower.new }
 {
     let growth = growth_asked(grower.tree(), line)?;
-    grow_outcome(grower.grow(growth.arena, growth.range))
+    match grower.grow(growth.arena, growth.range) {
+        Ok(_) => grow_outcome(Ok(())),
+        Err(fault) => grow_outcome(Err(fault)),
+    }
 }
 
 /// The roots of a running system. A contract sees its arenas.
@@ -80,21 +92,23 @@ impl<'a, N: Name, R> RunningRoots<'a, N, R> {
 }
 
 impl<N: Name, R: Wait> Grower for RunningRoots<'_, N, R> {
+    ghost use Rattle.locked_parts.specs.Growing.{IsGrowthBy};
     ghost use Rattle.vmemd.specs.Operators.{all_arenas, MayGrow};
+
+    type Grown = Grown;
 
     ghost arenas = { all_arenas };
 
     ghost grows = { MayGrow };
 
+    ghost is_growth = { λ grown arena range. IsGrowthBy arena range grown };
+
     fn tree(&self) -> &Tree {
         self.system.tree()
     }
 
-    fn grow(&mut self, arena: u32, range: Range) -> Result<(), GrowFault> {
-        match self.system.grow(self.rt, arena, range) {
-            Ok(_) => Ok(()),
-            Err(fault) => Err(fault),
-        }
+    fn grow(&mut self, arena: u32, range: Range) -> Result<Grown, GrowFault> {
+        self.system.grow(self.rt, arena, range)
     }
 }
 

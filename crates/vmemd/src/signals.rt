@@ -27,8 +27,8 @@ pub struct Signals {
     threads: AtomicBool,
 }
 
-/// The CPU of a worker that was counted as ready: only `Signals::gather` makes one. It can do nothing
-/// but serve, and isn't to be dropped.
+/// The CPU of a worker that was counted as ready: only `Signals::gather` makes one. It can do
+/// nothing but serve, and isn't to be dropped.
 pub struct ReadyCpu<N: Name> {
     cpu: Cpu<N>,
 }
@@ -79,8 +79,8 @@ impl Signals {
         &self.stop
     }
 
-    /// Makes the CPU of this number for a worker, and tells that one more has its own; or tells that
-    /// there is no memory for it.
+    /// Makes the CPU of this number for a worker, and tells that one more has its own; or tells
+    /// that there is no memory for it.
     pub fn gather<N: Name>(
         &self,
         alloc: Global,

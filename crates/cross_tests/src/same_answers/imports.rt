@@ -6,14 +6,14 @@ use std::process::Abort;
 use tag_arena::{ArenaFault, ArenaReport, Policy};
 
 /// The arena that all units are of.
-fn source_of(rt: &(impl Abort + AllocGlobal), quantum: u64, policy: Policy) -> Bodies {
+pub(super) fn source_of(rt: &(impl Abort + AllocGlobal), quantum: u64, policy: Policy) -> Bodies {
     let mut source = Bodies::new(rt, 1, quantum, policy);
     source.add(rt, 1, Range::new(0, 64).expect(rt, "a range"));
     source
 }
 
 /// Carves so many units, which begin at `base`.
-fn carved(rt: &impl Abort, arena: &mut Bodies, size: u64, base: u64) -> Twins {
+pub(super) fn carved(rt: &impl Abort, arena: &mut Bodies, size: u64, base: u64) -> Twins {
     match arena.carve(rt, &Request::plain(size)) {
         Ok(twins) => {
             assert_eq!(rt; twins.range().base(), base);
@@ -44,7 +44,7 @@ fn imported(rt: &impl Abort, arena: &mut Bodies, span: Twins, size: u64) -> Twin
 }
 
 /// Frees a segment, by which no imported span is whole.
-fn freed(rt: &impl Abort, arena: &mut Bodies, twins: Twins) {
+pub(super) fn freed(rt: &impl Abort, arena: &mut Bodies, twins: Twins) {
     match arena.free(rt, twins) {
         Ok(None) => {}
         Ok(Some(_span)) => panic!(rt; "no imported span is whole"),
@@ -62,7 +62,7 @@ fn span_of(rt: &impl Abort, arena: &mut Bodies, twins: Twins) -> Twins {
 }
 
 /// The units of the spans, the free ones, and those that are allocated.
-fn stands(rt: &impl Abort, arena: &Bodies, span: u128, free: u128, allocated: u128) {
+pub(super) fn stands(rt: &impl Abort, arena: &Bodies, span: u128, free: u128, allocated: u128) {
     let wanted = ArenaReport {
         span,
         free,
@@ -72,7 +72,7 @@ fn stands(rt: &impl Abort, arena: &Bodies, span: u128, free: u128, allocated: u1
 }
 
 /// Takes out the one span, and ends the arena.
-fn end(rt: &impl Abort, mut source: Bodies) {
+pub(super) fn end(rt: &impl Abort, mut source: Bodies) {
     let _ = source.remove(rt);
     source.close(rt);
 }

@@ -89,9 +89,13 @@ struct Roots {
 impl Grower for Roots {
     ghost use Rattle.std.specs.Prelude.{⊤};
 
+    type Grown = ();
+
     ghost arenas = { λ r. r.tree };
 
     ghost grows = { λ _ _ _ _ _. ⊤ };
+
+    ghost is_growth = { λ _ _ _. ⊤ };
 
     fn tree(&self) -> &Tree {
         &self.tree

@@ -5,13 +5,13 @@ use crate::commands::{GivenWords, ServeWords, WordsFault, read_words};
 use crate::configs::read_config;
 use crate::endings::{end_run, end_script, end_words};
 use crate::faults::ScriptFault;
-use crate::retrying::tell_stuck;
+use crate::retrying::{Rest, put_back, tell_stuck};
 use crate::running::RunFault;
 use crate::signals::Signals;
 use crate::stopping::Stuck;
 use lease_server::Watched;
 use std::alloc::{AllocGlobal, Global};
-use std::cell::RefCell;
+use std::cell::{Cell, RefCell};
 use std::fmt::Display;
 use std::io;
 use std::io::ErrorKind;
@@ -93,6 +93,52 @@ fn stuck_is_told_once(rt: HostRuntime) {
         });
         assert!(rt; signals.is_stuck());
     }
+    assert_eq!(rt; told.into_text().as_slice(), b"vmemd: shut\n".as_slice());
+}
+
+/// What is left for so many tries more, and how often it was waited.
+struct Left<'a> {
+    tries: u32,
+    pauses: &'a Cell<u32>,
+}
+
+impl Rest for Left<'_> {
+    ghost use Rattle.std.specs.Prelude.{⊤};
+
+    type Done = ();
+
+    ghost may_end = { λ _ _. ⊤ };
+
+    fn pause(&self) {
+        self.pauses.set(self.pauses.get().saturating_add(1));
+    }
+
+    fn again(self) -> Result<(), Self> {
+        let Left { tries, pauses } = self;
+        match tries.checked_sub(1) {
+            Some(tries) => Err(Left { tries, pauses }),
+            None => Ok(()),
+        }
+    }
+}
+
+/// A server that is stuck at its end tells it once, and goes on until nothing is left.
+#[test]
+fn stuck_until_nothing_is_left(rt: HostRuntime) {
+    let told = Told::new(rt.alloc());
+    let signals = Signals::new();
+    let pauses = Cell::new(0);
+    let left = Left {
+        tries: 2,
+        pauses: &pauses,
+    };
+    let mut stuck = Stuck {
+        rt: &told,
+        signals: &signals,
+    };
+    put_back(&rt, Err(left), &mut stuck);
+    assert_eq!(rt; pauses.get(), 3);
+    assert!(rt; signals.is_stuck());
     assert_eq!(rt; told.into_text().as_slice(), b"vmemd: shut\n".as_slice());
 }
 

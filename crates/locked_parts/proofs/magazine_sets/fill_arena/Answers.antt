@@ -5,7 +5,7 @@ use Rattle.magazine_layer.specs.Magazines.{BothEmpty}
 use Rattle.locked_parts.specs.Kinds.{OwnCacheState, kinds_up_to, new_own}
 use Rattle.locked_parts.specs.declared.kinds.CacheKind.{CacheKind}
 use Rattle.locked_parts.proofs.RoundLaws.{all_pushed, made_pushed}
-use Rattle.locked_parts.proofs.own_rounds.fill_arena.Goals as goal
+use Rattle.locked_parts.proofs.magazine_sets.fill_arena.Goals as goal
 
 pub loop-before-preserved : goal.loop-before-preserved
 loop-before-preserved g c =
