@@ -163,7 +163,9 @@ fn through_slabs<N: Name, R: Abort + Wait>(
     let (Some(arena), Some((_, locked))) = (parts.arenas.first(), parts.standing_cache(0, 1)) else {
         stuck(rt, span)
     };
-    let _arena = arena.part.lock(rt);
+    let Some(_arena) = arena.reach(rt, &mut Said::Nothing, FIRST) else {
+        stuck(rt, span)
+    };
     let _depot = locked.depot.lock(rt);
     match slab_add_in(parts, rt, &mut Said::Nothing, FIRST, 0, 1, span) {
         Ok(chunk) => put(rt, parts, chunk),
@@ -194,7 +196,9 @@ fn of_depot<N: Name, R: Abort + Wait + AllocGlobal>(rt: &R, parts: &LockedParts<
     let (Some(arena), Some((_, locked))) = (parts.arenas.first(), parts.standing_cache(0, 1)) else {
         panic!(rt; "no cache")
     };
-    let _arena = arena.part.lock(rt);
+    let Some(_arena) = arena.reach(rt, &mut Said::Nothing, FIRST) else {
+        panic!(rt; "another arena")
+    };
     let _slabs = locked.slab.lock(rt);
     let Ok(mut caches) = new_rounds::<N>(rt.alloc(), parts.tree()) else {
         panic!(rt; "memory")
