@@ -91,6 +91,7 @@ module _ (m : ℕ) (taken : IsSize m) where
 
   space_stays : (quanta : List ℕ) (k : ℕ) (s : SpaceState) → IsSpaceAt quanta k s → IsSpaceAt quanta k (risen s)
   space_stays quanta k s is = record {
+    few = is.few;
     id = is.id;
     sound = is.sound;
     imported = is.imported;

@@ -55,6 +55,7 @@ cache_stays index number quantum c is = record {
 
 space_stays : (quanta : List ℕ) (k : ℕ) (s : SpaceState) → IsSpaceAt quanta k s → IsSpaceAt quanta k (ticked s)
 space_stays quanta k s is = record {
+  few = is.few;
   id = is.id;
   sound = is.sound;
   imported = is.imported;

@@ -42,6 +42,7 @@ module _ (spaces : List SpaceState) (k : ℕ) (s : SpaceState) (at : slice_get s
 
       is : IsSpaceAt (quanta_of spaces) k (with_arena new s)
       is = record {
+        few = old.few;
         id = keeps.setup.id ∙ old.id;
         sound = keeps.sound;
         imported = keeps.imported;

@@ -66,7 +66,7 @@ module _ (spaces : List SpaceState) (k : ℕ) (s : SpaceState) (at : slice_get s
       ]
 
       is : IsSpaceAt (quanta_of spaces) k (with_cache j new s)
-      is = record { id = old.id; sound = old.sound; imported = old.imported; owned = old.owned; before = old.before; nests = old.nests; caches = each }
+      is = record { few = old.few; id = old.id; sound = old.sound; imported = old.imported; owned = old.owned; before = old.before; nests = old.nests; caches = each }
 
   cache_frame : (given answered : List Tag)
       → ((f : Tag → ℕ) → sum_by (of_direct f) answered + slabs_in f new ≡ sum_by (of_direct f) given + slabs_in f c)

@@ -11,6 +11,7 @@ mod Lengths
 mod OneHomes
 mod Counting
 mod Summing
+mod Telling
 mod Apart
 mod FrameLaws
 mod OwnRounds

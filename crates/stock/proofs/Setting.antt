@@ -14,6 +14,7 @@ use Rattle.std.specs.Ordering.{nat_cmp}
 use Rattle.std.specs.FinMap as finmap
 use Rattle.std.specs.FinMap.{entries, len-empty, len-entries}
 use Rattle.deed_core.specs.Holding.{Holding}
+use Rattle.arena_tree.specs.declared.limits.TheConstants.{MOST_ARENAS}
 use Rattle.slab_layer.specs.Cache as slabs
 use Rattle.magazine_layer.specs.Magazines.{IsSize}
 use Rattle.magazine_layer.specs.Depots.{IsDepot, new_depot}
@@ -29,7 +30,7 @@ no_ranges : ranges_of finmap.empty ≡ []
 no_ranges = ap (map (λ (e : ℕ × Holding). e.1)) (nil_from_length (entries {R = nat_cmp} finmap.empty) (sym (len-entries {R = nat_cmp} finmap.empty) ∙ len-empty nat_cmp Holding))
 
 -- an arena more
-module _ (spaces : List SpaceState) (source : Option ℕ) (quantum : ℕ) (policy : Policy) (sound : IsSoundArena (empty_arena (length spaces) quantum policy)) (can : CanImportFrom spaces source quantum) where
+module _ (spaces : List SpaceState) (source : Option ℕ) (quantum : ℕ) (policy : Policy) (sound : IsSoundArena (empty_arena (length spaces) quantum policy)) (can : CanImportFrom spaces source quantum) (few : length spaces < MOST_ARENAS) where
   abbrev s : SpaceState
   s = new_space (length spaces) source quantum policy
 
@@ -48,6 +49,7 @@ module _ (spaces : List SpaceState) (source : Option ℕ) (quantum : ℕ) (polic
 
   is_new : IsSpaceAt (quanta_of (spaces ++ s ∷ [])) (length spaces) s
   is_new = record {
+    few = few;
     id = refl;
     sound = sound;
     imported = All-nil (IsFrom source);
@@ -63,6 +65,7 @@ module _ (spaces : List SpaceState) (source : Option ℕ) (quantum : ℕ) (polic
     | inr old ↦
         let is = stock k x old in
         record {
+          few = is.few;
           id = is.id;
           sound = is.sound;
           imported = is.imported;
@@ -118,7 +121,7 @@ module _ (spaces after : List SpaceState) (index slab_size size : ℕ) (on : Gai
       ]
 
       is : IsSpaceAt (quanta_of spaces) index now
-      is = record { id = old.id; sound = old.sound; imported = old.imported; owned = old.owned; before = old.before; nests = old.nests; caches = each }
+      is = record { few = old.few; id = old.id; sound = old.sound; imported = old.imported; owned = old.owned; before = old.before; nests = old.nests; caches = each }
 
       quanta : quanta_of (set spaces index now) ≡ quanta_of spaces
       quanta = map_set_same quantum_of spaces index on.space now on.at refl

@@ -4,6 +4,7 @@ use Rattle.std.specs.Prelude.{None}
 use Rattle.deed_core.specs.Tag.{Tag}
 use Rattle.deed_core.specs.Covering.{covering_held, covering_tags}
 use Rattle.deed_core.specs.declared.segments.Route.TheVariants.{Cached}
+use Rattle.arena_tree.specs.declared.limits.TheConstants.{MOST_ARENAS}
 use Rattle.tag_arena.specs.ArenaState as arenas
 use Rattle.slab_layer.specs.Cache as slabs
 use Rattle.slab_layer.specs.Cache.{deeds_of, chunks_out, span_tags}
@@ -32,9 +33,11 @@ abbrev pub IsFrom : Option ℕ → Tag → Type 0
 IsFrom None t = ⊥
 IsFrom (Some p) t = t.arena ≡ p
 
--- the space at the index k, the arenas having these quanta: it imports from an arena that was set
--- up before, whose segments are in whole quanta of its own, and then it owns no span
+-- the space at the index k, one of at most MOST_ARENAS, the arenas having these quanta: it imports
+-- from an arena that was set up before, whose segments are in whole quanta of its own, and then it
+-- owns no span
 pub record IsSpaceAt (quanta : List ℕ) (k : ℕ) (s : SpaceState) : Type 0 where
+  pub few : k < MOST_ARENAS
   pub id : s.arena.id ≡ k
   pub sound : arenas.IsSoundArena s.arena
   pub imported : All (IsFrom s.source) s.arena.imported

@@ -1,5 +1,5 @@
 //! Further spans of arenas that don't import.
-ghost use Rattle.std.specs.Prelude.{◌≡◌, ◌<◌, ◌≤◌, [], None, IfOk, IfErr, length};
+ghost use Rattle.std.specs.Prelude.{◌≡◌, ◌<◌, [], None, IfOk, IfErr, length};
 ghost use Rattle.arena_tree.specs.declared.limits.TheConstants.{MOST_ARENAS, MOST_SPANS};
 ghost use Rattle.stock.specs.Accounts.{Frames};
 ghost use Rattle.stock.specs.Growing.{CanGrow, GrowsBy, RefusesHere};
@@ -18,9 +18,7 @@ impl<D: Numbered> Stock<D> {
     /// Gives the arena at the index a further span, if it has no source: the range, all of it free,
     /// as a root of its own, numbered by its place among the arena's. Of the faults the first that
     /// stands is told, in the order in which `GrowFault` has them, and then all is as it was.
-    /// `plain_stock` makes a stock of few enough arenas.
     pub fn grow_by(&mut self, arena: usize, range: Range) -> Result<(), GrowFault>
-        requires few { length self.old ≤ MOST_ARENAS }
         ensures grown { GrowsBy arena range result self.old self.new }
         ensures stock { IsStock self.new }
         ensures frame { Frames self.old [] self.new [] }

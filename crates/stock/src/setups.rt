@@ -1,6 +1,6 @@
 //! How arenas, their caches and the spans of a setup come into a stock: here and nowhere else, and
 //! nothing is out of it at the end. Of a setup it is made by `Stock::of`.
-ghost use Rattle.std.specs.Prelude.{◌≡◌, ◌+◌, ◌^◌, ◌<◌, [], ◌∷◌, ◌++◌, length, slice_get};
+ghost use Rattle.std.specs.Prelude.{◌≡◌, ◌+◌, ◌<◌, [], ◌∷◌, ◌++◌, length, slice_get};
 ghost use Rattle.std.specs.Prelude.{Some, None, All, IfOk, OnOk, OnErr};
 ghost use Rattle.std.specs.Int.{IsPowerOfTwo};
 ghost use Rattle.magazine_layer.specs.Magazines.{IsSize};
@@ -9,6 +9,7 @@ ghost use Rattle.stock.specs.Spaces.{SpaceState, plans_of};
 ghost use Rattle.stock.specs.Accounts.{Accounts};
 ghost use Rattle.stock.specs.Stocks.{IsStock};
 ghost use Rattle.arena_tree.specs.Trees.{HasCaches};
+ghost use Rattle.arena_tree.specs.declared.limits.TheConstants.{MOST_ARENAS};
 ghost use Rattle.stock.specs.Setups.{plan_for, plans_for, IsNewSpace};
 ghost use Rattle.stock.specs.Endings.{IsBare};
 ghost use Rattle.stock.specs.Steps.{OnArena, CanImportFrom, HasRoomForCache, GainsCache, new_space};
@@ -81,7 +82,7 @@ impl<D: Deed> StockSetup<D> {
 
     /// Adds an arena of a tree, with its caches.
     fn add_planned(&mut self, arena: &TreeArena, rounds: usize) -> Result<(), AllocError>
-        requires few { length self.old < 2 ^ 32 }
+        requires few { length self.old < MOST_ARENAS }
         requires power { IsPowerOfTwo arena.now.quantum }
         requires source { CanImportFrom self.old arena.now.source arena.now.quantum }
         requires caches { HasCaches arena.now.quantum arena.now.qcache_max arena.now.slab_size }
@@ -125,7 +126,7 @@ impl<D: Deed> StockSetup<D> {
         quantum: u64,
         policy: Policy,
     ) -> Result<(), AllocError>
-        requires few { length self.old < 2 ^ 32 }
+        requires few { length self.old < MOST_ARENAS }
         requires power { IsPowerOfTwo quantum }
         requires source { CanImportFrom self.old source quantum }
         ensures added { OnOk result

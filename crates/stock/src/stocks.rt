@@ -1,9 +1,10 @@
 //! The stock. What makes one is called by `setups` alone; `grow` gives one a further span.
-ghost use Rattle.std.specs.Prelude.{◌≡◌, ◌+◌, ◌^◌, ◌<◌, [], ◌∷◌, ◌++◌, length, slice_get, Some};
+ghost use Rattle.std.specs.Prelude.{◌≡◌, ◌+◌, ◌<◌, ◌≤◌, [], ◌∷◌, ◌++◌, length, slice_get, Some};
 ghost use Rattle.std.specs.Prelude.{None};
 ghost use Rattle.std.specs.Prelude.{OnOk, OnErr, IfSome};
 ghost use Rattle.deed_core.specs.Weights.{Loses};
 ghost use Rattle.std.specs.Int.{IsPowerOfTwo};
+ghost use Rattle.arena_tree.specs.declared.limits.TheConstants.{MOST_ARENAS};
 ghost use Rattle.magazine_layer.specs.Magazines.{IsSize};
 ghost use Rattle.std.specs.Option.{option_map};
 ghost use Rattle.tag_arena.specs.Calls.{AdmitsRange};
@@ -62,6 +63,7 @@ impl<D: Deed> Stock<D> {
     /// stock what is always so.
     pub fn count(&self) -> usize
         ensures value { result ≡ length self.now }
+        ensures few { length self.now ≤ MOST_ARENAS }
         ensures stock { IsStock self.now }
     {
         self.spaces.len()
@@ -75,7 +77,7 @@ impl<D: Deed> Stock<D> {
         quantum: u64,
         policy: Policy,
     ) -> Result<(), AllocError>
-        requires few { length self.old < 2 ^ 32 }
+        requires few { length self.old < MOST_ARENAS }
         requires power { IsPowerOfTwo quantum }
         requires source { CanImportFrom self.old source quantum }
         ensures added { OnOk result

@@ -163,6 +163,7 @@ module _ (setup : SetupState) (tree : IsTree setup.arenas) (owned : All (IsOwned
 
     space_at : IsSpaceAt (quanta_of spaces) k s
     space_at = record {
+      few = omega (arith, slice_get_within setup.arenas k x here, tree.few);
       id = ap (λ (a : ArenaState). a.id) arena_of;
       sound = sound;
       imported = subst (λ (ts : List Tag). All (IsFrom s.source) ts) (sym imported_none) (All-nil (IsFrom s.source));

@@ -2,7 +2,7 @@
 //! spans an arena owns at most; and growths of memory that are refused, by `tools/starve` one in
 //! each run.
 use crate::stocks::name;
-use arena_tree::{GrowFault, MOST_ARENAS, MOST_SPANS, NewChild, NewRoot, Setting, Setup};
+use arena_tree::{GrowFault, MOST_SPANS, NewChild, NewRoot, Setting, Setup};
 use deed_core::{PlainDeed, Range};
 use std::alloc::Global;
 use std::process::Abort;
@@ -46,7 +46,6 @@ fn grow(
     base: u64,
     len: u64,
 ) -> Result<(), GrowFault> {
-    assert!(rt; stock.count() <= MOST_ARENAS);
     let range = Range::new(base, len).expect(rt, "a range");
     stock.grow_by(arena, range)
 }

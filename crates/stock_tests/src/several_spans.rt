@@ -4,7 +4,7 @@ ghost use Rattle.std.specs.Prelude.{[]};
 ghost use Rattle.stock.specs.Accounts.{Frames};
 
 use crate::stocks::name;
-use arena_tree::{MOST_ARENAS, NewRoot, NewSpan, Setting, Setup};
+use arena_tree::{NewRoot, NewSpan, Setting, Setup};
 use deed_core::{Deed, PlainDeed, Range};
 use std::alloc::Global;
 use std::process::Abort;
@@ -48,7 +48,6 @@ fn two_roots(rt: &impl Abort, alloc: Global) -> Setup {
 fn grow(rt: &impl Abort, stock: &mut Stock<PlainDeed>, arena: usize)
     ensures frame { Frames stock.old [] stock.new [] }
 {
-    assert!(rt; stock.count() <= MOST_ARENAS);
     let range = Range::new(96, 8).expect(rt, "a range");
     assert_eq!(rt; stock.grow_by(arena, range), Ok(()));
 }

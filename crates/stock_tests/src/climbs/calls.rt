@@ -1,7 +1,7 @@
 //! One function for each call. Each makes sure that the stock has the tree's arenas, and keeps how
 //! many locked steps it took.
 use super::arrangements::{Walk, is_set_up_as};
-use arena_tree::{ClimbFault, GrowFault, MOST_ARENAS, PartFault, climb_alloc, climb_free};
+use arena_tree::{ClimbFault, GrowFault, PartFault, climb_alloc, climb_free};
 use deed_core::{Deed, PlainDeed, Range, Request, Segment};
 use local_parts::Local;
 use magazine_layer::is_magazine_size;
@@ -230,7 +230,6 @@ pub(super) fn grow(
     base: u64,
     len: u64,
 ) -> Result<(), GrowFault> {
-    assert!(rt; walk.stock.count() <= MOST_ARENAS);
     let range = Range::new(base, len).expect(rt, "a range");
     walk.stock.grow_by(arena, range)
 }

@@ -17,7 +17,7 @@ invariant_of-self-2 g c =
     let arena : c.new-arena.result ≡ empty_arena (length c.args.self.now) c.args.quantum c.args.policy = c.new-arena.ensures ∙ ap (λ n. empty_arena n c.args.quantum c.args.policy) length_is in
     let sound : IsSoundArena (empty_arena (length c.args.self.now) c.args.quantum c.args.policy) = subst IsSoundArena arena c.id.ensures.sound in
     let is : c.push_reserved.new.self.items ≡ c.args.self.now ++ new_space (length c.args.self.now) c.args.source c.args.quantum c.args.policy ∷ [] = search rules in
-    subst IsStock (sym is) (arena_added c.args.self.now c.args.source c.args.quantum c.args.policy sound c.requires.source (subst IsStock c.self.view_is c.self.invariant))
+    subst IsStock (sym is) (arena_added c.args.self.now c.args.source c.args.quantum c.args.policy sound c.requires.source c.requires.few (subst IsStock c.self.view_is c.self.invariant))
 
 pub returns-clause-frame : goal.returns-clause-frame
 returns-clause-frame g c rest a =
@@ -25,4 +25,4 @@ returns-clause-frame g c rest a =
     let arena : c.new-arena.result ≡ empty_arena (length c.args.self.now) c.args.quantum c.args.policy = c.new-arena.ensures ∙ ap (λ n. empty_arena n c.args.quantum c.args.policy) length_is in
     let sound : IsSoundArena (empty_arena (length c.args.self.now) c.args.quantum c.args.policy) = subst IsSoundArena arena c.id.ensures.sound in
     let is : c.push_reserved.new.self.items ≡ c.args.self.now ++ new_space (length c.args.self.now) c.args.source c.args.quantum c.args.policy ∷ [] = grind (arith, common_steps) in
-    subst (λ xs. Accounts xs rest) (sym is) (arena_balances c.args.self.now c.args.source c.args.quantum c.args.policy sound c.requires.source rest a)
+    subst (λ xs. Accounts xs rest) (sym is) (arena_balances c.args.self.now c.args.source c.args.quantum c.args.policy sound c.requires.source c.requires.few rest a)
