@@ -1,27 +1,27 @@
-//! The sums of an arena, as one thread's parts tell them.
+//! The sums of arenas, as one thread's parts tell them.
 ghost use Rattle.std.specs.Prelude.{◌<◌, List, length};
 ghost use Rattle.deed_core.specs.Tag.{Tag};
 ghost use Rattle.stock.specs.Accounts.{Accounts};
-ghost use Rattle.stock.specs.Sums.{TellsSums, as_leased};
+ghost use Rattle.stock.specs.Sums.{TellEach, TellsSums, as_leased};
 
 use crate::locals::Local;
 use deed_core::Deed;
-use stock::ArenaSums;
+use stock::{ArenaSums, SumsRoom};
 
 impl<D: Deed> Local<'_, D> {
-    /// The sums of the arena at the index. All that is out of the stock counts as leased, and so do
-    /// the rounds of this CPU: others may have some too, and the stock knows of none. So none is in
-    /// a hand. It goes once over the arena's caches and over the arenas, in constant time each.
-    pub fn sums(&self, arena: usize) -> ArenaSums
-        requires within { arena < length self.now.stock.now }
+    /// The sums of each arena, in order of setup, lent in the caller's room. All that is out of the
+    /// stock counts as leased, and so do the rounds of this CPU: others may have some too, and the
+    /// stock knows of none. So none is in a hand. It takes no memory, and goes once over all caches
+    /// and, for each arena, over the arenas, in constant time each.
+    pub fn sums<'a>(&self, room: &'a mut SumsRoom) -> &'a [ArenaSums]
         requires balanced { (out : List Tag) × Accounts self.now.stock.now out }
         ensures { (out : List Tag) → Accounts self.now.stock.now out
-            → TellsSums self.now.stock.now arena (as_leased out) result }
+            → TellEach self.now.stock.now (as_leased out) result.now }
     {
-        self.stock.sums(arena)
+        self.stock.sums(room)
     }
 
-    /// The same, counted by parts: one round of the depots after another.
+    /// The sums of the arena at the index, counted by parts: one round of the depots after another.
     pub fn audit_by_parts(&self, arena: usize) -> ArenaSums
         requires within { arena < length self.now.stock.now }
         requires balanced { (out : List Tag) × Accounts self.now.stock.now out }

@@ -8,6 +8,7 @@ pub use Rattle.stock.proofs.Apart.{out_is_apart}
 pub use Rattle.stock.proofs.Chains.{source_stands_before, plans_stay, caches_stay}
 pub use Rattle.stock.proofs.Ending.{ends_once_reaped, ends_with_nothing_out}
 pub use Rattle.stock.proofs.Numbered.{plain_setup_numbers, grown_numbers}
+pub use Rattle.stock.proofs.Telling.{ToldFirst, told_more, tell_each}
 pub use Rattle.stock.proofs.FrameLaws.{out_weighs, frames_then, pops, pushes, changes}
 
 pub always_tagged : AlwaysTagged

@@ -1,6 +1,6 @@
 -- Where the units of an arena are.
 use Rattle.std.specs.Prelude.{◌≡◌, ℕ, ◌+◌, List, [], ◌++◌, filter, flat_map, sum_by}
-use Rattle.std.specs.Prelude.{slice_get, Some}
+use Rattle.std.specs.Prelude.{length, slice_get, Some}
 use Rattle.deed_core.specs.Holding.{Holding}
 use Rattle.deed_core.specs.Tag.{Tag}
 use Rattle.deed_core.specs.Covering.{units_in}
@@ -86,10 +86,19 @@ told_sums r = record {
   hand = r.hand;
 }
 
+-- an arena with no unit
+abbrev pub no_sums : ArenaSums
+no_sums = record { free = 0; slab = 0; magazine = 0; exported = 0; leased = 0; hand = 0 }
+
 -- they tell of the arena at the index, with these segments out
 abbrev pub TellsSums : List SpaceState → ℕ → Out → ArenaSums → Type 0
 TellsSums spaces arena out r = (s : SpaceState) → slice_get spaces arena ≡ Some s
     → told_sums r ≡ lengths_of (homes_of spaces out s)
+
+-- there are as many as arenas, and each tells of the arena at its index
+pub record TellEach (spaces : List SpaceState) (out : Out) (told : List ArenaSums) : Type 0 where
+  pub as_many : length told ≡ length spaces
+  pub each : (k : ℕ) (r : ArenaSums) → slice_get told k ≡ Some r → TellsSums spaces k out r
 
 -- all that is out counts as leased
 abbrev pub as_leased : List Tag → Out

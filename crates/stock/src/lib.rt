@@ -43,4 +43,4 @@ pub use own_caches::OwnCache;
 pub use plain_stocks::{close_plain_stock, plain_stock};
 pub use spaces::{QuantumCache, Space};
 pub use stocks::Stock;
-pub use sums::ArenaSums;
+pub use sums::{ArenaSums, SumsRoom};

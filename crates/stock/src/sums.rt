@@ -1,5 +1,7 @@
 //! The sums of an arena, as its stock knows them.
-ghost use Rattle.std.specs.Prelude.{◌≡◌, ◌+◌, ◌^◌, ◌<◌, List, length, slice_get, Some, flat_map};
+ghost use Rattle.std.specs.Prelude.{◌≡◌, ◌+◌, ◌^◌, ◌<◌, ◌≤◌, List, length, slice_get, Some};
+ghost use Rattle.std.specs.Prelude.{flat_map, replicate, set, take};
+ghost use Rattle.arena_tree.specs.declared.limits.TheConstants.{MOST_ARENAS};
 ghost use Rattle.deed_core.specs.Tag.{Tag};
 ghost use Rattle.deed_core.specs.Covering.{units_held};
 ghost use Rattle.slab_layer.specs.Cache.{deeds_of};
@@ -7,10 +9,12 @@ ghost use Rattle.magazine_layer.specs.Depots.{depot_rounds};
 ghost use Rattle.tag_arena.specs.Spanned.{holdings_of};
 ghost use Rattle.stock.specs.Spaces.{SpaceState};
 ghost use Rattle.stock.specs.Accounts.{Accounts};
-ghost use Rattle.stock.specs.Sums.{TellsSums, as_leased, held_of};
+ghost use Rattle.stock.specs.Sums.{TellEach, TellsSums, as_leased, held_of, no_sums};
 
 use crate::stocks::Stock;
+use arena_tree::MOST_ARENAS;
 use deed_core::Deed;
+use std::marker::Model;
 
 /// The units of one arena, by where they are.
 #[derive(Clone, Copy, PartialEq, Eq, Debug)]
@@ -29,11 +33,76 @@ pub struct ArenaSums {
     pub hand: u128,
 }
 
+/// Room for the sums of as many arenas as a setup may have.
+#[derive(Drop)]
+pub struct SumsRoom {
+    told: [ArenaSums; MOST_ARENAS],
+}
+
+impl Model for SumsRoom {
+    ghost use Rattle.std.specs.Prelude.{List};
+    ghost use Rattle.stock.specs.declared.sums.ArenaSums.{ArenaSums};
+
+    ghost Value = { List ArenaSums };
+
+    ghost view = { λ r. r.told };
+}
+
+impl SumsRoom {
+    /// No arena has a unit in it yet.
+    pub fn new() -> SumsRoom
+        ensures { result ≡ replicate MOST_ARENAS no_sums }
+    {
+        let none = ArenaSums {
+            free: 0,
+            slab: 0,
+            magazine: 0,
+            exported: 0,
+            leased: 0,
+            hand: 0,
+        };
+        SumsRoom {
+            told: [none; MOST_ARENAS],
+        }
+    }
+
+    /// These are the sums of the arena at the index from here on.
+    pub fn tell(&mut self, arena: usize, sums: ArenaSums)
+        requires { arena < MOST_ARENAS }
+        ensures { self.new ≡ set self.old arena sums }
+    {
+        self.told[arena] = sums;
+    }
+
+    /// The sums of so many arenas, the first ones.
+    pub fn first(&self, count: usize) -> &[ArenaSums]
+        requires { count ≤ MOST_ARENAS }
+        ensures value { result.now ≡ take count self.now }
+        ensures all { length result.now ≡ count }
+    {
+        &self.told[..count]
+    }
+}
+
 impl<D: Deed> Stock<D> {
-    /// The sums of the arena at the index. A stock doesn't know who has what is out of it, so all
-    /// of that counts as leased, the rounds of CPUs too. It goes once over the arena's caches and
-    /// over the arenas, in constant time each.
-    pub fn sums(&self, arena: usize) -> ArenaSums
+    /// The sums of each arena, in order of setup, lent in the caller's room. A stock doesn't know
+    /// who has what is out of it, so all of that counts as leased, the rounds of CPUs too. It takes
+    /// no memory, and goes once over all caches and, for each arena, over the arenas, in constant
+    /// time each.
+    pub fn sums<'a>(&self, room: &'a mut SumsRoom) -> &'a [ArenaSums]
+        requires balanced { (out : List Tag) × Accounts self.now out }
+        ensures { (out : List Tag) → Accounts self.now out
+            → TellEach self.now (as_leased out) result.now }
+    {
+        let count = self.count();
+        for arena in 0..count {
+            room.tell(arena, self.arena_sums(arena));
+        }
+        room.first(count)
+    }
+
+    /// The sums of the arena at the index: those that `sums` tells of it.
+    pub fn arena_sums(&self, arena: usize) -> ArenaSums
         requires within { arena < length self.now }
         requires balanced { (out : List Tag) × Accounts self.now out }
         ensures { (out : List Tag) → Accounts self.now out

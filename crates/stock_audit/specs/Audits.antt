@@ -7,7 +7,7 @@ use Rattle.tag_arena.specs.declared.arenas.ArenaReport.{ArenaReport}
 use Rattle.stock.specs.Spaces.{SpaceState}
 use Rattle.stock.specs.Accounts.{Accounts}
 use Rattle.stock.specs.Sums.{Out, all_out, held_of, Sums, homes_of, lengths_of}
-pub use Rattle.stock.specs.Sums.{told_sums, TellsSums}
+pub use Rattle.stock.specs.Sums.{told_sums, TellsSums, TellEach}
 use Rattle.stock_audit.specs.Outside.{Outside, out_of}
 use Rattle.stock_audit.specs.declared.audits.UnitsOut.{UnitsOut}
 

@@ -24,4 +24,4 @@ pub use laws::{
     sum_laws,
 };
 pub use lists::{rounds_units, units_of};
-pub use stock::ArenaSums;
+pub use stock::{ArenaSums, SumsRoom};

@@ -6,7 +6,7 @@ ghost use Rattle.stock.specs.Accounts.{Accounts};
 
 use deed_core::PlainDeed;
 use std::process::Abort;
-use stock::{OwnCache, Stock};
+use stock::{OwnCache, Stock, SumsRoom};
 use stock_audit::ArenaSums;
 
 /// The stock's sums of the arena are those that an audit told, where all that is out counts as
@@ -26,7 +26,10 @@ pub(crate) fn same_sums(
     } else {
         0
     };
-    let sums = stock.sums(arena);
+    let mut room = SumsRoom::new();
+    let told_of_each = stock.sums(&mut room);
+    assert_eq!(rt; told_of_each.len(), stock.count());
+    let sums = told_of_each[arena];
     assert_eq!(rt; sums, stock.sums_by_parts(arena));
     assert_eq!(rt; sums.free, told.free);
     assert_eq!(rt; sums.slab, told.slab);

@@ -14,7 +14,7 @@ use local_parts::{CpuCaches, Local};
 use std::alloc::Global;
 use std::process::Abort;
 use std::slice::from_ref;
-use stock::{OwnCache, Stock, plain_stock};
+use stock::{OwnCache, Stock, SumsRoom, plain_stock};
 use stock_audit::{ArenaSums, audit};
 use tag_arena::Policy;
 
@@ -304,8 +304,8 @@ fn sums_with_caches(rt: HostRuntime) {
     end_reaped(&rt, stock);
 }
 
-/// One thread's parts tell these sums of the first arena, by counts and by parts. What is out
-/// counts as leased.
+/// One thread's parts tell these sums of the first arena, by counts and by parts, and of the second
+/// that it has nothing. What is out counts as leased.
 fn parts_tell(
     rt: &impl Abort,
     stock: &mut Stock<PlainDeed>,
@@ -328,7 +328,11 @@ fn parts_tell(
         alloc,
         steps: 0,
     };
-    assert_eq!(rt; parts.sums(0), sums(free, 0, leased, 0));
+    let mut room = SumsRoom::new();
+    let told = parts.sums(&mut room);
+    assert_eq!(rt; told.len(), 2);
+    assert_eq!(rt; told[0], sums(free, 0, leased, 0));
+    assert_eq!(rt; told[1], sums(0, 0, 0, 0));
     assert_eq!(rt; parts.audit_by_parts(0), sums(free, 0, leased, 0));
     match cpu.close() {
         Ok(()) => {}

@@ -5,14 +5,14 @@ ghost use Rattle.deed_core.specs.Covering.{units_in};
 ghost use Rattle.deed_core.specs.Weights.{of_arena};
 ghost use Rattle.stock.specs.Sums.{as_leased};
 ghost use Rattle.stock_audit.specs.Outside.{out_of, segments_out};
-ghost use Rattle.stock_audit.specs.Audits.{IsTally, TellsSums, units_of_arena_in};
+ghost use Rattle.stock_audit.specs.Audits.{IsTally, TellEach, TellsSums, units_of_arena_in};
 ghost use Rattle.world_core.specs.WorldState.{in_hands, outside_of};
 ghost use Rattle.world_core.specs.IsWorld.{IsWorld};
 
 use crate::parts::WorldParts;
 use crate::worlds::World;
 use deed_core::{Deed, Segment};
-use stock_audit::{ArenaSums, UnitsOut, audit_units, rounds_units};
+use stock_audit::{ArenaSums, SumsRoom, UnitsOut, audit_units, rounds_units};
 
 /// The units of the arena's segment in a hand, or 0.
 fn units_in_hand<D: Deed>(hand: &Option<Segment<D>>, arena: usize) -> u64
@@ -92,16 +92,29 @@ impl<D: Deed> WorldParts<D> {
     }
 
     /// The sums of the arena at the index, by the counts that its parts keep.
-    pub(crate) fn sums(&self, arena: usize) -> ArenaSums
+    fn arena_sums(&self, arena: usize) -> ArenaSums
         requires world { IsWorld self.now }
         requires within { arena < length self.now.names }
         ensures { TellsSums self.now.stock arena (out_of (outside_of self.now)) result }
     {
-        let sums = self.stock.sums(arena);
+        let sums = self.stock.arena_sums(arena);
         self.with_out(arena, sums)
     }
 
-    /// The same, by the depots' rounds, one after another.
+    /// Those of each arena, in order of setup.
+    pub(crate) fn sums<'a>(&self, room: &'a mut SumsRoom) -> &'a [ArenaSums]
+        requires world { IsWorld self.now }
+        ensures told { TellEach self.now.stock (out_of (outside_of self.now)) result.now }
+        ensures named { length result.now ≡ length self.now.names }
+    {
+        let count = self.names.len();
+        for arena in 0..count {
+            room.tell(arena, self.arena_sums(arena));
+        }
+        room.first(count)
+    }
+
+    /// The sums of the arena at the index, by the depots' rounds, one after another.
     pub(crate) fn audit_by_parts(&self, arena: usize) -> ArenaSums
         requires world { IsWorld self.now }
         requires within { arena < length self.now.names }
@@ -121,16 +134,17 @@ impl<D: Deed> World<D> {
         self.parts.audit(arena)
     }
 
-    /// The same, by the counts that the parts keep. It goes once over the arenas, and over the
-    /// caches and the hands, in constant time each.
-    pub fn sums(&self, arena: usize) -> ArenaSums
-        requires within { arena < length self.now.names }
-        ensures { TellsSums self.now.stock arena (out_of (outside_of self.now)) result }
+    /// The sums of each arena, in order of setup, lent in the caller's room. They are told by the
+    /// counts that the parts keep. It takes no memory. For each arena it goes once over the arenas,
+    /// the caches and the hands, in constant time each.
+    pub fn sums<'a>(&self, room: &'a mut SumsRoom) -> &'a [ArenaSums]
+        ensures told { TellEach self.now.stock (out_of (outside_of self.now)) result.now }
+        ensures named { length result.now ≡ length self.now.names }
     {
-        self.parts.sums(arena)
+        self.parts.sums(room)
     }
 
-    /// The same, counted by parts: one round of the depots after another.
+    /// The sums of the arena at the index, counted by parts: one round of the depots after another.
     pub fn audit_by_parts(&self, arena: usize) -> ArenaSums
         requires within { arena < length self.now.names }
         ensures { TellsSums self.now.stock arena (out_of (outside_of self.now)) result }

@@ -1,13 +1,15 @@
 //! A hundred thousand events at random: five CPUs, two of which fail, four clients that restart by
 //! one protocol or the other, three arenas in a chain, two of them with caches, and an arena apart
-//! from these. Both that have spans of their own get further ones.
+//! from these. Both that have spans of their own get further ones. No event changes the sums of
+//! more than two arenas.
 use crate::kinds::{KINDS, kind_of};
 use crate::picks::{CLIENTS, CPUS, Picks, picked};
-use crate::worlds::{child, name, root, same_sums, sums, world_of};
+use crate::worlds::{changes_two, child, name, root, same_sums, sums, world_of};
 use arena_tree::{NewSpan, Setting, Setup};
 use deed_core::PlainDeed;
 use lease_client::HeldSegment;
 use std::process::Abort;
+use stock_audit::SumsRoom;
 use tag_arena::Policy;
 use world_core::{Outcome, World, WorldEvent};
 
@@ -44,11 +46,14 @@ fn hundred_thousand_events(rt: HostRuntime) {
     let mut owned: [u128; 5] = [256, 0, 0, 96, 0];
     for turn in 0..EVENTS {
         let (cpu, event) = picked(&rt, &mut picks, &world, turn);
+        let mut room = SumsRoom::new();
+        let before = world.sums(&mut room);
         if happens(&rt, &mut world, &event) {
             done[kind_of(&event)] = done[kind_of(&event)].saturating_add(1);
             picks.notes(cpu, &event);
             owns(&mut owned, &event);
         }
+        changes_two(&rt, &world, before);
         if turn % 100 == 99 {
             same_sums(&rt, &world);
         }

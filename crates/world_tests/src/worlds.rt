@@ -8,7 +8,7 @@ use lease_proto::{LeaseLine, LeaseOptions, Op, ReleaseLine, Reply};
 use lease_terms::{ArenaName, ClientId, Protocol, Quantity};
 use std::alloc::{AllocGlobal, Global};
 use std::process::Abort;
-use stock_audit::ArenaSums;
+use stock_audit::{ArenaSums, SumsRoom};
 use tag_arena::Policy;
 use world_core::{EventFault, Outcome, World, WorldEvent};
 
@@ -202,21 +202,41 @@ pub(crate) fn sums(rt: &impl Abort, world: &World<PlainDeed>, arena: usize) -> A
 
 /// An audit, the sums by counts and those by parts tell the same of each arena.
 pub(crate) fn same_sums(rt: &impl Abort, world: &World<PlainDeed>) {
+    let mut room = SumsRoom::new();
+    let sums = world.sums(&mut room);
     for arena in 0..world.arenas() {
         let told = world.audit(arena);
-        assert_eq!(rt; world.sums(arena), told);
+        assert_eq!(rt; sums[arena], told);
         assert_eq!(rt; world.audit_by_parts(arena), told);
     }
 }
 
-/// Each of the events happens, and after each of them all sums agree.
+/// The sums of two arenas at most are others than these, which one event before they were.
+pub(crate) fn changes_two(rt: &impl Abort, world: &World<PlainDeed>, before: &[ArenaSums]) {
+    let mut room = SumsRoom::new();
+    let sums = world.sums(&mut room);
+    assert_eq!(rt; sums.len(), before.len());
+    let mut changed: usize = 0;
+    for (new, old) in sums.iter().zip(before) {
+        if new != old {
+            changed = changed.saturating_add(1);
+        }
+    }
+    assert!(rt; changed <= 2, "{changed} arenas");
+}
+
+/// Each of the events happens; after each of them all sums agree, and those of two arenas at most
+/// have changed.
 pub(crate) fn all_summed<R: Abort + AllocGlobal>(
     rt: &R,
     world: &mut World<PlainDeed>,
     events: &[WorldEvent],
 ) {
     for event in events {
+        let mut room = SumsRoom::new();
+        let before = world.sums(&mut room);
         all_done(rt, world, &[*event]);
+        changes_two(rt, world, before);
         same_sums(rt, world);
     }
 }
