@@ -1,17 +1,16 @@
 //! What keeps a system in shape while it runs: intervals, sizes of magazines, growing, reaping.
-ghost use Rattle.std.specs.Prelude.{◌≡◌, ◌⊎◌, ◌<◌, ◌≤◌, IfOk, None, true, length};
+ghost use Rattle.std.specs.Prelude.{◌≡◌, ◌⊎◌, ◌<◌, ◌≤◌, None, true, length};
 ghost use Rattle.magazine_layer.specs.Magazines.{IsSize};
-ghost use Rattle.locked_parts.specs.Growing.{AnswersGrow, IsGrowthBy};
+ghost use Rattle.locked_parts.specs.GrowAnswers.{AnswersGrow};
 ghost use Rattle.locked_parts.specs.Kinds.{AreForSame, count_of_caches};
 ghost use Rattle.locked_parts.specs.Walks.{IsResizedFor};
 ghost use Rattle.lease_threads.specs.Reaping.{ReapsSoundly, KeepsHand, unbegun};
 
 use crate::cpus::Cpu;
 use crate::systems::System;
-use arena_tree::GrowFault;
 use deed_core::Range;
 use deed_table::Name;
-use locked_parts::{Grown, Interval, OpenGate, Resized, Running};
+use locked_parts::{Grown, Interval, Misplaced, NotGrown, OpenGate, Resized, Running};
 use quantum_cache::{EmptyingFault, ReapFault, Reaping, reap_arena};
 use std::sync::Wait;
 
@@ -38,11 +37,16 @@ impl<N: Name> System<N> {
     /// Opens a further root of this range for an arena without a source, and adds it as an owned
     /// span, in one event under the arena's lock, which makes room for its end too. The first fault
     /// that stands is told; of those that lie under the lock the part's own call says exactly when.
-    pub fn grow<R: Wait>(&self, rt: &R, arena: u32, range: Range) -> Result<Grown, GrowFault>
-        ensures answers { AnswersGrow self.now.arenas arena result }
-        ensures grown { IfOk result (IsGrowthBy arena range) }
+    pub fn grow<R: Wait>(&self, rt: &R, arena: u32, range: Range) -> Result<Grown, NotGrown>
+        ensures { AnswersGrow self.now.arenas arena range result }
     {
         self.parts.grow(rt, arena, range)
+    }
+
+    /// The first part that wasn't found where it was set up, if there was one. What needs it is
+    /// answered as where there is no memory or nothing.
+    pub fn misplaced<R: Wait>(&self, rt: &R) -> Option<Misplaced> {
+        self.parts.misplaced(rt)
     }
 
     /// Moves rounds that the depots of the arena may let go to their slabs, and slabs of which no

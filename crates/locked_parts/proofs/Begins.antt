@@ -16,7 +16,7 @@ use Rattle.locked_parts.specs.declared.kinds.CacheKind.{CacheKind}
 abbrev cache : (arena number quantum : ℕ) → CacheKind
 cache arena number quantum = record { arena = arena; number = number; quantum = quantum }
 
-up_to_length : (arena quantum n : ℕ) → length (kinds_up_to arena quantum n) ≡ n
+pub up_to_length : (arena quantum n : ℕ) → length (kinds_up_to arena quantum n) ≡ n
 up_to_length arena quantum zero = refl
 up_to_length arena quantum (suc n) =
     omega (arith, length-append (kinds_up_to arena quantum n) (cache arena (suc n) quantum ∷ []), up_to_length arena quantum n)
@@ -48,7 +48,7 @@ module _ {X : Type 0} where
   at_second [] ys n = (let e : length {A = X} [] + n ≡ n = omega arith in ap (slice_get ys) e)
   at_second (z ∷ xs) ys n = (let e : length (z ∷ xs) + n ≡ suc (length xs + n) = omega arith in ap (slice_get (z ∷ (xs ++ ys))) e ∙ at_second xs ys n)
 
-up_to_at : (arena quantum count n : ℕ) → n < count → slice_get (kinds_up_to arena quantum count) n ≡ Some (cache arena (n + 1) quantum)
+pub up_to_at : (arena quantum count n : ℕ) → n < count → slice_get (kinds_up_to arena quantum count) n ≡ Some (cache arena (n + 1) quantum)
 up_to_at arena quantum zero n within = absurd (omega (arith, within))
 up_to_at arena quantum (suc count) n within =
     let lesser = kinds_up_to arena quantum count in

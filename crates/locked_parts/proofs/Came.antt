@@ -1,5 +1,7 @@
 -- By which part an event came, where that part was asked.
-use Rattle.std.proofs.Common.{◌≡◌, ℕ, ◌-◌, ◌<◌, ◌≤◌, List, length, get_or, Option, Some, None, Result, Ok, Err, inl, inr, refl, subst, arith}
+use Rattle.std.proofs.Common.{◌≡◌, ◌∙◌, ℕ, ◌+◌, ◌-◌, ◌<◌, ◌≤◌, List, length, get_or, Option, Some, None, Result, Ok, Err, inl, inr, refl, ap, sym, subst, arith}
+use Rattle.std.specs.Prelude.{slice_get}
+use Rattle.std.proofs.lemmas.Option.{slice_get_within}
 use Rattle.deed_core.proofs.LawProofs.{slice_get_here}
 use Rattle.deed_core.specs.Tag.{Tag}
 use Rattle.deed_core.specs.declared.requests.Request.{Request}
@@ -19,16 +21,37 @@ use Rattle.arena_tree.specs.Events.{AnswerTo, Carve, Free, AddCarve, SlabTake, S
 use Rattle.arena_tree.specs.Tags.{wording_of, tag_ok, tag_all, tag_free, tag_add, tag_put, tag_slab}
 use Rattle.locked_parts.specs.Kinds.{OwnCacheState}
 use Rattle.locked_parts.specs.Owns.{cache_of}
+use Rattle.arena_tree.specs.Chains.{quantum_in}
+use Rattle.arena_tree.specs.Trees.{nodes_of}
+use Rattle.arena_tree.specs.declared.trees.TreeArena.{TreeArena}
 use Rattle.locked_parts.specs.Saying.{CameBy, HasCache, HasCacheAt, IsNoCache, arena_said, slabs_said, depot_said, number_of_cache}
-use Rattle.locked_parts.specs.States.{LockedArenaState, LockedPartsState}
+use Rattle.locked_parts.specs.States.{IsCacheAt, LockedArenaState, LockedPartsState, StandsInPlace}
 use Rattle.locked_parts.specs.Words.{given_word, carve_word, free_word, span_word, put_word, add_word, full_word, empty_word, fresh_word}
 use Rattle.locked_parts.specs.declared.gates.NextStep.{NextStep}
 use Rattle.locked_parts.specs.declared.kinds.CacheKind.{CacheKind}
 use Rattle.locked_parts.specs.declared.said.Said.{Said}
+use Rattle.locked_parts.proofs.Begins.{up_to_at}
 
 -- an arena that stands has no cache of this number
-pub lacks : (p v : LockedPartsState) (arena cache : ℕ) (a : LockedArenaState) → v ≡ p → arena < length v.stand → a ≡ get_or v.stand arena a → ¬ HasCache a cache → IsNoCache p arena cache
-lacks p v arena cache a same within read lacking = subst (λ (q : LockedPartsState). IsNoCache q arena cache) same (inr (inr (a, slice_get_here v.stand arena a within read, lacking)))
+pub lacks : (p : LockedPartsState) (arena cache : ℕ) (a : LockedArenaState) → slice_get p.stand arena ≡ Some a → ¬ HasCache a cache → IsNoCache p arena cache
+lacks p arena cache a at lacking = inr (a, at, lacking)
+
+-- a quantum cache of an arena that stands in its place is the one of its number
+pub is_same : (arenas : List TreeArena) (arena number : ℕ) (a : LockedArenaState) (k : CacheKind) → StandsInPlace arenas arena a → HasCacheAt a number k → k ≡ cache_of arenas arena number
+is_same arenas arena number a k stands has =
+    let within = slice_get_within a.kinds has.0 k has.2 in
+    let there : Some k ≡ Some (cache_of arenas arena (has.0 + 1)) = sym has.2 ∙ ap (λ (l : List CacheKind). slice_get l has.0) stands.kinds ∙ up_to_at arena (quantum_in (nodes_of arenas) arena) (length a.kinds) has.0 within in
+    let same : k ≡ cache_of arenas arena (has.0 + 1) = cc in
+    same ∙ ap (cache_of arenas arena) has.1
+
+pub is_at : (arenas : List TreeArena) (arena number : ℕ) (a : LockedArenaState) (k : CacheKind) → StandsInPlace arenas arena a → HasCacheAt a number k → 0 < quantum_in (nodes_of arenas) arena → IsCacheAt arenas arena number k
+is_at arenas arena number a k stands has some =
+    let same = is_same arenas arena number a k stands has in (
+      ap (λ (c : CacheKind). c.arena) same,
+      ap (λ (c : CacheKind). c.number) same,
+      subst (λ (c : CacheKind). 0 < c.quantum) (sym same) some,
+      sym (ap (λ (c : CacheKind). c.quantum) same),
+    )
 
 -- the quantum cache that was read is the one of its number
 pub stands_there : (a v : LockedArenaState) (number : ℕ) (k : CacheKind) → v ≡ a → 0 < number → number ≤ length v.kinds → k ≡ get_or v.kinds (number - 1) k → HasCacheAt a number k

@@ -1,24 +1,9 @@
--- What a grow is answered, and which roots are handed over.
-use Rattle.std.proofs.Common.{◌≡◌, ℕ, ◌+◌, ◌*◌, ◌/◌, ◌<◌, ◌≤◌, ◌∙◌, List, ◌++◌, length, Result, Ok, Err, arith}
+-- Which roots are handed over.
+use Rattle.std.proofs.Common.{◌≡◌, ℕ, ◌+◌, ◌*◌, ◌/◌, ◌<◌, ◌≤◌, ◌∙◌, List, ◌++◌, length, arith}
 use Rattle.deed_core.specs.Holding.{Holding}
 use Rattle.deed_table.specs.Opened.{OpenedState, RunFrom}
 use Rattle.arena_tree.specs.declared.limits.TheConstants.{MOST_SPANS}
-use Rattle.arena_tree.specs.declared.part_faults.GrowFault.{GrowFault}
-use Rattle.arena_tree.specs.declared.part_faults.GrowFault.TheVariants.{NoArena, NotRoot, Overlaps, NotAligned, TooMany, NoMemory}
-use Rattle.arena_tree.specs.declared.trees.TreeArena.{TreeArena}
-use Rattle.locked_parts.specs.Growing.{IsRootArena, AnswersGrow, MayRefuseGrow, IsOfArena, IsFaultOfArena, HasRootsMore}
-
-pub root_refuses : (arenas : List TreeArena) (id : ℕ) (f : GrowFault) → IsRootArena arenas id → IsFaultOfArena f → MayRefuseGrow arenas id f
-root_refuses arenas id NoArena root of = absurd of
-root_refuses arenas id NotRoot root of = absurd of
-root_refuses arenas id Overlaps root of = root
-root_refuses arenas id NotAligned root of = root
-root_refuses arenas id TooMany root of = root
-root_refuses arenas id NoMemory root of = root
-
-pub root_answers : {A : Type 0} (arenas : List TreeArena) (id : ℕ) (r : Result A GrowFault) → IsRootArena arenas id → IsOfArena r → AnswersGrow arenas id r
-root_answers arenas id (Ok x) root of = root
-root_answers arenas id (Err f) root of = root_refuses arenas id f root of
+use Rattle.locked_parts.specs.Growing.{HasRootsMore}
 
 -- which arena a root is of
 of_owner : (id beside base before left k root : ℕ) → MOST_SPANS * id + beside ≤ base → base + before + left ≡ MOST_SPANS * id + MOST_SPANS → k < before → root ≡ base + k → root / MOST_SPANS ≡ id

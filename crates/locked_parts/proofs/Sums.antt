@@ -11,11 +11,8 @@ use Rattle.tag_arena.specs.ArenaState.{empty_arena, ranges_of}
 use Rattle.tag_arena.proofs.Using.{empty_sound}
 use Rattle.slab_layer.specs.Cache.{IsOfSize, IsOnGrid}
 use Rattle.magazine_layer.specs.Depots.{new_depot}
-use Rattle.arena_tree.specs.Chains.{quantum_in}
-use Rattle.arena_tree.specs.Trees.{nodes_of}
-use Rattle.arena_tree.specs.declared.trees.TreeArena.{TreeArena}
-use Rattle.locked_parts.specs.Kinds.{IsOfKind, count_of_caches}
-use Rattle.locked_parts.specs.Sums.{ArenaTells, SlabsTell, DepotTells, AddsUp, kind_at}
+use Rattle.locked_parts.specs.Kinds.{IsOfKind}
+use Rattle.locked_parts.specs.Sums.{ArenaTells, SlabsTell, DepotTells, AddsUp}
 use Rattle.locked_parts.specs.declared.kinds.CacheKind.{CacheKind}
 
 -- one cache more is added
@@ -23,13 +20,6 @@ pub adds_more : (tells : ℕ → ℕ → Type 0) (n before one units : ℕ) → 
 adds_more tells n before one units walk told is =
     let e : suc n ≡ n + 1 = omega arith in
     subst (λ k. AddsUp tells k units) e (before, one, walk, subst (λ k. tells k one) (sym e) told, is)
-
--- what the caches of an arena with this quantum told is what those of the arena at this number did
-pub told_at : (tells : CacheKind → ℕ → Type 0) (arenas : List TreeArena) (id quantum count units : ℕ) → quantum_in (nodes_of arenas) id ≡ quantum → count ≡ count_of_caches arenas id
-    → AddsUp (λ n. tells (record { arena = id; number = n; quantum = quantum })) count units → AddsUp (λ n. tells (kind_at arenas id n)) (count_of_caches arenas id) units
-told_at tells arenas id quantum count units is all told =
-    subst (λ k. AddsUp (λ n. tells (kind_at arenas id n)) k units) all
-    (subst (λ q. AddsUp (λ n. tells (record { arena = id; number = n; quantum = q })) count units) (sym is) told)
 
 no_entries : (es : List (ℕ × Holding)) → length es ≡ 0 → es ≡ []
 no_entries [] e = refl

@@ -4,11 +4,14 @@ use Rattle.deed_core.specs.Tag.{Tag}
 use Rattle.deed_core.specs.declared.segments.Route.TheVariants.{Direct}
 use Rattle.deed_table.specs.Opened.{OpenedState}
 use Rattle.tag_arena.specs.ArenaState.{ArenaState}
-use Rattle.arena_tree.specs.Chains.{Node}
+use Rattle.arena_tree.specs.Chains.{Node, quantum_in, source_of}
 use Rattle.arena_tree.specs.Events.{Event, AnswerTo}
 use Rattle.arena_tree.specs.Sound.{Sound}
 use Rattle.arena_tree.specs.Stops.{is_stopped}
+use Rattle.arena_tree.specs.Trees.{nodes_of}
 use Rattle.arena_tree.specs.declared.limits.TheConstants.{MOST_SPANS}
+use Rattle.arena_tree.specs.declared.trees.TreeArena.{TreeArena}
+use Rattle.locked_parts.specs.declared.arena_parts.ArenaSet.{ArenaSet}
 use Rattle.locked_parts.specs.declared.kinds.CacheKind.{CacheKind}
 
 -- the answer is sound, and no stop
@@ -22,6 +25,20 @@ pub record ArenaPartState : Type 0 where
   pub arena : ArenaState
   pub roots : OpenedState
   pub beside : ℕ
+
+-- it is the arena that was set up so
+pub record IsArenaFor (set : ArenaSet) (p : ArenaPartState) : Type 0 where
+  pub number : p.arena.id ≡ set.number
+  pub quantum : set.quantum ≡ p.arena.quantum
+  pub source : set.source ≡ p.source
+
+-- what the arena of this number was set up as
+abbrev pub set_of : List TreeArena → ℕ → ArenaSet
+set_of arenas id = record {
+  number = id;
+  quantum = quantum_in (nodes_of arenas) id;
+  source = source_of (nodes_of arenas) id;
+}
 
 -- all but the arena is as it was
 pub record StaysButArena (old new : ArenaPartState) : Type 0 where

@@ -1,6 +1,5 @@
--- Which arenas may grow, what a grow is answered, and what it does under the arena's lock.
-use Rattle.std.specs.Prelude.{◌≡◌, ℕ, ◌/◌, ◌<◌, ◌≤◌, ◌++◌, List, All, Some, None, IsSome}
-use Rattle.std.specs.Prelude.{Result, Ok, Err, length, slice_get}
+-- What a grow does under the arena's lock, and why not.
+use Rattle.std.specs.Prelude.{◌≡◌, ℕ, ◌/◌, ◌<◌, ◌++◌, List, All, Result, Ok, Err}
 use Rattle.deed_core.specs.Extent.{Extent}
 use Rattle.deed_core.specs.Holding.{Holding}
 use Rattle.deed_table.specs.Opened.{OpensNext}
@@ -11,31 +10,7 @@ use Rattle.arena_tree.specs.declared.part_faults.GrowFault.{GrowFault}
 use Rattle.arena_tree.specs.declared.part_faults.GrowFault.TheVariants.{NoArena, NotRoot, Overlaps}
 use Rattle.arena_tree.specs.declared.part_faults.GrowFault.TheVariants.{NotAligned, TooMany}
 use Rattle.arena_tree.specs.declared.part_faults.GrowFault.TheVariants.{NoMemory}
-use Rattle.arena_tree.specs.declared.trees.TreeArena.{TreeArena}
 use Rattle.locked_parts.specs.Answers.{ArenaPartState}
-
--- the arena of this number has no source
-abbrev pub IsRootArena : List TreeArena → ℕ → Type 0
-IsRootArena arenas id = (x : TreeArena) × (slice_get arenas id ≡ Some x) × (x.source ≡ None)
-
--- it has one
-abbrev pub HasSource : List TreeArena → ℕ → Type 0
-HasSource arenas id = (x : TreeArena) × (slice_get arenas id ≡ Some x) × IsSome x.source
-
--- how a grow of the arena of this number is refused: NoArena and then NotRoot exactly where they
--- stand
-abbrev pub MayRefuseGrow : List TreeArena → ℕ → GrowFault → Type 0
-MayRefuseGrow arenas id NoArena = length arenas ≤ id
-MayRefuseGrow arenas id NotRoot = HasSource arenas id
-MayRefuseGrow arenas id Overlaps = IsRootArena arenas id
-MayRefuseGrow arenas id NotAligned = IsRootArena arenas id
-MayRefuseGrow arenas id TooMany = IsRootArena arenas id
-MayRefuseGrow arenas id NoMemory = IsRootArena arenas id
-
--- what it is answered
-abbrev pub AnswersGrow : {A : Type 0} → List TreeArena → ℕ → Result A GrowFault → Type 0
-AnswersGrow arenas id (Ok _) = IsRootArena arenas id
-AnswersGrow arenas id (Err f) = MayRefuseGrow arenas id f
 
 -- a fault of the arena itself: which of the arenas it is, is known before
 abbrev pub IsFaultOfArena : GrowFault → Type 0
@@ -59,6 +34,16 @@ pub record GrownState : Type 0 where
 -- this one did, of this range
 abbrev pub IsGrowthBy : ℕ → Extent → GrownState → Type 0
 IsGrowthBy id range g = (g.arena ≡ id) × (g.range ≡ range)
+
+-- an arena, by its number, refused a growth by a range
+pub record GrowthRefusedState : Type 0 where
+  pub arena : ℕ
+  pub range : Extent
+  pub fault : GrowFault
+
+-- this one did, by this range, for a fault of its own
+abbrev pub IsRefusalBy : ℕ → Extent → GrowthRefusedState → Type 0
+IsRefusalBy id range r = (r.arena ≡ id) × (r.range ≡ range) × IsFaultOfArena r.fault
 
 -- nothing stands against a further root of this range, and a number is left for it
 abbrev pub CanGrow : ArenaPartState → Extent → Type 0

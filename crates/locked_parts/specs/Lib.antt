@@ -8,6 +8,8 @@ pub mod Walks
 pub mod States
 pub mod Answers
 pub mod Growing
+pub mod GrowAnswers
 pub mod Handing
 pub mod Words
 pub mod Saying
+pub mod Missing

@@ -10,6 +10,7 @@ use Rattle.arena_tree.specs.Trees.{nodes_of}
 use Rattle.arena_tree.specs.declared.setups.OwnedSpan.{OwnedSpan}
 use Rattle.arena_tree.specs.declared.trees.TreeArena.{TreeArena}
 use Rattle.magazine_layer.specs.Depots.{DepotState, new_depot}
+use Rattle.locked_parts.specs.Answers.{set_of}
 use Rattle.locked_parts.specs.Kinds.{count_of_caches, kinds_up_to, first_size}
 use Rattle.locked_parts.specs.States.{LockedArenaState}
 use Rattle.locked_parts.specs.declared.kinds.CacheKind.{CacheKind}
@@ -63,11 +64,14 @@ pub record AreMadeAsSet (arenas : List TreeArena) (made : List NewArenaState) : 
 
 -- what stands beside the lock of an arena, as it was made
 abbrev pub locked_of : NewArenaState → LockedArenaState
-locked_of a = record { number = a.id; kinds = map (λ c. c.kind) a.caches }
+locked_of a = record {
+  set = record { number = a.id; quantum = a.quantum; source = a.source };
+  kinds = map (λ c. c.kind) a.caches;
+}
 
 -- the arena of this number stands, with the quantum caches that it was set up with
 pub record StandsAsSet (arenas : List TreeArena) (id : ℕ) (a : LockedArenaState) : Type 0 where
-  pub number : a.number ≡ id
+  pub set : a.set ≡ set_of arenas id
   pub kinds : a.kinds ≡ kinds_up_to id (quantum_in (nodes_of arenas) id) (count_of_caches arenas id)
 
 -- each arena does, in its place

@@ -1,6 +1,6 @@
 -- By which part an event came, at which step, and what it answered, as the part says under its
 -- lock; and where there is no such part.
-use Rattle.std.specs.Prelude.{◌≡◌, ◌≢◌, ◌⊎◌, ◌+◌, ◌<◌, ◌≤◌, ℕ, List, Option, Some, None}
+use Rattle.std.specs.Prelude.{◌≡◌, ◌⊎◌, ◌+◌, ◌<◌, ◌≤◌, ℕ, List, Option, Some, None}
 use Rattle.std.specs.Prelude.{Result, Ok, Err}
 use Rattle.std.specs.Prelude.{length, slice_get}
 use Rattle.deed_core.specs.Tag.{Tag}
@@ -26,12 +26,15 @@ use Rattle.locked_parts.specs.Owns.{HasNoOwn, IsOwnAt, cache_of}
 use Rattle.locked_parts.specs.States.{LockedArenaState, LockedPartsState}
 use Rattle.locked_parts.specs.Words.{given_word, carve_word, free_word, span_word, put_word}
 use Rattle.locked_parts.specs.Words.{add_word, full_word, empty_word, fresh_word}
+use Rattle.locked_parts.specs.Words.{MisplacedState}
 use Rattle.locked_parts.specs.declared.gates.NextStep.{NextStep}
 use Rattle.locked_parts.specs.declared.kinds.CacheKind.{CacheKind}
+use Rattle.locked_parts.specs.declared.misplaced.Cause.TheVariants as cause
+use Rattle.locked_parts.specs.declared.misplaced.PartName.{PartName}
+use Rattle.locked_parts.specs.declared.misplaced.PartName.TheVariants as naming
 use Rattle.locked_parts.specs.declared.said.Said.{Said}
 use Rattle.locked_parts.specs.declared.said.Said.TheVariants as saying
 use Rattle.locked_parts.specs.declared.words.Word.{Word}
-use Rattle.locked_parts.specs.declared.words.Word.TheVariants as word
 
 -- that arena, asked at that step, answered so
 abbrev pub arena_said : ℕ → NextStep → Word → Said
@@ -45,49 +48,37 @@ slabs_said kind step answer = saying.Slab (record { kind = kind; step = step; wo
 abbrev pub depot_said : CacheKind → NextStep → Word → Said
 depot_said kind step answer = saying.Depot (record { kind = kind; step = step; word = answer })
 
--- another arena than this was asked at that step, and said so
-abbrev pub IsOtherArena : ℕ → NextStep → Said → Type 0
-IsOtherArena arena step s = (other : ℕ) × (other ≢ arena) × (s ≡ arena_said other step word.Other)
-
--- and so another cache's slabs, or its depot
-abbrev pub AreOtherSlabs : CacheKind → NextStep → Said → Type 0
-AreOtherSlabs kind step s =
-    (other : CacheKind) × (other ≢ kind) × (s ≡ slabs_said other step word.Other)
-
-abbrev pub IsOtherDepot : CacheKind → NextStep → Said → Type 0
-IsOtherDepot kind step s =
-    (other : CacheKind) × (other ≢ kind) × (s ≡ depot_said other step word.Other)
-
--- no arena of this number was set up, or it is ended, or another was found in its place
-abbrev pub IsNoArena : LockedPartsState → ℕ → NextStep → Said → Type 0
-IsNoArena p arena step s =
-    (length p.arenas ≤ arena) ⊎ (p.standing ≤ arena) ⊎ IsOtherArena arena step s
-
--- no such arena was set up, or it is ended, or it has no cache of this number
+-- the arena has a quantum cache of this number
 abbrev pub HasCache : LockedArenaState → ℕ → Type 0
 HasCache a cache = (0 < cache) × (cache ≤ length a.kinds)
-
-abbrev pub IsNoCache : LockedPartsState → (arena cache : ℕ) → Type 0
-IsNoCache p arena cache = (length p.arenas ≤ arena) ⊎ (p.standing ≤ arena)
-    ⊎ ((a : LockedArenaState) × (slice_get p.stand arena ≡ Some a) × (¬ HasCache a cache))
 
 -- this cache stands at the place of that number
 abbrev pub HasCacheAt : LockedArenaState → ℕ → CacheKind → Type 0
 HasCacheAt a cache kind =
     (place : ℕ) × (place + 1 ≡ cache) × (slice_get a.kinds place ≡ Some kind)
 
-abbrev pub StandsAt : LockedPartsState → (arena cache : ℕ) → CacheKind → Type 0
-StandsAt p arena cache kind =
-    (a : LockedArenaState) × (slice_get p.stand arena ≡ Some a) × HasCacheAt a cache kind
+-- the arena of this number is ended, or has no such cache
+abbrev pub IsNoCache : LockedPartsState → (arena cache : ℕ) → Type 0
+IsNoCache p arena cache = (p.standing ≤ arena)
+    ⊎ ((a : LockedArenaState) × (slice_get p.stand arena ≡ Some a) × (¬ HasCache a cache))
 
--- or other slabs were found in its place, or another depot
-abbrev pub AreNoSlabs : LockedPartsState → (arena cache : ℕ) → NextStep → Said → Type 0
-AreNoSlabs p arena cache step s =
-    IsNoCache p arena cache ⊎ AreOtherSlabs (cache_of p.arenas arena cache) step s
+-- this part of the arena of that number doesn't stand
+abbrev pub IsNone : LockedPartsState → ℕ → PartName → Type 0
+IsNone p arena naming.Arena = p.standing ≤ arena
+IsNone p arena (naming.Slabs cache) = IsNoCache p arena cache
+IsNone p arena (naming.Depot cache) = IsNoCache p arena cache
 
-abbrev pub IsNoDepot : LockedPartsState → (arena cache : ℕ) → NextStep → Said → Type 0
-IsNoDepot p arena cache step s =
-    IsNoCache p arena cache ⊎ IsOtherDepot (cache_of p.arenas arena cache) step s
+-- it isn't where it was set up: it doesn't stand, or another was found under its lock, which a
+-- value says that is made there alone
+pub record IsMisplaced (p : LockedPartsState) (arena : ℕ) (part : PartName) (m : MisplacedState)
+    : Type 0 where
+  pub arena_is : m.arena ≡ arena
+  pub part_is : m.part ≡ part
+  pub none : m.cause ≡ cause.None → IsNone p arena part
+
+-- so the part left it
+abbrev pub IsNoPart : LockedPartsState → ℕ → PartName → Said → Type 0
+IsNoPart p arena part s = (m : MisplacedState) × (s ≡ saying.Missing m) × IsMisplaced p arena part m
 
 -- the part's own answer is told on in the words of the event, and the part said it
 abbrev pub IsToldOn : {X E F : Type 0} → (E → F) → (Result X E → Word) → (Word → Said)
@@ -141,25 +132,25 @@ HasNoFull p arena cache caches = HasNoOwn p.arenas arena cache caches
     × (¬ BothFull own.cpu))
 
 -- there is no such part, or what the CPU would exchange
-abbrev pub IsMissing : LockedPartsState → List OwnCacheState → NextStep → Event → Said → Type 0
-IsMissing p caches step (Carve arena request) s = IsNoArena p arena step s
-IsMissing p caches step (Free given) s = IsNoArena p given.arena step s
-IsMissing p caches step (AddCarve child given size) s = IsNoArena p child step s
-IsMissing p caches step (SlabTake arena cache) s = AreNoSlabs p arena cache step s
-IsMissing p caches step (SlabPut given) s =
-    AreNoSlabs p given.arena (number_of_cache given.route) step s
-IsMissing p caches step (SlabAdd arena cache given) s = AreNoSlabs p arena cache step s
-IsMissing p caches step (SlabReap arena cache) s = AreNoSlabs p arena cache step s
-IsMissing p caches step (SwapFull arena cache) s =
-    IsNoDepot p arena cache step s ⊎ HasNoOwn p.arenas arena cache caches
-IsMissing p caches step (SwapEmpty arena cache) s =
-    IsNoDepot p arena cache step s ⊎ HasNoOwn p.arenas arena cache caches
-IsMissing p caches step (SwapFresh arena cache) s =
-    IsNoDepot p arena cache step s ⊎ HasNoFull p arena cache caches
-IsMissing p caches step (DepotReap arena cache) s = IsNoDepot p arena cache step s
-IsMissing p caches step (Pop arena cache) s = ⊥
-IsMissing p caches step (Push arena cache given) s = ⊥
-IsMissing p caches step (Change arena cache size) s = ⊥
+abbrev pub IsMissing : LockedPartsState → List OwnCacheState → Event → Said → Type 0
+IsMissing p caches (Carve arena request) s = IsNoPart p arena naming.Arena s
+IsMissing p caches (Free given) s = IsNoPart p given.arena naming.Arena s
+IsMissing p caches (AddCarve child given size) s = IsNoPart p child naming.Arena s
+IsMissing p caches (SlabTake arena cache) s = IsNoPart p arena (naming.Slabs cache) s
+IsMissing p caches (SlabPut given) s =
+    IsNoPart p given.arena (naming.Slabs (number_of_cache given.route)) s
+IsMissing p caches (SlabAdd arena cache given) s = IsNoPart p arena (naming.Slabs cache) s
+IsMissing p caches (SlabReap arena cache) s = IsNoPart p arena (naming.Slabs cache) s
+IsMissing p caches (SwapFull arena cache) s =
+    IsNoPart p arena (naming.Depot cache) s ⊎ HasNoOwn p.arenas arena cache caches
+IsMissing p caches (SwapEmpty arena cache) s =
+    IsNoPart p arena (naming.Depot cache) s ⊎ HasNoOwn p.arenas arena cache caches
+IsMissing p caches (SwapFresh arena cache) s =
+    IsNoPart p arena (naming.Depot cache) s ⊎ HasNoFull p arena cache caches
+IsMissing p caches (DepotReap arena cache) s = IsNoPart p arena (naming.Depot cache) s
+IsMissing p caches (Pop arena cache) s = ⊥
+IsMissing p caches (Push arena cache given) s = ⊥
+IsMissing p caches (Change arena cache size) s = ⊥
 
 -- what it is answered then
 abbrev pub AnswersMissing : (e : Event) → AnswerTo e → Type 0
@@ -183,4 +174,4 @@ AnswersMissing (Change arena cache size) a = ⊥
 abbrev pub CameBy : LockedPartsState → List OwnCacheState → NextStep → (e : Event) → AnswerTo e
     → Said → Type 0
 CameBy p caches step e a s =
-    IsSaid p step e a s ⊎ (IsMissing p caches step e s × AnswersMissing e a)
+    IsSaid p step e a s ⊎ (IsMissing p caches e s × AnswersMissing e a)

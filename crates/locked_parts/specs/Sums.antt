@@ -4,10 +4,9 @@ use Rattle.deed_core.specs.Covering.{units_held, units_tagged}
 use Rattle.tag_arena.specs.ArenaState.{ArenaState, IsSoundArena, ranges_of}
 use Rattle.slab_layer.specs.Cache.{SlabCacheState, IsSoundCache, deeds_of}
 use Rattle.magazine_layer.specs.Depots.{depot_rounds}
-use Rattle.arena_tree.specs.Chains.{quantum_in}
-use Rattle.arena_tree.specs.Trees.{nodes_of}
 use Rattle.arena_tree.specs.declared.trees.TreeArena.{TreeArena}
 use Rattle.locked_parts.specs.Kinds.{AreSlabsOf, KindDepotState, IsKindDepot, count_of_caches}
+use Rattle.locked_parts.specs.Owns.{cache_of}
 use Rattle.locked_parts.specs.declared.kinds.CacheKind.{CacheKind}
 use Rattle.locked_parts.specs.declared.part_sums.PartSums.{PartSums}
 
@@ -40,16 +39,11 @@ AddsUp tells zero units = units ≡ 0
 AddsUp tells (suc n) units = (before one : ℕ) × AddsUp tells n before × tells (suc n) one
     × (units ≡ min (before + one) (2 ^ 128 - 1))
 
--- the quantum cache of this number of an arena
-abbrev pub kind_at : List TreeArena → (id number : ℕ) → CacheKind
-kind_at arenas id number =
-    record { arena = id; number = number; quantum = quantum_in (nodes_of arenas) id }
-
 -- the sums of the arena of this number: what it told itself, and what the slabs and the depot of
 -- each of its quantum caches did
 pub record SumsOf (arenas : List TreeArena) (id : ℕ) (s : PartSums) : Type 0 where
   pub arena : ArenaTells id s.free s.allocated
-  pub slab : AddsUp (λ number. SlabsTell (kind_at arenas id number)) (count_of_caches arenas id)
+  pub slab : AddsUp (λ number. SlabsTell (cache_of arenas id number)) (count_of_caches arenas id)
       s.slab
-  pub magazine : AddsUp (λ number. DepotTells (kind_at arenas id number))
+  pub magazine : AddsUp (λ number. DepotTells (cache_of arenas id number))
       (count_of_caches arenas id) s.magazine

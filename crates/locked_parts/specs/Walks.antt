@@ -1,12 +1,14 @@
 -- Walks over the depots of quantum caches, in order of arenas and of caches, whatever keeps them.
-use Rattle.std.specs.Prelude.{◌≡◌, ◌⊎◌, ◌↔◌, ◌<◌, ◌||◌, ℕ, zero, suc, Bool, true, false, IsTrue}
-use Rattle.std.specs.Prelude.{List}
-use Rattle.std.specs.Prelude.{Option, Some}
+use Rattle.std.specs.Prelude.{◌≡◌, ◌⊎◌, ◌<◌, ◌||◌, ℕ, zero, suc, Bool, true, false, List, Option}
+use Rattle.std.specs.Prelude.{Some}
 use Rattle.arena_tree.specs.declared.trees.TreeArena.{TreeArena}
 use Rattle.locked_parts.specs.Kinds.{count_of_caches}
-use Rattle.locked_parts.specs.Saying.{IsNoCache, StandsAt}
+use Rattle.locked_parts.specs.Owns.{cache_of}
+use Rattle.locked_parts.specs.Saying.{IsMisplaced}
 use Rattle.locked_parts.specs.States.{LockedPartsState}
+use Rattle.locked_parts.specs.Words.{MisplacedState}
 use Rattle.locked_parts.specs.declared.kinds.CacheKind.{CacheKind}
+use Rattle.locked_parts.specs.declared.misplaced.PartName.TheVariants.{Depot}
 
 -- an interval begins in the depots of the arena's first caches, so many, one after another
 abbrev pub TicksCaches : {S : Type 0} → (S → ℕ → ℕ → S → Type 0) → (arena count : ℕ) → S → S
@@ -22,40 +24,30 @@ TicksArenas ticks arenas zero s t = t ≡ s
 TicksArenas {S} ticks arenas (suc n) s t = (m : S)
     × TicksArenas ticks arenas n s m × TicksCaches ticks n (count_of_caches arenas n) m t
 
--- which depot was asked to begin an interval, and whether it did
-pub record TickSaidState : Type 0 where
-  pub kind : CacheKind
-  pub begun : Bool
+-- an interval began in the depot of this cache, or that isn't where it was set up
+abbrev pub SaysTick : LockedPartsState → (arena cache : ℕ) → Option CacheKind
+    → Option MisplacedState → Type 0
+SaysTick p arena cache said missing = (said ≡ Some (cache_of p.arenas arena cache))
+    ⊎ ((m : MisplacedState) × (missing ≡ Some m) × IsMisplaced p arena (Depot cache) m)
 
--- it was asked for the depot of this cache: it did just where it is that one
-abbrev pub IsTickFor : CacheKind → TickSaidState → Type 0
-IsTickFor kind said = IsTrue said.begun ↔ (said.kind ≡ kind)
-
--- what was asked last says so of the cache that stands at this place; or there is none
-abbrev pub SaysTick : LockedPartsState → (arena cache : ℕ) → Option TickSaidState → Type 0
-SaysTick p arena cache said = IsNoCache p arena cache
-    ⊎ ((kind : CacheKind) × (one : TickSaidState) × StandsAt p arena cache kind
-    × (said ≡ Some one) × IsTickFor kind one)
-
--- which depot was asked to keep magazines of which size, whether it is the one that was meant, and
--- whether it had smaller ones
+-- which depot was asked to keep magazines of which size, and whether it had smaller ones
 pub record ResizeSaidState : Type 0 where
   pub kind : CacheKind
   pub size : ℕ
-  pub is_meant : Bool
   pub rose : Bool
 
--- it was asked for the depot of this cache and for this size: another than that has none
+-- it was that of this cache, for this size
 abbrev pub IsResizeFor : CacheKind → ℕ → ResizeSaidState → Type 0
-IsResizeFor kind size said = (said.size ≡ size) × (IsTrue said.is_meant ↔ (said.kind ≡ kind))
-    × (said.rose ≡ true → (said.kind ≡ kind) × (3 < size))
+IsResizeFor kind size said =
+    (said.kind ≡ kind) × (said.size ≡ size) × (said.rose ≡ true → 3 < size)
 
--- what was asked last says so of the cache that stands at this place; or there is none
+-- the depot of this cache says so, or it isn't where it was set up
 abbrev pub SaysResize : LockedPartsState → (arena cache size : ℕ) → Bool → Option ResizeSaidState
-    → Type 0
-SaysResize p arena cache size rose said = (IsNoCache p arena cache × (rose ≡ false))
-    ⊎ ((kind : CacheKind) × (one : ResizeSaidState) × StandsAt p arena cache kind
-    × (said ≡ Some one) × IsResizeFor kind size one × (rose ≡ one.rose))
+    → Option MisplacedState → Type 0
+SaysResize p arena cache size rose said missing = ((one : ResizeSaidState) × (said ≡ Some one)
+    × IsResizeFor (cache_of p.arenas arena cache) size one × (rose ≡ one.rose))
+    ⊎ ((m : MisplacedState) × (missing ≡ Some m) × IsMisplaced p arena (Depot cache) m
+    × (rose ≡ false))
 
 -- so many depots of an arena were asked for magazines of a size, and whether one of them had
 -- smaller ones

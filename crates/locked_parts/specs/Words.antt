@@ -17,6 +17,8 @@ use Rattle.arena_tree.specs.declared.part_faults.FreshFault.{FreshFault}
 use Rattle.arena_tree.specs.declared.part_faults.FreshFault.TheVariants as freshing
 use Rattle.locked_parts.specs.declared.gates.NextStep.{NextStep}
 use Rattle.locked_parts.specs.declared.kinds.CacheKind.{CacheKind}
+use Rattle.locked_parts.specs.declared.misplaced.Cause.{Cause}
+use Rattle.locked_parts.specs.declared.misplaced.PartName.{PartName}
 use Rattle.locked_parts.specs.declared.words.Word.{Word}
 use Rattle.locked_parts.specs.declared.words.Word.TheVariants as word
 
@@ -31,6 +33,12 @@ pub record CacheSaidState : Type 0 where
   pub kind : CacheKind
   pub step : NextStep
   pub word : Word
+
+-- which part isn't where it was set up: the number of its arena, and which of its parts; and why
+pub record MisplacedState : Type 0 where
+  pub arena : ℕ
+  pub part : PartName
+  pub cause : Cause
 
 -- of a part that may give a segment
 abbrev pub given_word : Option Tag → Word

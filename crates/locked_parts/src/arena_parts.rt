@@ -1,7 +1,7 @@
 //! An arena as its lock keeps it. What lies there when the lock is taken is known by its type
-//! alone, so that each event looks whether it is the arena that is meant.
+//! alone, so that it is looked at before an event is asked of it.
 ghost use Rattle.std.specs.Prelude.{◌≡◌, ◌≢◌, ◌<◌, ◌≤◌, ◌↔◌, ◌++◌, List, [], Some, None, Ok};
-ghost use Rattle.std.specs.Prelude.{IsOk, OnOk, OnErr, IfOk, IfErr, true, false};
+ghost use Rattle.std.specs.Prelude.{IsOk, OnOk, OnErr, IfOk, IfErr};
 ghost use Rattle.std.specs.Prelude.{vec_len};
 ghost use Rattle.deed_core.specs.Covering.{units_held};
 ghost use Rattle.deed_core.specs.Request.{rounding_of, plain_of};
@@ -11,11 +11,11 @@ ghost use Rattle.tag_arena.specs.Outcomes.{CarveOf, ImportOf, FreeOf, RemoveOf};
 ghost use Rattle.arena_tree.specs.Chains.{Node, quantum_in, source_of};
 ghost use Rattle.arena_tree.specs.Events.{Carve, Free, AddCarve};
 ghost use Rattle.arena_tree.specs.Tags.{wording_of};
-ghost use Rattle.locked_parts.specs.Answers.{AnswersSoundly, StaysButArena};
+ghost use Rattle.locked_parts.specs.Answers.{AnswersSoundly, IsArenaFor, StaysButArena};
 ghost use Rattle.locked_parts.specs.Growing.{CanGrow, HasRootsMore, IsOfArena, PartGrew};
-ghost use Rattle.locked_parts.specs.Growing.{IsGrowthBy, RefusesGrow};
+ghost use Rattle.locked_parts.specs.Growing.{IsGrowthBy, IsRefusalBy, RefusesGrow};
 ghost use Rattle.locked_parts.specs.Handing.{IsHandedOver};
-ghost use Rattle.locked_parts.specs.Saying.{IsOtherArena, arena_said};
+ghost use Rattle.locked_parts.specs.Saying.{arena_said};
 ghost use Rattle.locked_parts.specs.Sums.{ArenaTells};
 ghost use Rattle.locked_parts.specs.Words.{carve_word, free_word, span_word};
 
@@ -61,8 +61,8 @@ impl<N: Name> Model for ArenaPart<N> {
         p.room };
 }
 
-/// That the arena of this number was asked, and no owned span of it found to be wholly free, or
-/// another arena in its place. Only `ArenaPart` makes one, where it is asked.
+/// That the arena of this number was asked, and no owned span of it found to be wholly free. Only
+/// `ArenaPart` makes one, where it is asked.
 #[derive(PartialEq, Eq, Debug, Drop)]
 pub struct NoneWhole {
     arena: u32,
@@ -79,7 +79,7 @@ impl Model for NoneWhole {
 }
 
 /// That the arena of this number was asked for its roots, and counts fewer beside its lock than
-/// were given, or is another. Only `ArenaPart` makes one, where it is asked.
+/// were given. Only `ArenaPart` makes one, where it is asked.
 #[derive(PartialEq, Eq, Debug, Drop)]
 pub struct NotCounted {
     arena: u32,
@@ -163,118 +163,156 @@ impl Model for Grown {
     ghost inverse = { λ g. record { arena = g.arena; range = g.range } };
 }
 
-impl<N: Name> ArenaPart<N> {
-    /// Whether it is the arena of this number; another says that it is another.
-    pub(crate) fn is(&self, said: &mut Said, step: NextStep, id: u32) -> bool
-        ensures here { result ≡ true → self.now.arena.id ≡ id }
-        ensures other { result ≡ false → IsOtherArena id step said.new }
+/// That an arena was asked for a growth by this range, and refused it for this fault. Only
+/// `ArenaPart::grow` makes one.
+#[derive(PartialEq, Eq, Debug, Drop)]
+pub struct GrowthRefused {
+    arena: u32,
+    range: Range,
+    fault: GrowFault,
+}
+
+impl Model for GrowthRefused {
+    ghost use Rattle.locked_parts.specs.Growing.{GrowthRefusedState};
+
+    ghost Value = { GrowthRefusedState };
+
+    ghost view = { λ r. record { arena = r.arena; range = r.range; fault = r.fault } };
+
+    ghost inverse = { λ r. record { arena = r.arena; range = r.range; fault = r.fault } };
+}
+
+impl GrowthRefused {
+    /// Why.
+    pub fn fault(&self) -> GrowFault
+        ensures { result ≡ self.now.fault }
     {
-        let own = self.arena.id();
-        if own == id {
-            return true;
+        self.fault
+    }
+}
+
+/// What an arena was set up as: its number, its quantum, and the number of its source, if it has
+/// one.
+#[derive(Clone, Copy, PartialEq, Eq, Debug)]
+pub struct ArenaSet {
+    pub number: u32,
+    pub quantum: u64,
+    pub source: Option<u32>,
+}
+
+/// That another arena was found than this one, which was sought. Only `ArenaPart` makes one, where
+/// it is looked at.
+#[derive(PartialEq, Eq, Debug, Drop)]
+pub(crate) struct OtherArena {
+    sought: ArenaSet,
+}
+
+impl Model for OtherArena {
+    ghost use Rattle.locked_parts.specs.declared.arena_parts.ArenaSet.{ArenaSet};
+
+    ghost Value = { ArenaSet };
+
+    ghost view = { λ o. o.sought };
+
+    ghost inverse = { λ s. record { sought = s } };
+}
+
+impl<N: Name> ArenaPart<N> {
+    /// What it was set up as.
+    pub(crate) fn set(&self) -> ArenaSet
+        ensures { IsArenaFor result self.now }
+    {
+        ArenaSet {
+            number: self.arena.id(),
+            quantum: self.arena.quantum(),
+            source: self.source,
         }
-        *said = arena_says(own, step, Word::Other);
-        false
     }
 
-    /// Carves a segment for the request from the arena with this number and quantum. Where another
-    /// stands here, nothing is done.
+    /// Looks whether it is this arena.
+    pub(crate) fn look(&self, set: &ArenaSet) -> Result<(), OtherArena>
+        ensures exactly { IsOk result ↔ IsArenaFor set.now self.now }
+        ensures other { IfErr result (λ o. o ≡ set.now) }
+    {
+        let own = self.arena.id() == set.number && self.arena.quantum() == set.quantum;
+        if !own || self.source != set.source {
+            return Err(OtherArena { sought: *set });
+        }
+        Ok(())
+    }
+
+    /// Carves a segment for the request.
     pub(crate) fn carve(
         &mut self,
         said: &mut Said,
         step: NextStep,
-        id: u32,
-        quantum: u64,
         request: &Request,
     ) -> Result<Segment<SeatDeed<N>>, ArenaFault>
-        requires { 0 < quantum }
-        ensures sound { (nodes : List Node) → quantum_in nodes id ≡ quantum
-            → AnswersSoundly nodes (Carve id request.now)
+        ensures sound { (nodes : List Node)
+            → quantum_in nodes self.old.arena.id ≡ self.old.arena.quantum
+            → AnswersSoundly nodes (Carve self.old.arena.id request.now)
             (wording_of PartFault.Refused result) }
-        ensures said { self.old.arena.id ≡ id → said.new ≡ arena_said id step (carve_word result) }
+        ensures said { said.new ≡ arena_said self.old.arena.id step (carve_word result) }
         ensures event { IfOk result (λ t.
             CarveOf self.old.arena request.now (Ok t) self.new.arena) }
-        ensures refused { IfErr result (λ f. self.old.arena.id ≡ id
-            → self.old.arena.quantum ≡ quantum → RefusesCarve self.old.arena request.now f) }
+        ensures refused { IfErr result (RefusesCarve self.old.arena request.now) }
         ensures rest { StaysButArena self.old self.new }
         ensures unchanged { OnErr result (self.new ≡ self.old) }
     {
         let own = self.arena.id();
-        if !request.is_good(quantum) {
-            *said = arena_says(own, step, Word::BadRequest);
-            return Err(ArenaFault::BadRequest);
-        }
-        if own != id || self.arena.quantum() != quantum {
-            *said = arena_says(own, step, Word::NoMemory);
-            return Err(ArenaFault::NoMemory);
-        }
         let carved = self.arena.xalloc(request);
         *said = arena_says(own, step, word_of_carve(&carved));
         carved
     }
 
-    /// Frees a segment of the arena, which has this source. Where another stands here, it is
-    /// refused.
+    /// Frees a segment of it.
     pub(crate) fn free(
         &mut self,
         said: &mut Said,
         step: NextStep,
-        source: Option<u32>,
         segment: Segment<SeatDeed<N>>,
     ) -> Result<Option<Segment<SeatDeed<N>>>, Segment<SeatDeed<N>>>
-        ensures sound { (nodes : List Node) → source_of nodes segment.arena ≡ source
+        ensures sound { (nodes : List Node) → source_of nodes segment.arena ≡ self.old.source
             → AnswersSoundly nodes (Free segment) (wording_of GivenFault.Refused result) }
-        ensures said { self.old.arena.id ≡ segment.arena
-            → said.new ≡ arena_said segment.arena step (free_word result) }
+        ensures said { said.new ≡ arena_said self.old.arena.id step (free_word result) }
         ensures event { IfOk result (λ back.
             FreeOf self.old.arena segment (Ok back) self.new.arena) }
-        ensures refused { OnErr result (self.old.source ≡ source
-            → ¬ IsTagged self.old.arena segment) }
+        ensures refused { OnErr result (¬ IsTagged self.old.arena segment) }
         ensures rest { StaysButArena self.old self.new }
         ensures unchanged { OnErr result (self.new ≡ self.old) }
     {
         let own = self.arena.id();
-        if self.source != source {
-            *said = arena_says(own, step, Word::Refused);
-            return Err(segment);
-        }
         let freed = self.arena.free(segment);
         *said = arena_says(own, step, word_of_free(&freed));
         freed
     }
 
-    /// Adds a span of its source to the arena with this number and quantum, and carves its first
-    /// units. Where another stands here, it is refused.
+    /// Adds a span of its source, and carves the span's first units. One of another arena is
+    /// refused.
     pub(crate) fn add_carve(
         &mut self,
         said: &mut Said,
         step: NextStep,
-        id: u32,
-        quantum: u64,
         span: Segment<SeatDeed<N>>,
         size: u64,
     ) -> Result<Segment<SeatDeed<N>>, SpanFault<Segment<SeatDeed<N>>>>
         requires some { 0 < size }
-        requires room { rounding_of quantum size ≤ span.holding.range.len }
+        requires room { rounding_of self.old.arena.quantum size ≤ span.holding.range.len }
         requires direct { span.route ≡ Route.Direct }
-        ensures sound { (nodes : List Node) → quantum_in nodes id ≡ quantum
-            → AnswersSoundly nodes (AddCarve id span size)
+        ensures sound { (nodes : List Node)
+            → quantum_in nodes self.old.arena.id ≡ self.old.arena.quantum
+            → AnswersSoundly nodes (AddCarve self.old.arena.id span size)
             (wording_of GivenFault.Refused result) }
-        ensures said { self.old.arena.id ≡ id → said.new ≡ arena_said id step (span_word result) }
+        ensures said { said.new ≡ arena_said self.old.arena.id step (span_word result) }
         ensures event { IfOk result (λ t.
             ImportOf self.old.arena span (plain_of size) (Ok t) self.new.arena) }
         ensures refused { IfErr result (λ f. self.old.source ≡ Some span.arena
-            → self.old.arena.id ≡ id → self.old.arena.quantum ≡ quantum
             → RefusesSpan self.old.arena span.holding.range span f) }
         ensures rest { StaysButArena self.old self.new }
         ensures unchanged { OnErr result (self.new ≡ self.old) }
     {
         let own = self.arena.id();
         if self.source != Some(span.arena()) {
-            *said = arena_says(own, step, Word::Overlaps);
-            return Err(SpanFault::Overlaps(span));
-        }
-        if own != id || self.arena.quantum() != quantum {
             *said = arena_says(own, step, Word::Overlaps);
             return Err(SpanFault::Overlaps(span));
         }
@@ -286,18 +324,12 @@ impl<N: Name> ArenaPart<N> {
         carved
     }
 
-    /// The units of its free ranges and of its allocated ones; none where another arena stands
-    /// here.
-    pub(crate) fn units_of(&self, id: u32) -> (u128, u128)
-        ensures tells { ArenaTells id result.0 result.1 }
-        ensures free { self.now.arena.id ≡ id → result.0 ≡ units_held self.now.arena.free }
-        ensures allocated { self.now.arena.id ≡ id
-            → result.1 ≡ units_held (ranges_of self.now.arena.allocated) }
-        ensures other { self.now.arena.id ≢ id → (result.0 ≡ 0) × (result.1 ≡ 0) }
+    /// The units of its free ranges and of its allocated ones.
+    pub(crate) fn units(&self) -> (u128, u128)
+        ensures tells { ArenaTells self.now.arena.id result.0 result.1 }
+        ensures free { result.0 ≡ units_held self.now.arena.free }
+        ensures allocated { result.1 ≡ units_held (ranges_of self.now.arena.allocated) }
     {
-        if self.arena.id() != id {
-            return (0, 0);
-        }
         let report = self.arena.report();
         (report.free, report.allocated)
     }
@@ -321,25 +353,27 @@ impl<N: Name> ArenaPart<N> {
         Ok(())
     }
 
-    /// Opens a further root of this range for the arena with this number, adds its deed, and keeps
-    /// room for its end. Where another stands here, it is refused.
-    pub(crate) fn grow(&mut self, id: u32, range: Range) -> Result<Grown, GrowFault>
-        ensures of_arena { IsOfArena result }
+    /// Opens a further root of this range for it, adds its deed, and keeps room for its end.
+    pub(crate) fn grow(&mut self, range: Range) -> Result<Grown, GrowthRefused>
         ensures grown { OnOk result (PartGrew self.old range self.new) }
-        ensures told { IfOk result (IsGrowthBy id range) }
-        ensures refused { IfErr result (λ f. self.old.arena.id ≡ id
-            → RefusesGrow self.old range f) }
+        ensures told { IfOk result (IsGrowthBy self.old.arena.id range) }
+        ensures refused { IfErr result (IsRefusalBy self.old.arena.id range) }
+        ensures why { IfErr result (λ r. RefusesGrow self.old range r.fault) }
         ensures unchanged { OnErr result (self.new ≡ self.old) }
-        ensures mine { OnOk result (self.old.arena.id ≡ id) }
     {
-        if self.arena.id() != id {
-            return Err(GrowFault::NoMemory);
-        }
-        self.judge_growth(&range)?;
-        match self.open_root(range) {
-            Ok(()) => Ok(Grown { arena: id, range }),
-            Err(AllocError) => Err(GrowFault::NoMemory),
-        }
+        let arena = self.arena.id();
+        let fault = match self.judge_growth(&range) {
+            Ok(()) => match self.open_root(range) {
+                Ok(()) => return Ok(Grown { arena, range }),
+                Err(AllocError) => GrowFault::NoMemory,
+            },
+            Err(fault) => fault,
+        };
+        Err(GrowthRefused {
+            arena,
+            range,
+            fault,
+        })
     }
 
     /// Makes room for the end of one root more, opens the root, and adds its deed.
@@ -353,33 +387,29 @@ impl<N: Name> ArenaPart<N> {
         self.arena.grow(range, &mut self.roots)
     }
 
-    /// Moves the further roots of the arena with this number behind those that stand beside the
-    /// lock, and gives the list that has room for the ranges of all. It takes no memory. Nothing is
-    /// done where another stands here, or more stand beside the lock than it counts there.
+    /// Moves its further roots behind those that stand beside the lock, and gives the list that has
+    /// room for the ranges of all. It takes no memory. Nothing is done where more stand beside the
+    /// lock than it counts there.
     pub(crate) fn hand_over(
         &mut self,
         alloc: Global,
-        id: u32,
         to: &mut Vec<Root<N>>,
     ) -> Result<HandedOver, NotCounted>
-        ensures exactly { IsOk result
-            ↔ ((self.old.arena.id ≡ id) × (vec_len to.old ≤ self.old.beside)) }
+        ensures exactly { IsOk result ↔ (vec_len to.old ≤ self.old.beside) }
         ensures moved { OnOk result ((to.new.items ≡ to.old.items ++ self.old.roots.roots)
             × (self.new.roots.roots ≡ [])) }
-        ensures more { HasRootsMore id to.old.items to.new.items }
-        ensures room { IfOk result (IsHandedOver id to.new) }
+        ensures more { HasRootsMore self.old.arena.id to.old.items to.new.items }
+        ensures room { IfOk result (IsHandedOver self.old.arena.id to.new) }
         ensures arena { self.new.arena ≡ self.old.arena }
         ensures source { self.new.source ≡ self.old.source }
         ensures counted { OnOk result (self.new.beside ≡ 0) }
         ensures numbers { OnOk result (self.new.roots.left ≡ self.old.roots.left) }
-        ensures asked { IfErr result (λ asked. asked ≡ id) }
+        ensures asked { IfErr result (λ asked. asked ≡ self.old.arena.id) }
         ensures unchanged { OnErr result ((to.new.items ≡ to.old.items) × (self.new ≡ self.old)) }
     {
-        if self.arena.id() != id {
-            return Err(NotCounted { arena: id });
-        }
+        let arena = self.arena.id();
         if to.len() > self.beside {
-            return Err(NotCounted { arena: id });
+            return Err(NotCounted { arena });
         }
         // For its clause: which numbers the roots have.
         let _ = self.roots.left();
@@ -388,25 +418,19 @@ impl<N: Name> ArenaPart<N> {
             Ok(()) => self.beside = 0,
             Err(AllocError) => unreachable!(),
         }
-        Ok(HandedOver { arena: id, ranges })
+        Ok(HandedOver { arena, ranges })
     }
 
-    /// Takes out the lowest owned span that is wholly free, of the arena with this number; another
-    /// is left as it was.
-    pub(crate) fn remove_owned(&mut self, id: u32) -> Result<SeatDeed<N>, NoneWhole>
-        ensures mine { OnOk result (self.old.arena.id ≡ id) }
+    /// Takes out the lowest owned span that is wholly free.
+    pub(crate) fn remove_owned(&mut self) -> Result<SeatDeed<N>, NoneWhole>
         ensures taken { IfOk result (λ d. RemoveOf self.old.arena (Some d) self.new.arena) }
-        ensures none { OnErr result (self.old.arena.id ≡ id
-            → RemoveOf self.old.arena None self.new.arena) }
-        ensures asked { IfErr result (λ asked. asked ≡ id) }
-        ensures other { self.old.arena.id ≢ id → self.new.arena ≡ self.old.arena }
+        ensures none { OnErr result (RemoveOf self.old.arena None self.new.arena) }
+        ensures asked { IfErr result (λ asked. asked ≡ self.old.arena.id) }
         ensures rest { StaysButArena self.old self.new }
     {
-        if self.arena.id() != id {
-            return Err(NoneWhole { arena: id });
-        }
+        let arena = self.arena.id();
         let Some(deed) = self.arena.remove_owned() else {
-            return Err(NoneWhole { arena: id });
+            return Err(NoneWhole { arena });
         };
         Ok(deed)
     }

@@ -1,15 +1,15 @@
 //! A depot as its lock keeps it, and its exchanges with a CPU.
-ghost use Rattle.std.specs.Prelude.{◌≡◌, ◌≢◌, ◌<◌, [], IfSome};
-ghost use Rattle.std.specs.Prelude.{◌≤◌, ◌-◌, ◌^◌, true, false, None, min};
+ghost use Rattle.std.specs.Prelude.{◌≡◌, ◌↔◌, ◌<◌, [], IfErr, IfSome, IsOk};
+ghost use Rattle.std.specs.Prelude.{◌≤◌, ◌-◌, ◌^◌, true, false, min};
 ghost use Rattle.deed_core.specs.Covering.{units_tagged};
 ghost use Rattle.magazine_layer.specs.Magazines.{IsSize};
 ghost use Rattle.magazine_layer.specs.Depots.{new_depot, after_tick, after_resize, depot_rounds};
 ghost use Rattle.magazine_layer.specs.Calls.{DepotReapOf};
 ghost use Rattle.locked_parts.specs.Kinds.{IsOfKind};
-ghost use Rattle.locked_parts.specs.Saying.{IsOtherDepot, depot_said};
+ghost use Rattle.locked_parts.specs.Saying.{depot_said};
 ghost use Rattle.locked_parts.specs.Sums.{DepotTells};
 ghost use Rattle.locked_parts.specs.Swaps.{GivesFull, GivesEmpty, TakesFull};
-ghost use Rattle.locked_parts.specs.Walks.{IsResizeFor, IsTickFor};
+ghost use Rattle.locked_parts.specs.Walks.{IsResizeFor};
 ghost use Rattle.locked_parts.specs.Words.{given_word, full_word, empty_word, fresh_word};
 
 use crate::gates::NextStep;
@@ -58,32 +58,29 @@ impl Model for DepotSaid {
     ghost inverse = { λ s. record { kind = s.kind; step = s.step; word = s.word } };
 }
 
-/// That the depot of this quantum cache was asked to begin an interval, and whether it did. Only
-/// `KindDepot` makes one, where it is asked.
+/// That an interval began in the depot of this quantum cache. Only `KindDepot` makes one, where it
+/// did.
 #[derive(PartialEq, Eq, Debug, Drop)]
 pub(crate) struct TickSaid {
     kind: CacheKind,
-    begun: bool,
 }
 
 impl Model for TickSaid {
-    ghost use Rattle.locked_parts.specs.Walks.{TickSaidState};
+    ghost use Rattle.locked_parts.specs.declared.kinds.CacheKind.{CacheKind};
 
-    ghost Value = { TickSaidState };
+    ghost Value = { CacheKind };
 
-    ghost view = { λ s. record { kind = s.kind; begun = s.begun } };
+    ghost view = { λ s. s.kind };
 
-    ghost inverse = { λ s. record { kind = s.kind; begun = s.begun } };
+    ghost inverse = { λ k. record { kind = k } };
 }
 
-/// That the depot of this quantum cache was asked to keep magazines of this size from here on,
-/// whether it is the one that was meant, and whether it had smaller ones. Only `KindDepot` makes
-/// one, where it is asked.
+/// That the depot of this quantum cache was asked to keep magazines of this size from here on, and
+/// whether it had smaller ones. Only `KindDepot` makes one, where it is asked.
 #[derive(PartialEq, Eq, Debug, Drop)]
 pub(crate) struct ResizeSaid {
     kind: CacheKind,
     size: usize,
-    is_meant: bool,
     rose: bool,
 }
 
@@ -92,19 +89,9 @@ impl Model for ResizeSaid {
 
     ghost Value = { ResizeSaidState };
 
-    ghost view = { λ s. record {
-      kind = s.kind;
-      size = s.size;
-      is_meant = s.is_meant;
-      rose = s.rose;
-    } };
+    ghost view = { λ s. record { kind = s.kind; size = s.size; rose = s.rose } };
 
-    ghost inverse = { λ s. record {
-      kind = s.kind;
-      size = s.size;
-      is_meant = s.is_meant;
-      rose = s.rose;
-    } };
+    ghost inverse = { λ s. record { kind = s.kind; size = s.size; rose = s.rose } };
 }
 
 impl ResizeSaid {
@@ -116,6 +103,23 @@ impl ResizeSaid {
     }
 }
 
+/// That another depot was found than that of this cache, which was sought. Only `KindDepot` makes
+/// one, where it is looked at.
+#[derive(PartialEq, Eq, Debug, Drop)]
+pub(crate) struct OtherDepot {
+    sought: CacheKind,
+}
+
+impl Model for OtherDepot {
+    ghost use Rattle.locked_parts.specs.declared.kinds.CacheKind.{CacheKind};
+
+    ghost Value = { CacheKind };
+
+    ghost view = { λ o. o.sought };
+
+    ghost inverse = { λ k. record { sought = k } };
+}
+
 /// That it answered so.
 fn depot_says(kind: CacheKind, step: NextStep, word: Word) -> Said
     ensures { result ≡ depot_said kind step word }
@@ -124,17 +128,15 @@ fn depot_says(kind: CacheKind, step: NextStep, word: Word) -> Said
 }
 
 impl<D: Deed> KindDepot<D> {
-    /// Whether it is the depot of this quantum cache; another says that it is another.
-    pub(crate) fn is(&self, said: &mut Said, step: NextStep, kind: &CacheKind) -> bool
-        ensures here { result ≡ true → self.now.kind ≡ kind.now }
-        ensures other { result ≡ false → IsOtherDepot kind.now step said.new }
+    /// Looks whether it is the depot of this quantum cache.
+    pub(crate) fn look(&self, kind: &CacheKind) -> Result<(), OtherDepot>
+        ensures exactly { IsOk result ↔ (self.now.kind ≡ kind.now) }
+        ensures other { IfErr result (λ o. o ≡ kind.now) }
     {
-        let own = self.kind;
-        if own.is(kind) {
-            return true;
+        if !self.kind.is(kind) {
+            return Err(OtherDepot { sought: *kind });
         }
-        *said = depot_says(own, step, Word::Other);
-        false
+        Ok(())
     }
 
     /// A depot with no magazine.
@@ -238,69 +240,43 @@ impl<D: Deed> KindDepot<D> {
         }
     }
 
-    /// Begins an interval if it is the depot of this quantum cache; another is left as it was. It
-    /// says which one it is.
-    pub(crate) fn tick_of(&mut self, kind: &CacheKind) -> TickSaid
-        ensures own { result.kind ≡ self.old.kind }
-        ensures said { IsTickFor kind.now result }
-        ensures begun { self.old.kind ≡ kind.now → self.new.depot ≡ after_tick self.old.depot }
-        ensures other { self.old.kind ≢ kind.now → self.new ≡ self.old }
+    /// Begins an interval, and says which depot it is.
+    pub(crate) fn tick(&mut self) -> TickSaid
+        ensures said { result ≡ self.old.kind }
+        ensures begun { self.new.depot ≡ after_tick self.old.depot }
         ensures kind { self.new.kind ≡ self.old.kind }
     {
-        let own = self.kind;
-        let begun = own.is(kind);
-        if begun {
-            self.depot.tick();
-        }
-        TickSaid { kind: own, begun }
+        self.depot.tick();
+        TickSaid { kind: self.kind }
     }
 
-    /// Has magazines of this size from here on, if it is the depot of this quantum cache and had
-    /// smaller ones; another is left as it was. It says which one it is.
-    pub(crate) fn resize_of(&mut self, kind: &CacheKind, size: usize) -> ResizeSaid
+    /// Has magazines of this size from here on, if it had smaller ones, and says which depot it is
+    /// and whether it had.
+    pub(crate) fn resize(&mut self, size: usize) -> ResizeSaid
         requires { IsSize size }
-        ensures own { result.kind ≡ self.old.kind }
-        ensures said { IsResizeFor kind.now size result }
+        ensures said { IsResizeFor self.old.kind size result }
         ensures rose { result.rose ≡ true → (self.old.depot.size < size)
             × (self.new.depot ≡ after_resize size self.old.depot) }
-        ensures refused { result.rose ≡ false → self.old.kind ≡ kind.now
-            → size ≤ self.old.depot.size }
+        ensures refused { result.rose ≡ false → size ≤ self.old.depot.size }
         ensures unchanged { result.rose ≡ false → self.new ≡ self.old }
         ensures kind { self.new.kind ≡ self.old.kind }
     {
-        let own = self.kind;
-        if !own.is(kind) {
-            return ResizeSaid {
-                kind: own,
-                size,
-                is_meant: false,
-                rose: false,
-            };
-        }
         // For its clause: what is always so of a depot.
         let _ = self.depot.size();
         let rose = self.depot.resize(size).is_ok();
         ResizeSaid {
-            kind: own,
+            kind: self.kind,
             size,
-            is_meant: true,
             rose,
         }
     }
 
-    /// The units of its rounds where it is the depot of this quantum cache, or 2^128 - 1 where they
-    /// are more; another tells none. It takes constant time.
-    pub(crate) fn units_of(&self, kind: &CacheKind) -> u128
-        requires { 0 < kind.now.quantum }
-        ensures tells { DepotTells kind.now result }
-        ensures told { self.now.kind ≡ kind.now
-            → result ≡ min (units_tagged (depot_rounds self.now.depot)) (2 ^ 128 - 1) }
-        ensures other { self.now.kind ≢ kind.now → result ≡ 0 }
+    /// The units of its rounds, or 2^128 - 1 where they are more. It takes constant time.
+    pub(crate) fn units(&self) -> u128
+        ensures tells { DepotTells self.now.kind result }
+        ensures told { result ≡ min (units_tagged (depot_rounds self.now.depot)) (2 ^ 128 - 1) }
     {
-        if !self.kind.is(kind) {
-            return 0;
-        }
-        let chunk = u128::from(kind.number) * u128::from(kind.quantum);
+        let chunk = u128::from(self.kind.number) * u128::from(self.kind.quantum);
         self.depot.rounds().saturating_mul(chunk)
     }
 
@@ -314,26 +290,16 @@ impl<D: Deed> KindDepot<D> {
         self.depot.reap()
     }
 
-    /// The same of the depot of this quantum cache; another has none.
-    pub(crate) fn reap_of(
-        &mut self,
-        said: &mut Said,
-        step: NextStep,
-        kind: &CacheKind,
-    ) -> Option<Segment<D>>
-        ensures said { self.old.kind ≡ kind.now
-            → said.new ≡ depot_said kind.now step (given_word result) }
-        ensures chunk { IfSome result (IsOfKind kind.now) }
-        ensures reaped { self.old.kind ≡ kind.now
-            → DepotReapOf self.old.depot result self.new.depot }
-        ensures other { self.old.kind ≢ kind.now → (result ≡ None) × (self.new ≡ self.old) }
+    /// The same, asked at this step.
+    pub(crate) fn reap_at(&mut self, said: &mut Said, step: NextStep) -> Option<Segment<D>>
+        ensures said { said.new ≡ depot_said self.old.kind step (given_word result) }
+        ensures chunk { IfSome result (IsOfKind self.old.kind) }
+        ensures reaped { DepotReapOf self.old.depot result self.new.depot }
         ensures kind { self.new.kind ≡ self.old.kind }
     {
-        if !self.kind.is(kind) {
-            return None;
-        }
+        let own = self.kind;
         let round = self.reap();
-        *said = depot_says(*kind, step, word_of_given(&round));
+        *said = depot_says(own, step, word_of_given(&round));
         round
     }
 }

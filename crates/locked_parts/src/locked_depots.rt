@@ -4,18 +4,20 @@ ghost use Rattle.magazine_layer.specs.Magazines.{IsSize};
 
 use crate::depot_walks::Depots;
 use crate::kind_depots::{ResizeSaid, TickSaid};
+use crate::misplaced::Misplaced;
 use crate::parts::LockedParts;
 use deed_table::Name;
 use std::sync::Wait;
 
 /// The parts and the runtime, both lent, and what the depots said that were asked last to begin an
-/// interval, and for a size. Each call takes the lock of one depot, and no other.
+/// interval, and for a size, and which wasn't there last. Each call takes the lock of one depot.
 #[derive(Drop)]
 pub(crate) struct LockedDepots<'a, N: Name, R: Wait> {
     pub(crate) parts: &'a LockedParts<N>,
     pub(crate) rt: &'a R,
     pub(crate) ticked: Option<TickSaid>,
     pub(crate) resized: Option<ResizeSaid>,
+    pub(crate) missing: Option<Misplaced>,
 }
 
 impl<'a, N: Name, R: Wait> LockedDepots<'a, N, R> {
@@ -28,6 +30,7 @@ impl<'a, N: Name, R: Wait> LockedDepots<'a, N, R> {
             rt,
             ticked: None,
             resized: None,
+            missing: None,
         }
     }
 }
@@ -36,26 +39,32 @@ impl<N: Name, R: Wait> Depots for LockedDepots<'_, N, R> {
     ghost use Rattle.std.specs.Prelude.{◌≡◌};
     ghost use Rattle.locked_parts.specs.Walks.{SaysResize, SaysTick};
 
-    // What the depot is lies behind its lock: which one was asked, it says itself.
+    // Which depot was asked, it says itself.
     ghost ticks = { λ s arena cache t. (t.parts.now ≡ s.parts.now)
-        × SaysTick s.parts.now arena cache t.ticked };
+        × SaysTick s.parts.now arena cache t.ticked t.missing };
 
     ghost resizes = { λ s arena cache size rose t. (t.parts.now ≡ s.parts.now)
-        × SaysResize s.parts.now arena cache size rose t.resized };
+        × SaysResize s.parts.now arena cache size rose t.resized t.missing };
 
     fn tick(&mut self, arena: u32, cache: u8) {
-        if let Some((_, locked)) = self.parts.standing_cache(arena, cache) {
-            self.ticked = Some(locked.tick(self.rt));
+        match self.parts.reach_depot(self.rt, arena, cache) {
+            Ok(mut depot) => self.ticked = Some(depot.tick()),
+            Err(misplaced) => self.missing = Some(misplaced),
         }
     }
 
     fn resize(&mut self, arena: u32, cache: u8, size: usize) -> bool {
-        let Some((_, locked)) = self.parts.standing_cache(arena, cache) else {
-            return false;
-        };
-        let said = locked.resize(self.rt, size);
-        let rose = said.rose();
-        self.resized = Some(said);
-        rose
+        match self.parts.reach_depot(self.rt, arena, cache) {
+            Ok(mut depot) => {
+                let said = depot.resize(size);
+                let rose = said.rose();
+                self.resized = Some(said);
+                rose
+            }
+            Err(misplaced) => {
+                self.missing = Some(misplaced);
+                false
+            }
+        }
     }
 }

@@ -1,8 +1,8 @@
 //! The events of arenas, slabs and depots in a parts. Each takes one lock; which magazines the CPU
 //! has plays no part.
-ghost use Rattle.std.specs.Prelude.{◌≡◌, ◌<◌, ◌≤◌, ◌%◌, [], Some, length};
+ghost use Rattle.std.specs.Prelude.{◌≡◌, ◌<◌, ◌≤◌, ◌%◌, [], length};
 ghost use Rattle.deed_core.specs.Request.{rounding_of};
-ghost use Rattle.arena_tree.specs.Chains.{source_of, quantum_in};
+ghost use Rattle.arena_tree.specs.Chains.{quantum_in};
 ghost use Rattle.arena_tree.specs.Events.{Carve, Free, AddCarve, SlabTake, SlabPut, SlabAdd};
 ghost use Rattle.arena_tree.specs.Events.{SlabReap, DepotReap};
 ghost use Rattle.arena_tree.specs.Trees.{nodes_of};
@@ -13,7 +13,7 @@ use crate::gates::NextStep;
 use crate::parts::LockedParts;
 use crate::said::Said;
 use crate::slab_parts::{add_slab, cache_number, put_chunk, reap_slab, take_chunk};
-use arena_tree::{GivenFault, PartFault, Stopped, Tree};
+use arena_tree::{GivenFault, PartFault, Stopped};
 use deed_core::{Request, Route, Segment};
 use deed_table::{Name, SeatDeed};
 use slab_layer::{AddFault, PutFault};
@@ -34,22 +34,16 @@ pub(crate) fn carve_in<N: Name, R: Wait>(
     ensures sound { AnswersSoundly (nodes_of parts.now.arenas) (Carve arena request.now) result }
     ensures said { CameBy parts.now [] step (Carve arena request.now) result said.new }
 {
-    let quantum = parts.tree().quantum(arena);
-    let Some(mut part) = parts.reach_arena(rt, said, step, arena) else {
-        if request.is_good(quantum) {
-            return Err(PartFault::Refused(ArenaFault::NoMemory));
+    match parts.reach_arena(rt, arena) {
+        Ok(mut part) => PartFault::wrap(part.carve(said, step, request)),
+        Err(misplaced) => {
+            *said = Said::Missing(misplaced);
+            if request.is_good(parts.tree().quantum(arena)) {
+                return Err(PartFault::Refused(ArenaFault::NoMemory));
+            }
+            Err(PartFault::Refused(ArenaFault::BadRequest))
         }
-        return Err(PartFault::Refused(ArenaFault::BadRequest));
-    };
-    PartFault::wrap(part.carve(said, step, arena, quantum, request))
-}
-
-/// The source of an arena.
-fn source_in(tree: &Tree, arena: u32) -> Option<u32>
-    requires { arena < length tree.now }
-    ensures { source_of (nodes_of tree.now) arena ≡ result }
-{
-    tree.arena(arena).source
+    }
 }
 
 /// Frees a segment in its arena.
@@ -64,11 +58,13 @@ pub(crate) fn free_in<N: Name, R: Wait>(
     ensures sound { AnswersSoundly (nodes_of parts.now.arenas) (Free segment) result }
     ensures said { CameBy parts.now [] step (Free segment) result said.new }
 {
-    let Some(mut part) = parts.reach_arena(rt, said, step, segment.arena()) else {
-        return Err(GivenFault::Refused(segment));
-    };
-    let source = source_in(parts.tree(), segment.arena());
-    GivenFault::wrap(part.free(said, step, source, segment))
+    match parts.reach_arena(rt, segment.arena()) {
+        Ok(mut part) => GivenFault::wrap(part.free(said, step, segment)),
+        Err(misplaced) => {
+            *said = Said::Missing(misplaced);
+            Err(GivenFault::Refused(segment))
+        }
+    }
 }
 
 /// Adds a span that the arena imports, and carves its first units.
@@ -90,11 +86,13 @@ pub(crate) fn add_carve_in<N: Name, R: Wait>(
     ensures sound { AnswersSoundly (nodes_of parts.now.arenas) (AddCarve child span size) result }
     ensures said { CameBy parts.now [] step (AddCarve child span size) result said.new }
 {
-    let quantum = parts.tree().quantum(child);
-    let Some(mut part) = parts.reach_arena(rt, said, step, child) else {
-        return Err(GivenFault::Refused(SpanFault::Overlaps(span)));
-    };
-    GivenFault::wrap(part.add_carve(said, step, child, quantum, span, size))
+    match parts.reach_arena(rt, child) {
+        Ok(mut part) => GivenFault::wrap(part.add_carve(said, step, span, size)),
+        Err(misplaced) => {
+            *said = Said::Missing(misplaced);
+            Err(GivenFault::Refused(SpanFault::Overlaps(span)))
+        }
+    }
 }
 
 /// Takes a chunk out of a slab of the cache.
@@ -110,10 +108,13 @@ pub(crate) fn slab_take_in<N: Name, R: Wait>(
     ensures sound { AnswersSoundly (nodes_of parts.now.arenas) (SlabTake arena cache) result }
     ensures said { CameBy parts.now [] step (SlabTake arena cache) result said.new }
 {
-    let Some((kind, mut slab)) = parts.reach_slabs(rt, said, step, arena, cache) else {
-        return Ok(None);
-    };
-    Ok(take_chunk(&mut slab, said, step, &kind))
+    match parts.reach_slabs(rt, arena, cache) {
+        Ok((kind, mut slab)) => Ok(take_chunk(&mut slab, said, step, &kind)),
+        Err(misplaced) => {
+            *said = Said::Missing(misplaced);
+            Ok(None)
+        }
+    }
 }
 
 /// Puts a chunk back into its slab.
@@ -129,10 +130,15 @@ pub(crate) fn slab_put_in<N: Name, R: Wait>(
     ensures said { CameBy parts.now [] step (SlabPut segment) result said.new }
 {
     let number = cache_number(segment.route());
-    let Some((kind, mut slab)) = parts.reach_slabs(rt, said, step, segment.arena(), number) else {
-        return Err(GivenFault::Refused(PutFault::NotMine(segment)));
-    };
-    GivenFault::wrap(put_chunk(&mut slab, said, step, &kind, segment))
+    match parts.reach_slabs(rt, segment.arena(), number) {
+        Ok((kind, mut slab)) => {
+            GivenFault::wrap(put_chunk(&mut slab, said, step, &kind, segment))
+        }
+        Err(misplaced) => {
+            *said = Said::Missing(misplaced);
+            Err(GivenFault::Refused(PutFault::NotMine(segment)))
+        }
+    }
 }
 
 /// Makes a slab of the span, and takes its first chunk.
@@ -152,10 +158,13 @@ pub(crate) fn slab_add_in<N: Name, R: Wait>(
     ensures sound { AnswersSoundly (nodes_of parts.now.arenas) (SlabAdd arena cache span) result }
     ensures said { CameBy parts.now [] step (SlabAdd arena cache span) result said.new }
 {
-    let Some((kind, mut slab)) = parts.reach_slabs(rt, said, step, arena, cache) else {
-        return Err(GivenFault::Refused(AddFault::WrongSize(span)));
-    };
-    GivenFault::wrap(add_slab(&mut slab, said, step, &kind, span))
+    match parts.reach_slabs(rt, arena, cache) {
+        Ok((kind, mut slab)) => GivenFault::wrap(add_slab(&mut slab, said, step, &kind, span)),
+        Err(misplaced) => {
+            *said = Said::Missing(misplaced);
+            Err(GivenFault::Refused(AddFault::WrongSize(span)))
+        }
+    }
 }
 
 /// Takes a slab out of which no chunk is.
@@ -171,10 +180,13 @@ pub(crate) fn slab_reap_in<N: Name, R: Wait>(
     ensures sound { AnswersSoundly (nodes_of parts.now.arenas) (SlabReap arena cache) result }
     ensures said { CameBy parts.now [] step (SlabReap arena cache) result said.new }
 {
-    let Some((kind, mut slab)) = parts.reach_slabs(rt, said, step, arena, cache) else {
-        return Ok(None);
-    };
-    Ok(reap_slab(&mut slab, said, step, &kind))
+    match parts.reach_slabs(rt, arena, cache) {
+        Ok((kind, mut slab)) => Ok(reap_slab(&mut slab, said, step, &kind)),
+        Err(misplaced) => {
+            *said = Said::Missing(misplaced);
+            Ok(None)
+        }
+    }
 }
 
 /// Takes a round that the depot may let go.
@@ -190,8 +202,11 @@ pub(crate) fn depot_reap_in<N: Name, R: Wait>(
     ensures sound { AnswersSoundly (nodes_of parts.now.arenas) (DepotReap arena cache) result }
     ensures said { CameBy parts.now [] step (DepotReap arena cache) result said.new }
 {
-    let Some((kind, mut depot)) = parts.reach_depot(rt, said, step, arena, cache) else {
-        return Ok(None);
-    };
-    Ok(depot.reap_of(said, step, &kind))
+    match parts.reach_depot(rt, arena, cache) {
+        Ok(mut depot) => Ok(depot.reap_at(said, step)),
+        Err(misplaced) => {
+            *said = Said::Missing(misplaced);
+            Ok(None)
+        }
+    }
 }

@@ -8,15 +8,14 @@ ghost use Rattle.locked_parts.specs.News.{BeginsAsSet};
 
 use crate::kind_depots::KindDepot;
 use crate::kinds::CacheKind;
+use crate::locked_caches::LockedCache;
 use crate::not_empty::end_depot;
 use crate::own_caches::FIRST_SIZE;
-use crate::parts::LockedCache;
 use arena_tree::{Tree, TreeArena};
 use deed_table::{Name, SeatDeed};
 use slab_layer::SlabCache;
 use std::alloc::Global;
 use std::marker::Model;
-use std::sync::Mutex;
 
 /// A quantum cache with no slab and no magazine.
 pub(crate) struct NewCache<N: Name> {
@@ -49,11 +48,7 @@ impl<N: Name> NewCache<N> {
         ensures { result ≡ self.kind }
     {
         let NewCache { slab, depot } = self;
-        LockedCache {
-            kind: depot.kind(),
-            slab: Mutex::new(slab),
-            depot: Mutex::new(depot),
-        }
+        LockedCache::new(slab, depot)
     }
 
     /// Ends it with nothing in it.

@@ -12,11 +12,12 @@ use crate::locked_events::{
     slab_take_in,
 };
 use crate::magazine_sets::{end_rounds, new_rounds};
+use crate::misplaced::PartName;
 use crate::new_arenas::NewArena;
 use crate::own_events::{swap_empty_in, swap_fresh_in, swap_full_in};
 use crate::parts::LockedParts;
 use crate::said::Said;
-use arena_tree::{GivenFault, GrowFault, NewRoot, Setting, Setup};
+use arena_tree::{GivenFault, GrowFault, NewRoot, PartFault, Setting, Setup};
 use deed_core::{Range, Request, Route, Segment};
 use deed_table::{Ground, Name, Root, SeatDeed, close};
 use lease_terms::ArenaName;
@@ -25,7 +26,7 @@ use std::marker::Brand;
 use std::process::Abort;
 use std::sync::Wait;
 use std::test::Fail;
-use tag_arena::{Policy, SpanFault};
+use tag_arena::{ArenaFault, Policy, SpanFault};
 
 /// The step at which each part is asked.
 const FIRST: NextStep = NextStep {
@@ -77,9 +78,11 @@ fn events_of<N: Name, R: Abort + Wait + AllocGlobal>(rt: &R, ground: Ground, set
     of_slabs(rt, &parts);
     of_depot(rt, &parts);
     close_all(rt, &parts, roots);
+    assert!(rt; parts.misplaced(rt).is_none());
     if parts.end_arenas().is_err() {
         stuck(rt, parts)
     }
+    of_none(rt, &parts);
     parts.end();
 }
 
@@ -125,18 +128,17 @@ fn freed<N: Name, R: Abort + Wait>(rt: &R, parts: &LockedParts<N>, segment: Segm
 fn of_arena<N: Name, R: Abort + Wait>(rt: &R, parts: &LockedParts<N>)
     requires { 0 < length parts.now.arenas }
 {
-    let Some((_, locked)) = parts.standing_cache(0, 1) else {
+    let (Ok(_slabs), Ok(_depot)) = (parts.reach_slabs(rt, 0, 1), parts.reach_depot(rt, 0, 1)) else {
         panic!(rt; "no cache")
     };
-    let _slabs = locked.slab.lock(rt);
-    let _depot = locked.depot.lock(rt);
     let segment = carved(rt, parts);
     match add_carve_in(parts, rt, &mut Said::Nothing, FIRST, 0, segment, 16) {
         Err(GivenFault::Refused(SpanFault::Overlaps(segment))) => freed(rt, parts, segment),
         held => stuck(rt, held),
     }
     let over = Range::new(60, 8).expect(rt, "a range");
-    assert!(rt; parts.grow(rt, 0, over) == Err(GrowFault::Overlaps));
+    let refused = parts.grow(rt, 0, over);
+    assert!(rt; refused.is_err_and(|why| why.fault() == GrowFault::Overlaps));
     let beside = Range::new(64, 8).expect(rt, "a range");
     assert!(rt; parts.grow(rt, 0, beside).is_ok());
 }
@@ -160,13 +162,9 @@ fn through_slabs<N: Name, R: Abort + Wait>(
     requires direct { span.route ≡ Route.Direct }
     requires grid { span.holding.range.base % quantum_in (nodes_of parts.now.arenas) 0 ≡ 0 }
 {
-    let (Some(arena), Some((_, locked))) = (parts.arenas.first(), parts.standing_cache(0, 1)) else {
+    let (Ok(_arena), Ok(_depot)) = (parts.reach_arena(rt, 0), parts.reach_depot(rt, 0, 1)) else {
         stuck(rt, span)
     };
-    let Some(_arena) = arena.reach(rt, &mut Said::Nothing, FIRST) else {
-        stuck(rt, span)
-    };
-    let _depot = locked.depot.lock(rt);
     match slab_add_in(parts, rt, &mut Said::Nothing, FIRST, 0, 1, span) {
         Ok(chunk) => put(rt, parts, chunk),
         held => stuck(rt, held),
@@ -193,13 +191,9 @@ fn put<N: Name, R: Abort + Wait>(rt: &R, parts: &LockedParts<N>, chunk: Segment<
 fn of_depot<N: Name, R: Abort + Wait + AllocGlobal>(rt: &R, parts: &LockedParts<N>)
     requires { 0 < length parts.now.arenas }
 {
-    let (Some(arena), Some((_, locked))) = (parts.arenas.first(), parts.standing_cache(0, 1)) else {
+    let (Ok(_arena), Ok(_slabs)) = (parts.reach_arena(rt, 0), parts.reach_slabs(rt, 0, 1)) else {
         panic!(rt; "no cache")
     };
-    let Some(_arena) = arena.reach(rt, &mut Said::Nothing, FIRST) else {
-        panic!(rt; "another arena")
-    };
-    let _slabs = locked.slab.lock(rt);
     let Ok(mut caches) = new_rounds::<N>(rt.alloc(), parts.tree()) else {
         panic!(rt; "memory")
     };
@@ -217,4 +211,28 @@ fn of_depot<N: Name, R: Abort + Wait + AllocGlobal>(rt: &R, parts: &LockedParts<
     }
     let _ = parts.tick(rt);
     assert!(rt; parts.resize(rt, 0, 7).rose());
+}
+
+/// An arena that is ended isn't where it was set up: the first part that was looked for is kept.
+fn of_none<N: Name, R: Abort + Wait>(rt: &R, parts: &LockedParts<N>)
+    requires { 0 < length parts.now.arenas }
+{
+    let mut said = Said::Nothing;
+    match slab_take_in(parts, rt, &mut said, FIRST, 0, 1) {
+        Ok(None) => {}
+        Ok(Some(chunk)) => stuck(rt, chunk),
+        Err(_) => panic!(rt; "stopped"),
+    }
+    match carve_in(parts, rt, &mut said, FIRST, 0, &Request::plain(16)) {
+        Ok(segment) => stuck(rt, segment),
+        Err(fault) => assert!(rt; fault == PartFault::Refused(ArenaFault::NoMemory)),
+    }
+    let Said::Missing(misplaced) = said else {
+        panic!(rt; "another answer")
+    };
+    assert!(rt; misplaced.arena() == 0 && misplaced.part() == PartName::Arena);
+    let Some(first) = parts.misplaced(rt) else {
+        panic!(rt; "none kept")
+    };
+    assert!(rt; first.arena() == 0 && first.part() == PartName::Slabs(1));
 }

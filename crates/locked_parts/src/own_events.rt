@@ -144,10 +144,13 @@ pub(crate) fn swap_full_in<N: Name, R: Wait>(
     let Some(own) = own_at(parts, caches, arena, cache) else {
         return Err(PartFault::Refused(FullFault::NoneFull));
     };
-    let Some((_, mut depot)) = parts.reach_depot(rt, said, step, arena, cache) else {
-        return Err(PartFault::Refused(FullFault::NoneFull));
-    };
-    PartFault::wrap(depot.swap_full(said, step, &mut caches[own]))
+    match parts.reach_depot(rt, arena, cache) {
+        Ok(mut depot) => PartFault::wrap(depot.swap_full(said, step, &mut caches[own])),
+        Err(misplaced) => {
+            *said = Said::Missing(misplaced);
+            Err(PartFault::Refused(FullFault::NoneFull))
+        }
+    }
 }
 
 /// Exchanges a full magazine for an empty one of the depot.
@@ -171,10 +174,13 @@ pub(crate) fn swap_empty_in<N: Name, R: Wait>(
     let Some(own) = own_at(parts, caches, arena, cache) else {
         return Err(PartFault::Refused(EmptyFault::NoneEmpty));
     };
-    let Some((_, mut depot)) = parts.reach_depot(rt, said, step, arena, cache) else {
-        return Err(PartFault::Refused(EmptyFault::NoneEmpty));
-    };
-    PartFault::wrap(depot.swap_empty(said, step, &mut caches[own]))
+    match parts.reach_depot(rt, arena, cache) {
+        Ok(mut depot) => PartFault::wrap(depot.swap_empty(said, step, &mut caches[own])),
+        Err(misplaced) => {
+            *said = Said::Missing(misplaced);
+            Err(PartFault::Refused(EmptyFault::NoneEmpty))
+        }
+    }
 }
 
 /// Exchanges a full magazine for one that is made. No memory is asked for where they aren't full.
@@ -205,9 +211,14 @@ pub(crate) fn swap_fresh_in<N: Name, R: Wait>(
     let Ok(magazine) = Magazine::new(parts.alloc, size) else {
         return Err(PartFault::Refused(FreshFault::NoMemory));
     };
-    let Some((_, mut depot)) = parts.reach_depot(rt, said, step, arena, cache) else {
-        end_empty(magazine);
-        return Err(PartFault::Refused(FreshFault::NotFull));
-    };
-    PartFault::wrap(depot.swap_fresh(said, step, &mut caches[own], magazine))
+    match parts.reach_depot(rt, arena, cache) {
+        Ok(mut depot) => {
+            PartFault::wrap(depot.swap_fresh(said, step, &mut caches[own], magazine))
+        }
+        Err(misplaced) => {
+            end_empty(magazine);
+            *said = Said::Missing(misplaced);
+            Err(PartFault::Refused(FreshFault::NotFull))
+        }
+    }
 }

@@ -2,7 +2,7 @@
 ghost use Rattle.std.specs.Prelude.{◌<◌, length};
 ghost use Rattle.locked_parts.specs.Sums.{AddsUp, ArenaTells, SumsOf};
 
-use crate::kinds::{CacheKind, cache_count};
+use crate::kinds::cache_count;
 use crate::parts::LockedParts;
 use crate::slab_parts::slab_units;
 use deed_table::Name;
@@ -48,34 +48,29 @@ pub(crate) fn sum_caches<C: CacheUnits>(caches: &C, count: u8) -> u128
     units
 }
 
-/// The slabs of an arena with this number and quantum, each under its lock.
+/// The slabs of the arena with this number, each under its lock.
 #[derive(Drop)]
 struct LockedSlabs<'a, N: Name, R: Wait> {
     parts: &'a LockedParts<N>,
     rt: &'a R,
     arena: u32,
-    quantum: u64,
-    ghost some: { 0 < quantum },
+    ghost within: { arena < length parts.now.arenas },
 }
 
 impl<N: Name, R: Wait> CacheUnits for LockedSlabs<'_, N, R> {
+    ghost use Rattle.locked_parts.specs.Owns.{cache_of};
     ghost use Rattle.locked_parts.specs.Sums.{SlabsTell};
 
-    ghost tells = { λ s cache units.
-        SlabsTell (record { arena = s.arena; number = cache; quantum = s.quantum }) units };
+    ghost tells = { λ s cache units. SlabsTell (cache_of s.parts.now.arenas s.arena cache) units };
 
     #[tactic(auto, using(crate::proofs::Sums::no_slabs))]
     fn units(&self, cache: u8) -> u128 {
-        let kind = CacheKind {
-            arena: self.arena,
-            number: cache,
-            quantum: self.quantum,
-        };
-        let Some((_, locked)) = self.parts.standing_cache(self.arena, cache) else {
-            return 0;
-        };
-        let slab = locked.slab.lock(self.rt);
-        slab_units(&slab, &kind)
+        // For its clause, here and below: no quantum is 0.
+        let _ = self.parts.tree().quantum(self.arena);
+        match self.parts.reach_slabs(self.rt, self.arena, cache) {
+            Ok((kind, slab)) => slab_units(&slab, &kind),
+            Err(_) => 0,
+        }
     }
 }
 
@@ -85,27 +80,22 @@ struct LockedRounds<'a, N: Name, R: Wait> {
     parts: &'a LockedParts<N>,
     rt: &'a R,
     arena: u32,
-    quantum: u64,
-    ghost some: { 0 < quantum },
+    ghost within: { arena < length parts.now.arenas },
 }
 
 impl<N: Name, R: Wait> CacheUnits for LockedRounds<'_, N, R> {
+    ghost use Rattle.locked_parts.specs.Owns.{cache_of};
     ghost use Rattle.locked_parts.specs.Sums.{DepotTells};
 
-    ghost tells = { λ s cache units.
-        DepotTells (record { arena = s.arena; number = cache; quantum = s.quantum }) units };
+    ghost tells = { λ s cache units. DepotTells (cache_of s.parts.now.arenas s.arena cache) units };
 
     #[tactic(auto, using(crate::proofs::Sums::no_rounds))]
     fn units(&self, cache: u8) -> u128 {
-        let kind = CacheKind {
-            arena: self.arena,
-            number: cache,
-            quantum: self.quantum,
-        };
-        let Some((_, locked)) = self.parts.standing_cache(self.arena, cache) else {
-            return 0;
-        };
-        locked.depot.lock(self.rt).units_of(&kind)
+        let _ = self.parts.tree().quantum(self.arena);
+        match self.parts.reach_depot(self.rt, self.arena, cache) {
+            Ok(depot) => depot.units(),
+            Err(_) => 0,
+        }
     }
 }
 
@@ -113,28 +103,25 @@ impl<N: Name> LockedParts<N> {
     /// The sums of the arena's parts: its own lock is taken first, then that of the slabs of each
     /// of its caches, one after another, and of each depot. What is told of a part was so at some
     /// moment under its lock, so that these are sums of different moments; nothing stops for it.
-    /// Of a part that is ended nothing is told, as of an empty one. The clause says of each number
-    /// that some part of this arena or cache has it: that it is this one, at a moment of the call,
-    /// no clause can say of what lies under a lock.
+    /// Of a part that isn't there nothing is told, as of an empty one. The clause says of each
+    /// number that some part of this arena or cache has it: that it is this one, at a moment of the
+    /// call, no clause can say of what lies under a lock.
     pub fn sums<R: Wait>(&self, rt: &R, arena: u32) -> PartSums
         requires { arena < length self.now.arenas }
         ensures { SumsOf self.now.arenas arena result }
     {
-        let quantum = self.tree.quantum(arena);
         let count = cache_count(&self.tree, arena);
         let (free, allocated) = self.arena_units(rt, arena);
         let slabs = LockedSlabs {
             parts: self,
             rt,
             arena,
-            quantum,
         };
         let slab = sum_caches(&slabs, count);
         let rounds = LockedRounds {
             parts: self,
             rt,
             arena,
-            quantum,
         };
         let magazine = sum_caches(&rounds, count);
         PartSums {
@@ -149,8 +136,8 @@ impl<N: Name> LockedParts<N> {
     fn arena_units<R: Wait>(&self, rt: &R, arena: u32) -> (u128, u128)
         ensures { ArenaTells arena result.0 result.1 }
     {
-        match self.standing(arena) {
-            Ok(locked) => locked.units(rt),
+        match self.reach_arena(rt, arena) {
+            Ok(part) => part.units(),
             Err(_) => (0, 0),
         }
     }

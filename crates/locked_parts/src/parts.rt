@@ -1,45 +1,27 @@
 //! The parts of a system, each under its lock.
-ghost use Rattle.std.specs.Prelude.{◌≡◌, ◌+◌, ◌<◌, ◌≤◌, ◌↔◌, IfErr, IfSome, IsOk, OnErr, OnOk};
-ghost use Rattle.std.specs.Prelude.{IfOk, IfNone, Err, length, true};
-ghost use Rattle.arena_tree.specs.Chains.{quantum_in};
-ghost use Rattle.arena_tree.specs.Trees.{nodes_of};
+ghost use Rattle.std.specs.Prelude.{◌≡◌, ◌+◌, ◌<◌, ◌↔◌, IfErr, IfOk, IfSome, IsSome, OnErr, OnSome};
+ghost use Rattle.std.specs.Prelude.{Some, length, slice_get, true};
 ghost use Rattle.locked_parts.specs.Kinds.{count_of_caches, caches_before, AreCachesBefore};
-ghost use Rattle.locked_parts.specs.Growing.{AnswersGrow, HasRootsMore, IsGrowthBy, IsRootArena};
-ghost use Rattle.locked_parts.specs.Growing.{MayRefuseGrow};
+ghost use Rattle.locked_parts.specs.GrowAnswers.{AnswersGrow, IsMissed, grow_fault};
+ghost use Rattle.locked_parts.specs.Growing.{HasRootsMore};
 ghost use Rattle.locked_parts.specs.Handing.{IsHandedOver, IsNotHandedOver, IsNotTaken};
 ghost use Rattle.locked_parts.specs.News.{StandAsSet};
-ghost use Rattle.locked_parts.specs.Walks.{IsResizeFor, IsResizedFor, IsTickFor};
+ghost use Rattle.locked_parts.specs.States.{StandsInPlace};
+ghost use Rattle.locked_parts.specs.Walks.{IsResizedFor};
 ghost use Rattle.magazine_layer.specs.Magazines.{IsSize};
 
-use crate::arena_parts::{Grown, HandedOver, NoneWhole, NotCounted};
+use crate::arena_parts::{Grown, GrowthRefused, HandedOver, NoneWhole, NotCounted};
 use crate::depot_walks::{Interval, Resized, resize_each, tick_each};
-use crate::kind_depots::{KindDepot, ResizeSaid, TickSaid};
-use crate::kinds::{CacheKind, cache_count};
+use crate::kinds::cache_count;
 use crate::locked_arenas::LockedArena;
 use crate::locked_depots::LockedDepots;
+use crate::misplaced::{Alarm, Misplaced};
 use arena_tree::{GrowFault, MOST_ARENAS, Tree};
 use deed_core::Range;
 use deed_table::{Name, Root, SeatDeed};
-use slab_layer::SlabCache;
 use std::alloc::Global;
 use std::marker::Model;
-use std::sync::{Mutex, Wait};
-
-/// A quantum cache: its slabs and its depot, each under its lock. A contract sees which it was made
-/// as.
-pub(crate) struct LockedCache<N: Name> {
-    pub(crate) kind: CacheKind,
-    pub(crate) slab: Mutex<SlabCache<SeatDeed<N>>>,
-    pub(crate) depot: Mutex<KindDepot<SeatDeed<N>>>,
-}
-
-impl<N: Name> Model for LockedCache<N> {
-    ghost use Rattle.locked_parts.specs.declared.kinds.CacheKind.{CacheKind};
-
-    ghost Value = { CacheKind };
-
-    ghost view = { λ c. c.kind };
-}
+use std::sync::Wait;
 
 /// Arenas with their quantum caches, each part under a lock of its own. A contract sees the arenas
 /// as they were set up, and those that stand, which are the first ones.
@@ -49,10 +31,11 @@ pub struct LockedParts<N: Name> {
     /// How many quantum caches the arenas before each have.
     pub(crate) caches_before: [usize; MOST_ARENAS],
     pub(crate) arenas: Vec<LockedArena<N>>,
+    pub(crate) alarm: Alarm,
 }
 
 impl<N: Name> Model for LockedParts<N> {
-    ghost use Rattle.std.specs.Prelude.{vec_len};
+    ghost use Rattle.std.specs.Prelude.{◌≤◌, length, vec_len};
     ghost use Rattle.locked_parts.specs.Kinds.{AreCachesBefore};
     ghost use Rattle.locked_parts.specs.States.{AreInPlace, LockedPartsState};
 
@@ -61,25 +44,8 @@ impl<N: Name> Model for LockedParts<N> {
     ghost view = { λ p.
         record { arenas = p.tree; standing = vec_len p.arenas; stand = p.arenas.items } };
 
-    ghost invariant = { λ p. AreCachesBefore p.tree p.caches_before × AreInPlace p.arenas.items };
-}
-
-impl<N: Name> LockedCache<N> {
-    /// Begins an interval in its depot, which says whether it is that.
-    pub(crate) fn tick<R: Wait>(&self, rt: &R) -> TickSaid
-        ensures { IsTickFor self.now result }
-    {
-        self.depot.lock(rt).tick_of(&self.kind)
-    }
-
-    /// Has its depot keep magazines of this size from here on, which says whether it is that and
-    /// had smaller ones.
-    pub(crate) fn resize<R: Wait>(&self, rt: &R, size: usize) -> ResizeSaid
-        requires { IsSize size }
-        ensures { IsResizeFor self.now size result }
-    {
-        self.depot.lock(rt).resize_of(&self.kind, size)
-    }
+    ghost invariant = { λ p. AreCachesBefore p.tree p.caches_before
+        × AreInPlace p.tree p.arenas.items × (vec_len p.arenas ≤ length p.tree) };
 }
 
 impl<N: Name> LockedParts<N> {
@@ -97,6 +63,7 @@ impl<N: Name> LockedParts<N> {
             tree,
             caches_before,
             arenas,
+            alarm: Alarm::new(),
         }
     }
 
@@ -146,40 +113,33 @@ impl<N: Name> LockedParts<N> {
     }
 
     /// Opens a further root of this range for the arena with this number, and adds its deed, under
-    /// the arena's lock and no other: `Overlaps` where the range has a unit in common with a span
-    /// of the arena, `NotAligned` where it isn't in whole quanta, `TooMany` where the arena has no
-    /// root number left, `NoMemory` else, in this order. A root that is opened is always added, and
-    /// there is room for its end. Its number is the least of the arena's numbers that wasn't used.
-    pub fn grow<R: Wait>(&self, rt: &R, arena: u32, range: Range) -> Result<Grown, GrowFault>
-        ensures answers { AnswersGrow self.now.arenas arena result }
-        ensures grown { IfOk result (IsGrowthBy arena range) }
-    {
-        match self.root_arena(arena)? {
-            Some(locked) => locked.grow(rt, range),
-            None => Err(GrowFault::NoMemory),
-        }
-    }
-
-    /// The arena with this number, which has to be a root; None where it is ended.
-    fn root_arena(&self, arena: u32) -> Result<Option<&LockedArena<N>>, GrowFault>
-        ensures root { OnOk result (IsRootArena self.now.arenas arena) }
-        ensures here { IfOk result (λ it. IfSome it (λ locked. locked.now.number ≡ arena)) }
-        ensures ended { IfOk result (λ it. IfNone it (self.now.standing ≤ arena)) }
-        ensures refused { IfErr result (MayRefuseGrow self.now.arenas arena) }
+    /// the arena's lock and no other. The arena refuses it as `Overlaps` where the range has a unit
+    /// in common with a span of the arena, `NotAligned` where it isn't in whole quanta, `TooMany`
+    /// where it has no root number left, `NoMemory` else, in this order. A root that is opened is
+    /// always added, and there is room for its end. Its number is the least of the arena's numbers
+    /// that wasn't used.
+    pub fn grow<R: Wait>(&self, rt: &R, arena: u32, range: Range) -> Result<Grown, NotGrown>
+        ensures answers { AnswersGrow self.now.arenas arena range result }
+        ensures missing { IfErr result (IsMissed self.now arena) }
     {
         if arena as usize >= self.tree.len() {
-            return Err(GrowFault::NoArena);
+            return Err(NotGrown::NoArena);
         }
         if self.tree.arena(arena).source.is_some() {
-            return Err(GrowFault::NotRoot);
+            return Err(NotGrown::NotRoot);
         }
-        Ok(self.standing(arena).ok())
+        match self.reach_arena(rt, arena) {
+            Ok(mut part) => match part.grow(range) {
+                Ok(grown) => Ok(grown),
+                Err(refused) => Err(NotGrown::Refused(refused)),
+            },
+            Err(misplaced) => Err(NotGrown::Misplaced(misplaced)),
+        }
     }
 
     /// Moves the further roots of the arena with this number behind those that it was made with, in
     /// order of opening, and gives a list that has room for the ranges of all. It takes no memory.
-    /// Nothing is done where the arena is ended, or more roots are given than it counts beside its
-    /// lock.
+    /// Nothing is done where more roots are given than it counts beside its lock.
     pub fn hand_over<R: Wait>(
         &self,
         rt: &R,
@@ -191,13 +151,12 @@ impl<N: Name> LockedParts<N> {
         ensures refused { IfErr result (IsNotHandedOver self.now arena) }
         ensures unchanged { OnErr result (to.new.items ≡ to.old.items) }
     {
-        let locked = match self.standing(arena) {
-            Ok(locked) => locked,
-            Err(ended) => return Err(NotHandedOver::Ended(ended)),
-        };
-        match locked.hand_over(rt, self.alloc, to) {
-            Ok(handed) => Ok(handed),
-            Err(asked) => Err(NotHandedOver::NotCounted(asked)),
+        match self.reach_arena(rt, arena) {
+            Ok(mut part) => match part.hand_over(self.alloc, to) {
+                Ok(handed) => Ok(handed),
+                Err(asked) => Err(NotHandedOver::NotCounted(asked)),
+            },
+            Err(misplaced) => Err(NotHandedOver::Misplaced(misplaced)),
         }
     }
 
@@ -205,43 +164,71 @@ impl<N: Name> LockedParts<N> {
     pub fn remove_owned<R: Wait>(&self, rt: &R, arena: u32) -> Result<SeatDeed<N>, NotTaken>
         ensures { IfErr result (IsNotTaken self.now arena) }
     {
-        let locked = match self.standing(arena) {
-            Ok(locked) => locked,
-            Err(ended) => return Err(NotTaken::Ended(ended)),
-        };
-        match locked.remove_owned(rt) {
-            Ok(deed) => Ok(deed),
-            Err(asked) => Err(NotTaken::NoneWhole(asked)),
+        match self.reach_arena(rt, arena) {
+            Ok(mut part) => match part.remove_owned() {
+                Ok(deed) => Ok(deed),
+                Err(asked) => Err(NotTaken::NoneWhole(asked)),
+            },
+            Err(misplaced) => Err(NotTaken::Misplaced(misplaced)),
         }
     }
 
+    /// The first part that a call looked for and that isn't where it was set up, if there was one.
+    pub fn misplaced<R: Wait>(&self, rt: &R) -> Option<Misplaced> {
+        self.alarm.first(rt)
+    }
+
     /// The arena with this number, if it stands.
-    pub(crate) fn standing(&self, arena: u32) -> Result<&LockedArena<N>, ArenaEnded>
-        ensures exactly { IsOk result ↔ (arena < self.now.standing) }
-        ensures here { IfOk result (λ locked. locked.now.number ≡ arena) }
+    pub(crate) fn standing(&self, arena: u32) -> Option<&LockedArena<N>>
+        ensures exactly { IsSome result ↔ (arena < self.now.standing) }
+        ensures within { OnSome result (arena < length self.now.arenas) }
+        ensures at { IfSome result (λ locked.
+            slice_get self.now.stand arena ≡ Some locked.now) }
+        ensures here { IfSome result (λ locked.
+            StandsInPlace self.now.arenas arena locked.now) }
     {
-        match self.arenas.get(arena as usize) {
-            Some(locked) => Ok(locked),
-            None => Err(ArenaEnded(())),
+        self.arenas.get(arena as usize)
+    }
+}
+
+/// Why an arena didn't grow.
+#[derive(PartialEq, Eq, Debug, Drop)]
+pub enum NotGrown {
+    /// No arena has the number.
+    NoArena,
+    /// The arena has a source.
+    NotRoot,
+    /// The arena itself refused it.
+    Refused(GrowthRefused),
+    /// The arena isn't where it was set up.
+    Misplaced(Misplaced),
+}
+
+impl NotGrown {
+    /// The fault that is told of it: an arena that isn't where it was set up is none.
+    pub fn fault(&self) -> GrowFault
+        ensures { result ≡ grow_fault self.now }
+    {
+        match self {
+            NotGrown::NoArena => GrowFault::NoArena,
+            NotGrown::NotRoot => GrowFault::NotRoot,
+            NotGrown::Refused(refused) => refused.fault(),
+            NotGrown::Misplaced(_) => GrowFault::NoArena,
         }
     }
 }
 
-/// That an arena doesn't stand any more. Only `LockedParts` makes one, where it was found so.
-#[derive(PartialEq, Eq, Debug, Drop)]
-pub struct ArenaEnded(());
-
 /// Why no root was handed over by an arena.
 #[derive(PartialEq, Eq, Debug, Drop)]
 pub enum NotHandedOver {
-    Ended(ArenaEnded),
+    Misplaced(Misplaced),
     NotCounted(NotCounted),
 }
 
 /// Why no span was taken out of an arena.
 #[derive(PartialEq, Eq, Debug, Drop)]
 pub enum NotTaken {
-    Ended(ArenaEnded),
+    Misplaced(Misplaced),
     NoneWhole(NoneWhole),
 }
 

@@ -1,16 +1,13 @@
-//! The events of a slab cache under its lock. Each looks whether it is the cache that is meant;
-//! what is put back tells that by itself.
-ghost use Rattle.std.specs.Prelude.{◌≡◌, ◌↔◌, ◌<◌, All, IsTrue, IfSome, IfOk, IfErr, Ok, Err, Some};
-ghost use Rattle.std.specs.Prelude.{OnErr, true, false};
-ghost use Rattle.std.specs.Prelude.{IfNone};
+//! The events of a slab cache under its lock, once it was looked whether it is the one that is
+//! meant.
+ghost use Rattle.std.specs.Prelude.{◌≡◌, ◌↔◌, IfErr, IfNone, IfOk, IfSome, IsOk, IsTrue, OnErr};
 ghost use Rattle.slab_layer.specs.Calls.{TakeOf, AddOf, PutOf, ReapOf};
-ghost use Rattle.slab_layer.specs.Slab.{IsAllOut, IsComplete};
 ghost use Rattle.slab_layer.specs.Cache.{deeds_of};
 ghost use Rattle.deed_core.specs.Covering.{units_held};
 ghost use Rattle.arena_tree.specs.Events.{segment_of_slab_add};
 ghost use Rattle.locked_parts.specs.Answers.{IsSpanOfKind};
 ghost use Rattle.locked_parts.specs.Kinds.{IsOfKind, AreSlabsOf};
-ghost use Rattle.locked_parts.specs.Saying.{AreOtherSlabs, number_of_cache, slabs_said};
+ghost use Rattle.locked_parts.specs.Saying.{number_of_cache, slabs_said};
 ghost use Rattle.locked_parts.specs.Sums.{SlabsTell};
 ghost use Rattle.locked_parts.specs.Words.{given_word, put_word, add_word};
 ghost use Rattle.locked_parts.specs.declared.kinds.CacheKind.{CacheKind};
@@ -41,6 +38,23 @@ impl Model for SlabSaid {
     ghost view = { λ s. record { kind = s.kind; step = s.step; word = s.word } };
 
     ghost inverse = { λ s. record { kind = s.kind; step = s.step; word = s.word } };
+}
+
+/// That other slabs were found than those of this cache, which were sought. Only `look_at` makes
+/// one.
+#[derive(PartialEq, Eq, Debug, Drop)]
+pub(crate) struct OtherSlabs {
+    sought: CacheKind,
+}
+
+impl Model for OtherSlabs {
+    ghost use Rattle.locked_parts.specs.declared.kinds.CacheKind.{CacheKind};
+
+    ghost Value = { CacheKind };
+
+    ghost view = { λ o. o.sought };
+
+    ghost inverse = { λ k. record { sought = k } };
 }
 
 /// That they answered so.
@@ -79,22 +93,15 @@ fn kind_of<D: Deed>(slab: &SlabCache<D>) -> CacheKind
     }
 }
 
-/// Whether the cache is that; another says that it is another.
-pub(crate) fn are_slabs_of<D: Deed>(
-    slab: &SlabCache<D>,
-    said: &mut Said,
-    step: NextStep,
-    kind: &CacheKind,
-) -> bool
-    ensures here { result ≡ true → AreSlabsOf kind.now slab.now }
-    ensures other { result ≡ false → AreOtherSlabs kind.now step said.new }
+/// Looks whether they are the slabs of this quantum cache.
+pub(crate) fn look_at<D: Deed>(slab: &SlabCache<D>, kind: &CacheKind) -> Result<(), OtherSlabs>
+    ensures exactly { IsOk result ↔ AreSlabsOf kind.now slab.now }
+    ensures other { IfErr result (λ o. o ≡ kind.now) }
 {
-    let own = kind_of(slab);
-    if own.is(kind) {
-        return true;
+    if !is_kind(slab, kind) {
+        return Err(OtherSlabs { sought: *kind });
     }
-    *said = slabs_say(own, step, Word::Other);
-    false
+    Ok(())
 }
 
 /// Takes a chunk, if one is idle.
@@ -104,18 +111,15 @@ pub(crate) fn take_chunk<D: Deed>(
     step: NextStep,
     kind: &CacheKind,
 ) -> Option<Segment<D>>
-    ensures said { AreSlabsOf kind.now slab.old
-        → said.new ≡ slabs_said kind.now step (given_word result) }
+    requires { AreSlabsOf kind.now slab.old }
+    ensures said { said.new ≡ slabs_said kind.now step (given_word result) }
     ensures chunk { IfSome result (IsOfKind kind.now) }
-    ensures event { IfSome result (λ t. TakeOf slab.old (Some t) slab.new) }
-    ensures none { IfNone result (AreSlabsOf kind.now slab.old → All IsAllOut slab.old.slabs) }
+    ensures event { TakeOf slab.old result slab.new }
     ensures unchanged { IfNone result (slab.new ≡ slab.old) }
 {
-    if !is_kind(slab, kind) {
-        return None;
-    }
+    let own = kind_of(slab);
     let chunk = slab.take();
-    *said = slabs_say(*kind, step, word_of_given(&chunk));
+    *said = slabs_say(own, step, word_of_given(&chunk));
     chunk
 }
 
@@ -127,8 +131,8 @@ pub(crate) fn put_chunk<D: Deed>(
     kind: &CacheKind,
     segment: Segment<D>,
 ) -> Result<(), PutFault<Segment<D>>>
-    ensures said { AreSlabsOf kind.now slab.old
-        → said.new ≡ slabs_said kind.now step (put_word result) }
+    requires { AreSlabsOf kind.now slab.old }
+    ensures said { said.new ≡ slabs_said kind.now step (put_word result) }
     ensures event { PutOf slab.old segment result slab.new }
 {
     let own = kind_of(slab);
@@ -145,21 +149,17 @@ pub(crate) fn add_slab<D: Deed>(
     kind: &CacheKind,
     span: Segment<D>,
 ) -> Result<Segment<D>, AddFault<Segment<D>>>
-    requires { IsSpanOfKind kind.now span }
-    ensures said { AreSlabsOf kind.now slab.old
-        → said.new ≡ slabs_said kind.now step (add_word result) }
+    requires here { AreSlabsOf kind.now slab.old }
+    requires span { IsSpanOfKind kind.now span }
+    ensures said { said.new ≡ slabs_said kind.now step (add_word result) }
     ensures chunk { IfOk result (IsOfKind kind.now) }
-    ensures event { IfOk result (λ t. AddOf slab.old span (Ok t) slab.new) }
-    ensures refused { IfErr result (λ f. AreSlabsOf kind.now slab.old
-        → AddOf slab.old span (Err f) slab.new) }
+    ensures event { AddOf slab.old span result slab.new }
     ensures handed_back { IfErr result (λ f. segment_of_slab_add (GivenFault.Refused f) ≡ span) }
     ensures unchanged { OnErr result (slab.new ≡ slab.old) }
 {
-    if !is_kind(slab, kind) {
-        return Err(AddFault::WrongSize(span));
-    }
+    let own = kind_of(slab);
     let added = slab.add(span);
-    *said = slabs_say(*kind, step, word_of_add(&added));
+    *said = slabs_say(own, step, word_of_add(&added));
     added
 }
 
@@ -170,33 +170,24 @@ pub(crate) fn reap_slab<D: Deed>(
     step: NextStep,
     kind: &CacheKind,
 ) -> Option<Segment<D>>
-    ensures said { AreSlabsOf kind.now slab.old
-        → said.new ≡ slabs_said kind.now step (given_word result) }
+    requires { AreSlabsOf kind.now slab.old }
+    ensures said { said.new ≡ slabs_said kind.now step (given_word result) }
     ensures span { IfSome result (IsSpanOfKind kind.now) }
-    ensures event { IfSome result (λ t. ReapOf slab.old (Some t) slab.new) }
-    ensures none { IfNone result (AreSlabsOf kind.now slab.old
-        → All (λ s. ¬ IsComplete s) slab.old.slabs) }
+    ensures event { ReapOf slab.old result slab.new }
     ensures unchanged { IfNone result (slab.new ≡ slab.old) }
 {
-    if !is_kind(slab, kind) {
-        return None;
-    }
+    let own = kind_of(slab);
     let span = slab.reap();
-    *said = slabs_say(*kind, step, word_of_given(&span));
+    *said = slabs_say(own, step, word_of_given(&span));
     span
 }
 
-/// The units that lie in the slabs; none where they are of another cache.
-pub(crate) fn slab_units<D: Deed>(slab: &SlabCache<D>, kind: &CacheKind) -> u128
-    requires number { 0 < kind.now.number }
-    requires quantum { 0 < kind.now.quantum }
-    ensures tells { SlabsTell kind.now result }
-    ensures told { AreSlabsOf kind.now slab.now → result ≡ units_held (deeds_of slab.now) }
-    ensures other { ¬ AreSlabsOf kind.now slab.now → result ≡ 0 }
+/// The units that lie in the slabs of this quantum cache.
+pub(crate) fn slab_units<D: Deed>(slab: &SlabCache<D>, _kind: &CacheKind) -> u128
+    requires { AreSlabsOf _kind.now slab.now }
+    ensures tells { SlabsTell _kind.now result }
+    ensures told { result ≡ units_held (deeds_of slab.now) }
 {
-    if !is_kind(slab, kind) {
-        return 0;
-    }
     // For its clause: what is always so of slabs.
     let _ = slab.arena();
     let report = slab.report();

@@ -41,8 +41,6 @@ pub enum Word {
     NoneEmpty,
     /// The CPU's magazines aren't both full.
     NotFull,
-    /// It is another part than the one that is meant.
-    Other,
 }
 
 /// Of a part that may give a segment.

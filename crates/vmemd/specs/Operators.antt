@@ -3,7 +3,9 @@ use Rattle.std.specs.Prelude.{◌≡◌, ℕ, List, ◌++◌, Result, Ok, Err}
 use Rattle.deed_core.specs.Extent.{Extent}
 use Rattle.arena_tree.specs.declared.trees.TreeArena.{TreeArena}
 use Rattle.arena_tree.specs.declared.part_faults.GrowFault.{GrowFault}
-use Rattle.locked_parts.specs.Growing.{AnswersGrow}
+use Rattle.locked_parts.specs.GrowAnswers.{AnswersGrow, grow_fault}
+use Rattle.locked_parts.specs.Growing.{GrownState}
+use Rattle.locked_parts.specs.declared.parts.NotGrown.{NotGrown}
 use Rattle.lease_proto.specs.Faults.{error_line}
 use Rattle.lease_proto.specs.Frames.{Frame}
 use Rattle.lease_proto.specs.Operators.{grow_of}
@@ -26,10 +28,10 @@ module _ {S : Type 0} (arenas : S → List TreeArena)
   abbrev pub TellsLine : S → List ℕ → List ℕ → S → Type 0
   TellsLine old line reply new = TellsRead old (grow_of line) reply new
 
--- whether a root grew, or why it didn't
-abbrev pub outcome_of : {A : Type 0} → Result A GrowFault → Result (Unit {0}) GrowFault
-outcome_of (Ok grown) = Ok tt
-outcome_of (Err fault) = Err fault
+-- whether a root grew, or what is told of why it didn't
+abbrev pub outcome_of : {A F : Type 0} → (F → GrowFault) → Result A F → Result (Unit {0}) GrowFault
+outcome_of told (Ok grown) = Ok tt
+outcome_of told (Err why) = Err (told why)
 
 -- A running system is seen by its arenas, which stay. Whether a range suits a root lies behind its
 -- lock.
@@ -38,7 +40,8 @@ all_arenas arenas = arenas
 
 abbrev pub MayGrow : List TreeArena → ℕ → Extent → Result (Unit {0}) GrowFault → List TreeArena
     → Type 0
-MayGrow old arena range grown new = AnswersGrow old arena grown × (new ≡ old)
+MayGrow old arena range grown new = (new ≡ old) × ((told : Result GrownState NotGrown)
+    × AnswersGrow old arena range told × (grown ≡ outcome_of grow_fault told))
 
 -- what it may tell of a line
 abbrev pub may_tell : List TreeArena → List ℕ → List ℕ → List TreeArena → Type 0

@@ -10,13 +10,13 @@ use lease_call::{grow_outcome, growth_asked};
 use lease_proto::{ErrorWord, GrowLine, outcome_line};
 use lease_server::Teller;
 use lease_threads::System;
-use locked_parts::Grown;
+use locked_parts::{Grown, NotGrown};
 use std::marker::Model;
 use std::sync::Wait;
 
 /// Whose roots can grow while they are used.
 pub trait Grower {
-    ghost use Rattle.std.specs.Prelude.{◌≡◌, ℕ, IfOk, List, Result};
+    ghost use Rattle.std.specs.Prelude.{◌≡◌, ℕ, List, Result};
     ghost use Rattle.deed_core.specs.Extent.{Extent};
     ghost use Rattle.arena_tree.specs.declared.trees.TreeArena.{TreeArena};
     ghost use Rattle.arena_tree.specs.declared.part_faults.GrowFault.{GrowFault};
@@ -25,23 +25,33 @@ pub trait Grower {
     /// That a root grew.
     type Grown: Drop;
 
+    /// Why it didn't.
+    type NotGrown: Drop;
+
     // its arenas
     ghost arenas: { Self → List TreeArena };
 
     // what may come of an arena that is to grow by a range, by its number
     ghost grows: { Self → ℕ → Extent → Result (Unit {0}) GrowFault → Self → Type 0 };
 
-    // it was the arena of this number, by this range
-    ghost is_growth: { Self.Grown → ℕ → Extent → Type 0 };
+    // it is so of the arena of this number, and of this range
+    ghost answers: { Self → ℕ → Extent → Result Self.Grown Self.NotGrown → Type 0 };
+
+    // the fault that is told of it
+    ghost told: { Self.NotGrown → GrowFault };
 
     /// The arenas, as they were set up.
     fn tree(&self) -> &Tree
         ensures { result.now ≡ arenas self.now };
 
     /// Gives the root of this number a further span of this range.
-    fn grow(&mut self, arena: u32, range: Range) -> Result<Self::Grown, GrowFault>
-        ensures grows { grows self.old arena range (outcome_of result) self.new }
-        ensures grown { IfOk result (λ grown. is_growth grown arena range) };
+    fn grow(&mut self, arena: u32, range: Range) -> Result<Self::Grown, Self::NotGrown>
+        ensures grows { grows self.old arena range (outcome_of told result) self.new }
+        ensures answers { answers self.old arena range result };
+
+    /// The fault that is told of it.
+    fn fault(why: &Self::NotGrown) -> GrowFault
+        ensures { result ≡ told why.now };
 }
 
 /// The answer to a line of an operator, given without its line feed. `grow` is the one that is
@@ -62,7 +72,7 @@ fn grow<G: Grower>(line: &GrowLine, grower: &mut G) -> Result<(), ErrorWord>
     let growth = growth_asked(grower.tree(), line)?;
     match grower.grow(growth.arena, growth.range) {
         Ok(_) => grow_outcome(Ok(())),
-        Err(fault) => grow_outcome(Err(fault)),
+        Err(why) => grow_outcome(Err(G::fault(&why))),
     }
 }
 
@@ -92,23 +102,31 @@ impl<'a, N: Name, R> RunningRoots<'a, N, R> {
 }
 
 impl<N: Name, R: Wait> Grower for RunningRoots<'_, N, R> {
-    ghost use Rattle.locked_parts.specs.Growing.{IsGrowthBy};
+    ghost use Rattle.locked_parts.specs.GrowAnswers.{AnswersGrow, grow_fault};
     ghost use Rattle.vmemd.specs.Operators.{all_arenas, MayGrow};
 
     type Grown = Grown;
+
+    type NotGrown = NotGrown;
 
     ghost arenas = { all_arenas };
 
     ghost grows = { MayGrow };
 
-    ghost is_growth = { λ grown arena range. IsGrowthBy arena range grown };
+    ghost answers = { AnswersGrow };
+
+    ghost told = { grow_fault };
 
     fn tree(&self) -> &Tree {
         self.system.tree()
     }
 
-    fn grow(&mut self, arena: u32, range: Range) -> Result<Grown, GrowFault> {
+    fn grow(&mut self, arena: u32, range: Range) -> Result<Grown, NotGrown> {
         self.system.grow(self.rt, arena, range)
+    }
+
+    fn fault(why: &NotGrown) -> GrowFault {
+        why.fault()
     }
 }
 

@@ -36,7 +36,7 @@ fn refused<N: Name, R: Abort + Wait>(
     let range = Range::new(base, len).expect(rt, "a range");
     match system.grow(rt, arena, range) {
         Ok(_) => panic!(rt; "it grew"),
-        Err(fault) => fault,
+        Err(why) => why.fault(),
     }
 }
 

@@ -230,10 +230,11 @@ fn grow<N: Name, R: Abort + Wait>(rt: &R, system: &System<N>, arena: u32, base: 
         match system.grow(rt, arena, range) {
             Ok(_) => {
                 assert!(rt; free(rt, system, arena) == before.saturating_add(u128::from(len)));
-                assert!(rt; system.grow(rt, arena, range) == Err(GrowFault::Overlaps));
+                let again = system.grow(rt, arena, range);
+                assert!(rt; again.is_err_and(|why| why.fault() == GrowFault::Overlaps));
                 return;
             }
-            Err(fault) => assert!(rt; fault == GrowFault::NoMemory),
+            Err(why) => assert!(rt; why.fault() == GrowFault::NoMemory),
         }
         assert!(rt; free(rt, system, arena) == before);
     }
@@ -297,7 +298,7 @@ fn grown_and_ended<N: Name, R: Abort + Wait + AllocGlobal>(rt: &R, ground: Groun
         let range = Range::new(turn * 8 + 8, 8).expect(rt, "a range");
         match system.grow(rt, 0, range) {
             Ok(_) => grown = grown.saturating_add(1),
-            Err(fault) => assert!(rt; fault == GrowFault::NoMemory),
+            Err(why) => assert!(rt; why.fault() == GrowFault::NoMemory),
         }
     }
     match system.shut(rt) {

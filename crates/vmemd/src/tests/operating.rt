@@ -91,11 +91,15 @@ impl Grower for Roots {
 
     type Grown = ();
 
+    type NotGrown = GrowFault;
+
     ghost arenas = { λ r. r.tree };
 
     ghost grows = { λ _ _ _ _ _. ⊤ };
 
-    ghost is_growth = { λ _ _ _. ⊤ };
+    ghost answers = { λ _ _ _ _. ⊤ };
+
+    ghost told = { λ fault. fault };
 
     fn tree(&self) -> &Tree {
         &self.tree
@@ -107,6 +111,10 @@ impl Grower for Roots {
             return Err(GrowFault::NoArena);
         }
         ANSWERS[turn]
+    }
+
+    fn fault(why: &GrowFault) -> GrowFault {
+        *why
     }
 }
 

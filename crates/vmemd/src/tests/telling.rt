@@ -3,13 +3,14 @@
 use super::{Mishap, Pieces};
 use crate::commands::{GivenWords, ServeWords, WordsFault, read_words};
 use crate::configs::read_config;
-use crate::endings::{end_run, end_script, end_words};
+use crate::endings::{end_run, end_script, end_words, tell_fault};
 use crate::faults::ScriptFault;
 use crate::retrying::{Rest, put_back, tell_stuck};
 use crate::running::RunFault;
 use crate::signals::Signals;
-use crate::stopping::Stuck;
+use crate::stopping::{PartFault, Stuck};
 use lease_server::Watched;
+use locked_parts::PartName;
 use std::alloc::{AllocGlobal, Global};
 use std::cell::{Cell, RefCell};
 use std::fmt::Display;
@@ -140,6 +141,19 @@ fn stuck_until_nothing_is_left(rt: HostRuntime) {
     assert_eq!(rt; pauses.get(), 3);
     assert!(rt; signals.is_stuck());
     assert_eq!(rt; told.into_text().as_slice(), b"vmemd: shut\n".as_slice());
+}
+
+/// What is told of parts that aren't found.
+#[test]
+fn misplaced_parts(rt: HostRuntime) {
+    let told = Told::new(rt.alloc());
+    for part in [PartName::Arena, PartName::Slabs(2), PartName::Depot(1)] {
+        tell_fault(&told, PartFault::of(3, part));
+    }
+    let text: &[u8] = b"vmemd: misplaced: arena number 3\n\
+        vmemd: misplaced: the slabs of cache 2 of arena number 3\n\
+        vmemd: misplaced: the depot of cache 1 of arena number 3\n";
+    assert_eq!(rt; told.into_text().as_slice(), text);
 }
 
 /// CONFIGs that are refused, and what is told of them.

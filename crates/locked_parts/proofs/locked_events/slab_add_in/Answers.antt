@@ -5,8 +5,8 @@ use Rattle.locked_parts.specs.Answers.{AnswersSoundly}
 use Rattle.locked_parts.proofs.Sounds.{slab_goes}
 use Rattle.locked_parts.proofs.locked_events.slab_add_in.Goals as goal
 
-pub returns-clause-sound : goal.returns-clause-sound
-returns-clause-sound g c =
+pub returns-in-Ok-clause-sound : goal.returns-in-Ok-clause-sound
+returns-in-Ok-clause-sound g c =
     let asked = SlabAdd c.args.arena c.args.cache c.args.span in
     subst (λ (a : AnswerTo asked). AnswersSoundly (nodes_of c.args.parts.now.arenas) asked a) (sym c.wrap.ensures.word)
-    (slab_goes (nodes_of c.args.parts.now.arenas) c.args.arena c.args.cache c.in-Some.kind c.args.span c.add_slab.result c.in-Some.ensures.kind c.add_slab.ensures.chunk c.add_slab.ensures.handed_back)
+    (slab_goes (nodes_of c.args.parts.now.arenas) c.args.arena c.args.cache c.in-Ok.kind c.args.span c.add_slab.result c.in-Ok.ensures.kind c.add_slab.ensures.chunk c.add_slab.ensures.handed_back)

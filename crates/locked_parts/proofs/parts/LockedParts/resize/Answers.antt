@@ -10,6 +10,6 @@ returns g c = record {
   asked = subst (λ arenas. IsResizedFor arenas c.args.arena c.args.size c.resize_each.result) (ap (λ (s : LockedPartsState). s.arenas) c.self.view_is) c.resize_each.ensures.asked;
   rose = λ e.
       (let seen = ap (λ (s : LockedPartsState). s.arenas) c.self.view_is in
-      let risen = rose_least _ _ _ c.args.arena c.args.size _ _ c.resize_each.result.rose _ c.resize_each.ensures.each e in
+      let risen = rose_least _ (λ s. s.parts.now) (λ s. s.resized) (λ s. s.missing) c.args.arena c.args.size _ _ c.resize_each.result.rose _ c.resize_each.ensures.each e in
       (risen.0, subst (λ arenas. 0 < count_of_caches arenas c.args.arena) seen risen.1));
 }

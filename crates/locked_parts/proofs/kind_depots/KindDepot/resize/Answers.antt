@@ -1,7 +1,7 @@
 use Rattle.magazine_layer.specs.Depots.{depot_rounds}
 use Rattle.magazine_layer.proofs.LawProofs.{kinds_kept}
 use Rattle.locked_parts.specs.Kinds.{IsOfKind}
-use Rattle.locked_parts.proofs.kind_depots.KindDepot.resize_of.Goals as goal
+use Rattle.locked_parts.proofs.kind_depots.KindDepot.resize.Goals as goal
 
 pub invariant_of-self : goal.invariant_of-self
 invariant_of-self g c =
