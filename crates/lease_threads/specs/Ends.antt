@@ -10,6 +10,7 @@ use Rattle.deed_core.specs.Tag.{Tag}
 use Rattle.arena_tree.specs.declared.limits.TheConstants.{MOST_SPANS}
 use Rattle.locked_parts.specs.Growing.{AreRootsOf}
 use Rattle.locked_parts.specs.Handing.{IsNotHandedOver, IsNotTaken}
+use Rattle.locked_parts.specs.States.{LockedPartsState}
 use Rattle.lease_threads.specs.Systems.{SystemState}
 use Rattle.lease_threads.specs.declared.closing.Open.{Open}
 use Rattle.lease_threads.specs.declared.closing.Open.TheVariants as opened
@@ -92,15 +93,15 @@ IsOdd roots deed = (position (λ root. root.root == deed.root) roots ≡ None)
     × (root.root ≡ deed.root) × (root ≢ deed))
 
 -- a root of the arena of this number stays open, and why no span was taken out of that is so
-abbrev pub IsOpenAt : ℕ → Open → Type 0
-IsOpenAt id (opened.NotTaken why) = IsNotTaken id why
-IsOpenAt id (opened.Odd found) = Unit {0}
+abbrev pub IsOpenAt : LockedPartsState → ℕ → Open → Type 0
+IsOpenAt p id (opened.NotTaken why) = IsNotTaken p id why
+IsOpenAt p id (opened.Odd found) = Unit {0}
 
 -- the roots of the arena of this number weren't brought together, and why it kept its own is so
-abbrev pub IsUngatheredAt : ℕ → NotGathered → Type 0
-IsUngatheredAt id (ungathered.NoRoom none) = Unit {0}
-IsUngatheredAt id (ungathered.NotHandedOver why) = IsNotHandedOver id why
-IsUngatheredAt id (ungathered.Misnumbered found) = Unit {0}
+abbrev pub IsUngatheredAt : LockedPartsState → ℕ → NotGathered → Type 0
+IsUngatheredAt p id (ungathered.NoRoom none) = Unit {0}
+IsUngatheredAt p id (ungathered.NotHandedOver why) = IsNotHandedOver p id why
+IsUngatheredAt p id (ungathered.Misnumbered found) = Unit {0}
 
 -- no arena has a root
 abbrev pub AreClosed : List (Vec Holding) → Type 0

@@ -84,7 +84,7 @@ fn close_all<N: Name, R: Wait>(
 ) -> Result<(), Open>
     requires hand { cpu.old.hand ≡ None }
     ensures closed { OnOk result ((cpu.new.hand ≡ None) × (roots.new.items ≡ [])) }
-    ensures asked { IfErr result (ends.IsOpenAt id) }
+    ensures asked { IfErr result (ends.IsOpenAt parts.now id) }
 {
     'roots: while !roots.is_empty() {
         close_one(rt, parts, id, roots, cpu)?;
@@ -103,7 +103,7 @@ fn close_one<N: Name, R: Wait>(
     requires hand { cpu.old.hand ≡ None }
     ensures closed { OnOk result ((cpu.new.hand ≡ None)
         × (length roots.new.items + 1 ≡ length roots.old.items)) }
-    ensures asked { IfErr result (ends.IsOpenAt id) }
+    ensures asked { IfErr result (ends.IsOpenAt parts.now id) }
 {
     let deed = match parts.remove_owned(rt, id) {
         Ok(deed) => deed,

@@ -74,7 +74,7 @@ fn gather_roots<N: Name, R: Wait>(
 ) -> Result<Vec<Range>, NotGathered>
     ensures roots { AreRootsFor id roots.old.items roots.new.items }
     ensures told { IfOk result (λ told. AreRangesFor id roots.old.items told.items) }
-    ensures asked { IfErr result (IsUngatheredAt id) }
+    ensures asked { IfErr result (IsUngatheredAt parts.now id) }
     ensures turn { OnOk result (InTurn roots.new.items) }
 {
     let handed = match parts.hand_over(rt, id, roots) {

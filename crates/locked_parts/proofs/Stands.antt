@@ -99,11 +99,8 @@ fewer_kinds arenas id a b stands same front = record {
   kinds = front_of id (quantum_in (nodes_of arenas) id) (length a.kinds) b.kinds front.0 (sym stands.kinds ∙ front.1);
 }
 
--- all are left at first; the last one goes, or comes back
+-- the last one goes, or comes back
 module _ {X : Type 0} where
-  pub front_all : (all : List X) → IsFrontOf all all
-  front_all all = ([], sym (append-nil all))
-
   pub front_before : (all held less : List X) (x : X) → held ≡ less ++ x ∷ [] → IsFrontOf all held → IsFrontOf all less
   front_before all held less x is front =
       (x ∷ front.0, front.1 ∙ ap (λ (l : List X). l ++ front.0) is ∙ append_assoc less (x ∷ []) front.0)

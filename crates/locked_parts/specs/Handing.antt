@@ -1,5 +1,5 @@
 -- What an arena gives out of its lock at the end of a system, and why it doesn't.
-use Rattle.std.specs.Prelude.{◌≡◌, ◌≤◌, ℕ, [], vec_len, vec_capacity}
+use Rattle.std.specs.Prelude.{◌≡◌, ◌<◌, ◌≤◌, ℕ, [], vec_len, vec_capacity}
 use Rattle.std.specs.Global.{Vec}
 use Rattle.deed_core.specs.Extent.{Extent}
 use Rattle.deed_core.specs.Holding.{Holding}
@@ -24,9 +24,9 @@ IsHandedOver arena roots handed = (handed.arena ≡ arena) × (handed.ranges.ite
 -- no span was taken out: the arena was asked, or it isn't where it was set up
 abbrev pub IsNotTaken : LockedPartsState → ℕ → NotTaken → Type 0
 IsNotTaken p arena (taking.Misplaced found) = IsMisplaced p arena Arena found
-IsNotTaken p arena (taking.NoneWhole asked) = asked ≡ arena
+IsNotTaken p arena (taking.NoneWhole asked) = (arena < p.standing) × (asked ≡ arena)
 
 -- no root was handed over: the same
 abbrev pub IsNotHandedOver : LockedPartsState → ℕ → NotHandedOver → Type 0
 IsNotHandedOver p arena (handing.Misplaced found) = IsMisplaced p arena Arena found
-IsNotHandedOver p arena (handing.NotCounted asked) = asked ≡ arena
+IsNotHandedOver p arena (handing.NotCounted asked) = (arena < p.standing) × (asked ≡ arena)

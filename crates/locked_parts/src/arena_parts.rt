@@ -1,7 +1,7 @@
 //! An arena as its lock keeps it. What lies there when the lock is taken is known by its type
 //! alone, so that it is looked at before an event is asked of it.
 ghost use Rattle.std.specs.Prelude.{◌≡◌, ◌≢◌, ◌<◌, ◌≤◌, ◌↔◌, ◌++◌, List, [], Some, None, Ok};
-ghost use Rattle.std.specs.Prelude.{IsOk, OnOk, OnErr, IfOk, IfErr};
+ghost use Rattle.std.specs.Prelude.{IsOk, IsTrue, OnOk, OnErr, IfOk, IfErr};
 ghost use Rattle.std.specs.Prelude.{vec_len};
 ghost use Rattle.deed_core.specs.Covering.{units_held};
 ghost use Rattle.deed_core.specs.Request.{rounding_of, plain_of};
@@ -200,23 +200,6 @@ pub struct ArenaSet {
     pub source: Option<u32>,
 }
 
-/// That another arena was found than this one, which was sought. Only `ArenaPart` makes one, where
-/// it is looked at.
-#[derive(PartialEq, Eq, Debug, Drop)]
-pub(crate) struct OtherArena {
-    sought: ArenaSet,
-}
-
-impl Model for OtherArena {
-    ghost use Rattle.locked_parts.specs.declared.arena_parts.ArenaSet.{ArenaSet};
-
-    ghost Value = { ArenaSet };
-
-    ghost view = { λ o. o.sought };
-
-    ghost inverse = { λ s. record { sought = s } };
-}
-
 impl<N: Name> ArenaPart<N> {
     /// What it was set up as.
     pub(crate) fn set(&self) -> ArenaSet
@@ -229,16 +212,13 @@ impl<N: Name> ArenaPart<N> {
         }
     }
 
-    /// Looks whether it is this arena.
-    pub(crate) fn look(&self, set: &ArenaSet) -> Result<(), OtherArena>
-        ensures exactly { IsOk result ↔ IsArenaFor set.now self.now }
-        ensures other { IfErr result (λ o. o ≡ set.now) }
+    /// Whether it is this arena.
+    pub(crate) fn is(&self, set: &ArenaSet) -> bool
+        ensures { IsTrue result ↔ IsArenaFor set.now self.now }
     {
-        let own = self.arena.id() == set.number && self.arena.quantum() == set.quantum;
-        if !own || self.source != set.source {
-            return Err(OtherArena { sought: *set });
-        }
-        Ok(())
+        self.arena.id() == set.number
+            && self.arena.quantum() == set.quantum
+            && self.source == set.source
     }
 
     /// Carves a segment for the request.

@@ -1,5 +1,5 @@
 //! A depot as its lock keeps it, and its exchanges with a CPU.
-ghost use Rattle.std.specs.Prelude.{◌≡◌, ◌↔◌, ◌<◌, [], IfErr, IfSome, IsOk};
+ghost use Rattle.std.specs.Prelude.{◌≡◌, ◌<◌, [], IfSome};
 ghost use Rattle.std.specs.Prelude.{◌≤◌, ◌-◌, ◌^◌, true, false, min};
 ghost use Rattle.deed_core.specs.Covering.{units_tagged};
 ghost use Rattle.magazine_layer.specs.Magazines.{IsSize};
@@ -103,23 +103,6 @@ impl ResizeSaid {
     }
 }
 
-/// That another depot was found than that of this cache, which was sought. Only `KindDepot` makes
-/// one, where it is looked at.
-#[derive(PartialEq, Eq, Debug, Drop)]
-pub(crate) struct OtherDepot {
-    sought: CacheKind,
-}
-
-impl Model for OtherDepot {
-    ghost use Rattle.locked_parts.specs.declared.kinds.CacheKind.{CacheKind};
-
-    ghost Value = { CacheKind };
-
-    ghost view = { λ o. o.sought };
-
-    ghost inverse = { λ k. record { sought = k } };
-}
-
 /// That it answered so.
 fn depot_says(kind: CacheKind, step: NextStep, word: Word) -> Said
     ensures { result ≡ depot_said kind step word }
@@ -128,17 +111,6 @@ fn depot_says(kind: CacheKind, step: NextStep, word: Word) -> Said
 }
 
 impl<D: Deed> KindDepot<D> {
-    /// Looks whether it is the depot of this quantum cache.
-    pub(crate) fn look(&self, kind: &CacheKind) -> Result<(), OtherDepot>
-        ensures exactly { IsOk result ↔ (self.now.kind ≡ kind.now) }
-        ensures other { IfErr result (λ o. o ≡ kind.now) }
-    {
-        if !self.kind.is(kind) {
-            return Err(OtherDepot { sought: *kind });
-        }
-        Ok(())
-    }
-
     /// A depot with no magazine.
     pub(crate) fn new(alloc: Global, kind: CacheKind, size: usize) -> KindDepot<D>
         requires quantum { 0 < kind.quantum }

@@ -4,9 +4,8 @@
 ghost use Rattle.std.specs.Prelude.{◌≡◌};
 ghost use Rattle.locked_parts.specs.Missing.{IsFoundFor, cause_of};
 
-use crate::arena_parts::OtherArena;
-use crate::kind_depots::OtherDepot;
-use crate::slab_parts::OtherSlabs;
+use crate::locked_arenas::OtherArena;
+use crate::locked_caches::{OtherDepot, OtherSlabs};
 use arena_tree::Tree;
 use std::marker::Model;
 use std::sync::{Mutex, Wait};
@@ -27,8 +26,8 @@ pub enum Cause {
     Other,
 }
 
-/// What was found where a part was sought. Of another part the value is made where that was looked
-/// at, and nowhere else.
+/// What was found where a part was sought. Of another part the value is made under that lock, and
+/// nowhere else.
 #[derive(PartialEq, Eq, Debug, Drop)]
 pub(crate) enum Found {
     None,

@@ -12,7 +12,7 @@ use crate::locked_events::{
     slab_take_in,
 };
 use crate::magazine_sets::{end_rounds, new_rounds};
-use crate::misplaced::PartName;
+use crate::misplaced::{Cause, PartName};
 use crate::new_arenas::NewArena;
 use crate::own_events::{swap_empty_in, swap_fresh_in, swap_full_in};
 use crate::parts::LockedParts;
@@ -73,11 +73,18 @@ fn events_of<N: Name, R: Abort + Wait + AllocGlobal>(rt: &R, ground: Ground, set
         stuck(rt, (locked, roots))
     };
     arenas.push_reserved(locked);
-    let mut parts = LockedParts::new(rt.alloc(), setup.into_tree(), arenas);
+    let parts = LockedParts::new(rt.alloc(), setup.into_tree(), arenas);
     of_arena(rt, &parts);
     of_slabs(rt, &parts);
     of_depot(rt, &parts);
     close_all(rt, &parts, roots);
+    end(rt, parts);
+}
+
+/// Ends the parts, of which none was missed before.
+fn end<N: Name, R: Abort + Wait>(rt: &R, mut parts: LockedParts<N>)
+    requires { 0 < length parts.arenas }
+{
     assert!(rt; parts.misplaced(rt).is_none());
     if parts.end_arenas().is_err() {
         stuck(rt, parts)
@@ -231,6 +238,7 @@ fn of_none<N: Name, R: Abort + Wait>(rt: &R, parts: &LockedParts<N>)
         panic!(rt; "another answer")
     };
     assert!(rt; misplaced.arena() == 0 && misplaced.part() == PartName::Arena);
+    assert!(rt; misplaced.cause() == Cause::None);
     let Some(first) = parts.misplaced(rt) else {
         panic!(rt; "none kept")
     };

@@ -205,7 +205,7 @@ pub enum NotGrown {
 }
 
 impl NotGrown {
-    /// The fault that is told of it: an arena that isn't where it was set up is none.
+    /// The fault that is told of it: of an arena that isn't where it was set up, the last one.
     pub fn fault(&self) -> GrowFault
         ensures { result ≡ grow_fault self.now }
     {
@@ -213,7 +213,7 @@ impl NotGrown {
             NotGrown::NoArena => GrowFault::NoArena,
             NotGrown::NotRoot => GrowFault::NotRoot,
             NotGrown::Refused(refused) => refused.fault(),
-            NotGrown::Misplaced(_) => GrowFault::NoArena,
+            NotGrown::Misplaced(_) => GrowFault::NoMemory,
         }
     }
 }

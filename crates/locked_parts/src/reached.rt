@@ -1,6 +1,6 @@
 //! Reaching a part by its lock. What lies there is known by its type alone, so that it is looked at
 //! before an event is asked of it.
-ghost use Rattle.std.specs.Prelude.{◌≡◌, ◌<◌, IfErr, IfNone, IfOk, IfSome, length};
+ghost use Rattle.std.specs.Prelude.{◌≡◌, ◌<◌, IfErr, IfNone, IfOk, IfSome};
 ghost use Rattle.std.specs.Sync.Mutex.{mutex_guard_value};
 ghost use Rattle.locked_parts.specs.Answers.{IsArenaFor, set_of};
 ghost use Rattle.locked_parts.specs.Kinds.{AreSlabsOf};
@@ -24,7 +24,7 @@ impl<N: Name> LockedParts<N> {
         rt: &R,
         arena: u32,
     ) -> Result<MutexGuard<'_, ArenaPart<N>>, Misplaced>
-        ensures within { IfOk result (λ _. arena < length self.now.arenas) }
+        ensures stands { IfOk result (λ _. arena < self.now.standing) }
         ensures here { IfOk result
             (λ g. IsArenaFor (set_of self.now.arenas arena) (mutex_guard_value g)) }
         ensures missing { IfErr result (IsMisplaced self.now arena PartName.Arena) }

@@ -1,6 +1,6 @@
 //! The events of a slab cache under its lock, once it was looked whether it is the one that is
 //! meant.
-ghost use Rattle.std.specs.Prelude.{◌≡◌, ◌↔◌, IfErr, IfNone, IfOk, IfSome, IsOk, IsTrue, OnErr};
+ghost use Rattle.std.specs.Prelude.{◌≡◌, ◌↔◌, IfErr, IfNone, IfOk, IfSome, IsTrue, OnErr};
 ghost use Rattle.slab_layer.specs.Calls.{TakeOf, AddOf, PutOf, ReapOf};
 ghost use Rattle.slab_layer.specs.Cache.{deeds_of};
 ghost use Rattle.deed_core.specs.Covering.{units_held};
@@ -40,23 +40,6 @@ impl Model for SlabSaid {
     ghost inverse = { λ s. record { kind = s.kind; step = s.step; word = s.word } };
 }
 
-/// That other slabs were found than those of this cache, which were sought. Only `look_at` makes
-/// one.
-#[derive(PartialEq, Eq, Debug, Drop)]
-pub(crate) struct OtherSlabs {
-    sought: CacheKind,
-}
-
-impl Model for OtherSlabs {
-    ghost use Rattle.locked_parts.specs.declared.kinds.CacheKind.{CacheKind};
-
-    ghost Value = { CacheKind };
-
-    ghost view = { λ o. o.sought };
-
-    ghost inverse = { λ k. record { sought = k } };
-}
-
 /// That they answered so.
 fn slabs_say(kind: CacheKind, step: NextStep, word: Word) -> Said
     ensures { result ≡ slabs_said kind step word }
@@ -74,8 +57,8 @@ pub(crate) fn cache_number(route: Route) -> u8
     }
 }
 
-/// Whether the cache is that.
-fn is_kind<D: Deed>(slab: &SlabCache<D>, kind: &CacheKind) -> bool
+/// Whether they are the slabs of this quantum cache.
+pub(crate) fn are_slabs_of<D: Deed>(slab: &SlabCache<D>, kind: &CacheKind) -> bool
     ensures { IsTrue result ↔ AreSlabsOf kind.now slab.now }
 {
     slab.arena() == kind.arena && slab.k() == kind.number && slab.quantum() == kind.quantum
@@ -91,17 +74,6 @@ fn kind_of<D: Deed>(slab: &SlabCache<D>) -> CacheKind
         number: slab.k(),
         quantum: slab.quantum(),
     }
-}
-
-/// Looks whether they are the slabs of this quantum cache.
-pub(crate) fn look_at<D: Deed>(slab: &SlabCache<D>, kind: &CacheKind) -> Result<(), OtherSlabs>
-    ensures exactly { IsOk result ↔ AreSlabsOf kind.now slab.now }
-    ensures other { IfErr result (λ o. o ≡ kind.now) }
-{
-    if !is_kind(slab, kind) {
-        return Err(OtherSlabs { sought: *kind });
-    }
-    Ok(())
 }
 
 /// Takes a chunk, if one is idle.

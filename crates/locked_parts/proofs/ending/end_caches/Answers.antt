@@ -1,6 +1,4 @@
-use Rattle.std.proofs.Common.{◌≡◌, ◌∙◌, List, [], ◌∷◌, ◌++◌, refl, sym, ap}
-use Rattle.locked_parts.specs.States.{IsFrontOf}
-use Rattle.locked_parts.proofs.Stands.{front_before, front_back, front_all}
+use Rattle.locked_parts.proofs.Stands.{front_before, front_back}
 use Rattle.locked_parts.proofs.ending.end_caches.Goals as goal
 
 pub returns-in-Err-clause-front : goal.returns-in-Err-clause-front

@@ -1,4 +1,4 @@
-use Rattle.std.proofs.Common.{ap, subst}
+use Rattle.std.proofs.Common.{subst}
 use Rattle.std.specs.Sync.Mutex.{mutex_guard_value}
 use Rattle.locked_parts.specs.Answers.{IsArenaFor}
 use Rattle.locked_parts.specs.declared.arena_parts.ArenaSet.{ArenaSet}

@@ -1,4 +1,4 @@
-use Rattle.std.proofs.Common.{◌≡◌, List, Some, slice_get, sym, subst}
+use Rattle.std.proofs.Common.{◌≡◌, List, Some, slice_get, subst}
 use Rattle.locked_parts.specs.States.{LockedArenaState, LockedPartsState, StandsInPlace}
 use Rattle.locked_parts.proofs.Stands.{found_so}
 use Rattle.locked_parts.proofs.parts.LockedParts.standing.Goals as goal
