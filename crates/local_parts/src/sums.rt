@@ -11,8 +11,8 @@ use stock::{ArenaSums, SumsRoom};
 impl<D: Deed> Local<'_, D> {
     /// The sums of each arena, in order of setup, lent in the caller's room. All that is out of the
     /// stock counts as leased, and so do the rounds of this CPU: others may have some too, and the
-    /// stock knows of none. So none is in a hand. It takes no memory, and goes once over all caches
-    /// and, for each arena, over the arenas, in constant time each.
+    /// stock knows of none. So none is in a hand. It takes no memory, and goes over the slabs and the
+    /// depots of all caches and, for each arena, over the arenas, in constant time each.
     pub fn sums<'a>(&self, room: &'a mut SumsRoom) -> &'a [ArenaSums]
         requires balanced { (out : List Tag) × Accounts self.now.stock.now out }
         ensures { (out : List Tag) → Accounts self.now.stock.now out

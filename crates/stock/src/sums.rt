@@ -87,8 +87,8 @@ impl SumsRoom {
 impl<D: Deed> Stock<D> {
     /// The sums of each arena, in order of setup, lent in the caller's room. A stock doesn't know
     /// who has what is out of it, so all of that counts as leased, the rounds of CPUs too. It takes
-    /// no memory, and goes once over all caches and, for each arena, over the arenas, in constant
-    /// time each.
+    /// no memory, and goes over the slabs and the depots of all caches and, for each arena, over the
+    /// arenas, in constant time each.
     pub fn sums<'a>(&self, room: &'a mut SumsRoom) -> &'a [ArenaSums]
         requires balanced { (out : List Tag) × Accounts self.now out }
         ensures { (out : List Tag) → Accounts self.now out
@@ -153,7 +153,7 @@ impl<D: Deed> Stock<D> {
     }
 
     /// The units that lie in the slabs of the arena's caches.
-    pub fn slab_units(&self, arena: usize) -> u128
+    fn slab_units(&self, arena: usize) -> u128
         requires within { arena < length self.now }
         requires fits { (s : SpaceState) → slice_get self.now arena ≡ Some s
             → units_held (flat_map (λ c. deeds_of c.slab) s.caches) < 2 ^ 128 }
@@ -169,7 +169,7 @@ impl<D: Deed> Stock<D> {
     }
 
     /// The units of the rounds in its depots.
-    pub fn depots_units(&self, arena: usize) -> u128
+    fn depots_units(&self, arena: usize) -> u128
         requires within { arena < length self.now }
         requires fits { (s : SpaceState) → slice_get self.now arena ≡ Some s
             → units_held (flat_map (λ c. holdings_of (depot_rounds c.depot)) s.caches) < 2 ^ 128 }

@@ -1,5 +1,5 @@
 -- What an audit tells is what the homes weigh.
-use Rattle.std.proofs.Common.{◌≡◌, ℕ, ◌+◌, ◌≤◌, sym, ap, ◌∙◌, List, Some, arith}
+use Rattle.std.proofs.Common.{◌≡◌, ℕ, ◌+◌, ◌≤◌, sym, ap, ◌∙◌, List, [], Some, arith}
 use Rattle.std.specs.Prelude.{slice_get, flat_map}
 use Rattle.std.proofs.lemmas.List.Sums.{sum_by-append}
 use Rattle.deed_core.specs.Tag.{Tag}
@@ -11,7 +11,7 @@ use Rattle.magazine_layer.specs.Depots.{depot_rounds}
 use Rattle.stock.specs.Spaces.{SpaceState}
 use Rattle.stock.specs.Stocks.{IsStock}
 use Rattle.stock.specs.Accounts.{Accounts}
-use Rattle.stock.specs.Sums.{Out, all_out, Sums, held_of, homes_of, lengths_of, told_sums}
+use Rattle.stock.specs.Sums.{Out, all_out, as_leased, Sums, held_of, homes_of, lengths_of, told_sums}
 use Rattle.tag_arena.specs.Spanned.{holdings_of}
 use Rattle.stock.proofs.LawProofs.{adds_up}
 use Rattle.stock_audit.specs.Audits.{IsTally, IsBalanced, units_of_arena_in}
@@ -58,10 +58,23 @@ module _ (spaces : List SpaceState) (stock : IsStock spaces) (k : ℕ) (s : Spac
       here b.out.hands,
     )
 
-    pub tells : (r : ArenaSums) (o : Out) → IsTally k o units → r.free ≡ units_held s.arena.free → r.slab ≡ units_held (in_slabs s) → r.magazine ≡ units_held (in_depots s) + units.rounds
-        → r.exported ≡ exported → r.leased ≡ units.leased → r.hand ≡ units.hand → told_sums r ≡ lengths_of (homes_of spaces o s)
-    tells r o tally free slab magazine all leased hand = same_sums (told_sums r) (lengths_of (homes_of spaces o s)) free slab
-        (omega (arith, magazine, magazine_parts o, tally.rounds, here o.rounds))
-        all
-        (leased ∙ (tally.leased ∙ here o.leases))
-        (hand ∙ (tally.hand ∙ here o.hands))
+    module _ (sums : ArenaSums) (told : told_sums sums ≡ lengths_of (homes_of spaces (as_leased (all_out b.out)) s)) where
+      depots : sums.magazine ≡ units_held (in_depots s)
+      depots = omega (arith, ap (λ (x : Sums). x.magazine) told, sum_by-append units_in (in_depots s) [])
+
+      -- rounds of CPUs and depots are part of the spans
+      pub moved_fits : sums.magazine + units.rounds ≤ units_held (spans_of s.arena)
+      moved_fits = omega (arith, depots, all_told)
+
+      -- what counted as leased is where it is
+      pub moved : (o : Out) → IsTally k o units
+          → told_sums (record { free = sums.free; slab = sums.slab; magazine = sums.magazine + units.rounds; exported = sums.exported; leased = units.leased; hand = units.hand }) ≡ lengths_of (homes_of spaces o s)
+      moved o tally = same_sums
+          (told_sums (record { free = sums.free; slab = sums.slab; magazine = sums.magazine + units.rounds; exported = sums.exported; leased = units.leased; hand = units.hand }))
+          (lengths_of (homes_of spaces o s))
+          (ap (λ (x : Sums). x.free) told)
+          (ap (λ (x : Sums). x.slab) told)
+          (omega (arith, depots, magazine_parts o, tally.rounds, here o.rounds))
+          (ap (λ (x : Sums). x.exported) told)
+          (tally.leased ∙ here o.leases)
+          (tally.hand ∙ here o.hands)

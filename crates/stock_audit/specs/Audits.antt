@@ -1,9 +1,7 @@
 -- What an audit tells of an arena.
-use Rattle.std.specs.Prelude.{◌≡◌, ℕ, ◌+◌, List, slice_get, Some}
+use Rattle.std.specs.Prelude.{◌≡◌, ℕ, List}
 use Rattle.deed_core.specs.Tag.{Tag}
 use Rattle.deed_core.specs.Covering.{units_held}
-use Rattle.tag_arena.specs.ArenaState.{spans_of}
-use Rattle.tag_arena.specs.declared.arenas.ArenaReport.{ArenaReport}
 use Rattle.stock.specs.Spaces.{SpaceState}
 use Rattle.stock.specs.Accounts.{Accounts}
 use Rattle.stock.specs.Sums.{Out, all_out, held_of, Sums, homes_of, lengths_of}
@@ -30,10 +28,3 @@ pub record IsBalanced (spaces : List SpaceState) (arena : ℕ) (units : UnitsOut
   pub out : Out
   pub accounts : Accounts spaces (all_out out)
   pub tally : IsTally arena out units
-
--- the report is of the arena at the index
-pub record IsReportOf (spaces : List SpaceState) (arena : ℕ) (r : ArenaReport) : Type 0 where
-  pub span : (s : SpaceState) → slice_get spaces arena ≡ Some s
-      → r.span ≡ units_held (spans_of s.arena)
-  pub free : (s : SpaceState) → slice_get spaces arena ≡ Some s → r.free ≡ units_held s.arena.free
-  pub adds_up : r.span ≡ r.free + r.allocated

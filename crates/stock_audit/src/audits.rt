@@ -1,14 +1,14 @@
 //! The sums of an audit.
-ghost use Rattle.std.specs.Prelude.{◌<◌, length};
+ghost use Rattle.std.specs.Prelude.{◌<◌, List, length};
+ghost use Rattle.deed_core.specs.Tag.{Tag};
 ghost use Rattle.stock.specs.Accounts.{Accounts};
-ghost use Rattle.stock.specs.Sums.{Out};
+ghost use Rattle.stock.specs.Sums.{Out, as_leased};
 ghost use Rattle.stock_audit.specs.Outside.{outside, out_of, segments_out};
-ghost use Rattle.stock_audit.specs.Audits.{IsTally, IsBalanced, IsReportOf, TellsSums};
+ghost use Rattle.stock_audit.specs.Audits.{IsTally, IsBalanced, TellsSums};
 
 use crate::lists::{rounds_units, units_of};
 use deed_core::{Deed, Segment};
 use stock::{ArenaSums, OwnCache, Stock};
-use tag_arena::ArenaReport;
 
 /// The units of one arena that are out of its stock, by where they are.
 #[derive(Clone, Copy, PartialEq, Eq, Debug)]
@@ -34,50 +34,55 @@ pub fn audit<D: Deed>(
     requires balanced { Accounts stock.now (segments_out (outside hands.now leases.now cpus.now)) }
     ensures { TellsSums stock.now arena (out_of (outside hands.now leases.now cpus.now)) result }
 {
-    // For its clause: what is always so of a stock.
+    // For their clauses: what is always so of a stock, and how many units an arena's spans have.
     let _ = stock.count();
-    let report = stock.arena_report(arena);
+    let _ = stock.arena_report(arena);
     let out = UnitsOut {
         rounds: rounds_units(cpus, arena),
         leased: units_of(leases, arena),
         hand: units_of(hands, arena),
     };
-    sums_with(stock, arena, report, out)
+    audit_units(stock, arena, out)
 }
 
 /// The same where the caller counts what is out, as by a book of leases. What is allocated and
-/// neither in caches nor out is exported.
+/// neither in caches nor out is exported. It goes once over the arenas and the arena's caches, in
+/// constant time each.
 pub fn audit_units<D: Deed>(stock: &Stock<D>, arena: usize, out: UnitsOut) -> ArenaSums
     requires within { arena < length stock.now }
     requires balanced { IsBalanced stock.now arena out }
     ensures { (o : Out) → IsTally arena o out → TellsSums stock.now arena o result }
 {
-    let report = stock.arena_report(arena);
-    sums_with(stock, arena, report, out)
+    let sums = stock.arena_sums(arena);
+    with_out(stock, arena, sums, out)
 }
 
-/// The sums of an arena of which this is the report.
-fn sums_with<D: Deed>(
-    stock: &Stock<D>,
-    arena: usize,
-    report: ArenaReport,
-    out: UnitsOut,
-) -> ArenaSums
+/// The same, counted by parts: one round of the depots after another.
+pub fn audit_units_by_parts<D: Deed>(stock: &Stock<D>, arena: usize, out: UnitsOut) -> ArenaSums
     requires within { arena < length stock.now }
-    requires report { IsReportOf stock.now arena report }
     requires balanced { IsBalanced stock.now arena out }
     ensures { (o : Out) → IsTally arena o out → TellsSums stock.now arena o result }
 {
-    // For its clause: what is always so of a stock.
+    let sums = stock.sums_by_parts(arena);
+    with_out(stock, arena, sums, out)
+}
+
+/// The sums of an arena of which the stock tells these, as it counts all that is out as leased.
+fn with_out<D: Deed>(stock: &Stock<D>, arena: usize, sums: ArenaSums, out: UnitsOut) -> ArenaSums
+    requires within { arena < length stock.now }
+    requires balanced { IsBalanced stock.now arena out }
+    requires told { (all : List Tag) → Accounts stock.now all
+        → TellsSums stock.now arena (as_leased all) sums }
+    ensures { (o : Out) → IsTally arena o out → TellsSums stock.now arena o result }
+{
+    // For their clauses, as above.
     let _ = stock.count();
-    let slab = stock.slab_units(arena);
-    let magazine = stock.depots_units(arena) + out.rounds;
-    let elsewhere = slab + magazine + out.leased + out.hand;
+    let _ = stock.arena_report(arena);
     ArenaSums {
-        free: report.free,
-        slab,
-        magazine,
-        exported: report.allocated - elsewhere,
+        free: sums.free,
+        slab: sums.slab,
+        magazine: sums.magazine + out.rounds,
+        exported: sums.exported,
         leased: out.leased,
         hand: out.hand,
     }

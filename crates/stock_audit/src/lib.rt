@@ -7,8 +7,8 @@
 //! that a new stock is accounted for, that each step keeps it, and what follows: the sums add up,
 //! what a source exported are its children's spans, and no two segments that are out overlap.
 //!
-//! `audit` goes once over the lists that it is given, and over the arena's spans, free ranges,
-//! slabs and magazines. It takes no memory.
+//! `audit` goes once over the lists that it is given; else it takes constant time for each arena and
+//! each cache of the one that it tells of. It takes no memory.
 //!
 //! Begin with `audit` in `audits`; `specs/Outside.antt` has what is out, `specs/Laws.antt` what the
 //! laws say.
@@ -18,7 +18,7 @@ mod audits;
 mod laws;
 mod lists;
 
-pub use audits::{UnitsOut, audit, audit_units};
+pub use audits::{UnitsOut, audit, audit_units, audit_units_by_parts};
 pub use laws::{
     accounted_laws, chain_laws, chain_sum_laws, move_laws, off_chain_laws, reach_laws, step_laws,
     sum_laws,

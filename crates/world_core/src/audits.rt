@@ -3,8 +3,7 @@ ghost use Rattle.std.specs.Prelude.{◌≡◌, ◌<◌, ◌≤◌, ◌^◌, leng
 ghost use Rattle.std.specs.Option.{option_to_list};
 ghost use Rattle.deed_core.specs.Covering.{units_in};
 ghost use Rattle.deed_core.specs.Weights.{of_arena};
-ghost use Rattle.stock.specs.Sums.{as_leased};
-ghost use Rattle.stock_audit.specs.Outside.{out_of, segments_out};
+ghost use Rattle.stock_audit.specs.Outside.{out_of};
 ghost use Rattle.stock_audit.specs.Audits.{IsTally, TellEach, TellsSums, units_of_arena_in};
 ghost use Rattle.world_core.specs.WorldState.{in_hands, outside_of};
 ghost use Rattle.world_core.specs.IsWorld.{IsWorld};
@@ -12,7 +11,7 @@ ghost use Rattle.world_core.specs.IsWorld.{IsWorld};
 use crate::parts::WorldParts;
 use crate::worlds::World;
 use deed_core::{Deed, Segment};
-use stock_audit::{ArenaSums, SumsRoom, UnitsOut, audit_units, rounds_units};
+use stock_audit::{ArenaSums, SumsRoom, UnitsOut, audit_units, audit_units_by_parts, rounds_units};
 
 /// The units of the arena's segment in a hand, or 0.
 fn units_in_hand<D: Deed>(hand: &Option<Segment<D>>, arena: usize) -> u64
@@ -69,38 +68,6 @@ impl<D: Deed> WorldParts<D> {
         audit_units(&self.stock, arena, out)
     }
 
-    /// The sums of the arena, where the stock counts all that is out of it as leased.
-    fn with_out(&self, arena: usize, sums: ArenaSums) -> ArenaSums
-        requires world { IsWorld self.now }
-        requires within { arena < length self.now.names }
-        requires told { TellsSums self.now.stock arena
-            (as_leased (segments_out (outside_of self.now))) sums }
-        ensures { TellsSums self.now.stock arena (out_of (outside_of self.now)) result }
-    {
-        // For their clauses, as above.
-        let _ = self.stock.count();
-        let _ = self.stock.arena_report(arena);
-        let out = self.units_out(arena);
-        ArenaSums {
-            free: sums.free,
-            slab: sums.slab,
-            magazine: sums.magazine + out.rounds,
-            exported: sums.exported,
-            leased: out.leased,
-            hand: out.hand,
-        }
-    }
-
-    /// The sums of the arena at the index, by the counts that its parts keep.
-    fn arena_sums(&self, arena: usize) -> ArenaSums
-        requires world { IsWorld self.now }
-        requires within { arena < length self.now.names }
-        ensures { TellsSums self.now.stock arena (out_of (outside_of self.now)) result }
-    {
-        let sums = self.stock.arena_sums(arena);
-        self.with_out(arena, sums)
-    }
-
     /// Those of each arena, in order of setup.
     pub(crate) fn sums<'a>(&self, room: &'a mut SumsRoom) -> &'a [ArenaSums]
         requires world { IsWorld self.now }
@@ -109,19 +76,19 @@ impl<D: Deed> WorldParts<D> {
     {
         let count = self.names.len();
         for arena in 0..count {
-            room.tell(arena, self.arena_sums(arena));
+            room.tell(arena, self.audit(arena));
         }
         room.first(count)
     }
 
-    /// The sums of the arena at the index, by the depots' rounds, one after another.
+    /// The sums of the arena at the index, counted by parts.
     pub(crate) fn audit_by_parts(&self, arena: usize) -> ArenaSums
         requires world { IsWorld self.now }
         requires within { arena < length self.now.names }
         ensures { TellsSums self.now.stock arena (out_of (outside_of self.now)) result }
     {
-        let sums = self.stock.sums_by_parts(arena);
-        self.with_out(arena, sums)
+        let out = self.units_out(arena);
+        audit_units_by_parts(&self.stock, arena, out)
     }
 }
 
@@ -135,8 +102,8 @@ impl<D: Deed> World<D> {
     }
 
     /// The sums of each arena, in order of setup, lent in the caller's room. They are told by the
-    /// counts that the parts keep. It takes no memory. For each arena it goes once over the arenas,
-    /// the caches and the hands, in constant time each.
+    /// counts that the parts keep. It takes no memory. For each arena it goes over the arenas, its
+    /// slabs and depots, the CPUs' caches and the hands, in constant time each.
     pub fn sums<'a>(&self, room: &'a mut SumsRoom) -> &'a [ArenaSums]
         ensures told { TellEach self.now.stock (out_of (outside_of self.now)) result.now }
         ensures named { length result.now ≡ length self.now.names }

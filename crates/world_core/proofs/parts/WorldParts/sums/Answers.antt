@@ -8,7 +8,7 @@ use Rattle.world_core.proofs.parts.WorldParts.sums.Goals as goal
 pub loop-arena-preserved : goal.loop-arena-preserved
 loop-arena-preserved g c =
     let w = c.args.self.now in
-    told_more (λ k r. TellsSums w.stock k (out_of (outside_of w)) r) c.loop-arena.arena c.loop-arena.room c.tell.new.self c.arena_sums.result c.tell.ensures c.loop-arena.invariant c.arena_sums.ensures
+    told_more (λ k r. TellsSums w.stock k (out_of (outside_of w)) r) c.loop-arena.arena c.loop-arena.room c.tell.new.self c.audit.result c.tell.ensures c.loop-arena.invariant c.audit.ensures
 
 pub returns-clause-told : goal.returns-clause-told
 returns-clause-told g c =
