@@ -195,7 +195,7 @@ empty_stands book none c = none_stands (account_in c book) (ap (λ (all : List A
 -- What a grant says.
 
 -- only a grant is written as one
-is_grant : (r : Reply) (g : Granted) → reply_bytes r ≡ reply_bytes (reply.Granted g) → (h : Granted) × (r ≡ reply.Granted h)
+pub is_grant : (r : Reply) (g : Granted) → reply_bytes r ≡ reply_bytes (reply.Granted g) → (h : Granted) × (r ≡ reply.Granted h)
 is_grant (reply.Granted h) g same = (h, refl)
 is_grant (reply.Welcome x) g same = absurd (let e : 119 ≡ 103 = ap (λ xs. get_or xs 0 0) same in omega (arith, e))
 is_grant (reply.Released x) g same = absurd (let e : 114 ≡ 103 = ap (λ xs. get_or xs 0 0) same in omega (arith, e))
@@ -214,7 +214,7 @@ kept_granted names id (kept.Released arena base) h is = absurd (let e : reply.Gr
 kept_granted names id (kept.Refused why) h is = absurd (let e : reply.Granted h ≡ reply.Refused (record { id = id; refusal = why }) = is in cc)
 
 -- its bytes
-grant_bytes : (text : List ℕ) (h : Granted) → IsReadAs text (reply.Granted h) → text ≡ reply_bytes (reply.Granted h)
+pub grant_bytes : (text : List ℕ) (h : Granted) → IsReadAs text (reply.Granted h) → text ≡ reply_bytes (reply.Granted h)
 grant_bytes text h told = told.1 ∙ ap with_line_feed ((replies_are_texts told.0 (reply.Granted h)).0 told.2).1
 
 -- a grant that types keep is read from its bytes alone

@@ -61,4 +61,5 @@ pub mod LeaseTaken
 pub mod LeaseRuns
 pub mod HelloRuns
 pub mod RequestRuns
+pub mod Unasked
 pub mod LawProofs

@@ -16,7 +16,7 @@ use Rattle.lease_machine.specs.Picture.{Picture}
 use Rattle.lease_machine.specs.AnswerLaws.{AreNamed}
 use Rattle.lease_machine.specs.GrantLaws.{GrantsApart}
 use Rattle.lease_machine.specs.Laws.{Runs}
-use Rattle.lease_machine.proofs.LawProofs.{runs_keep_rules, grants_stay_apart, clients_get_replies, pictures_stay, setup_only_grows}
+use Rattle.lease_machine.proofs.LawProofs.{runs_keep_rules, grants_stay_apart, new_grants_stay_apart, clients_get_replies, pictures_stay, setup_only_grows}
 use Rattle.vmemd.specs.declared.faults.ScriptFault.TheVariants.{Setup, Read, Write, Memory}
 use Rattle.vmemd.specs.Scripts.{Makes, OpensDesk}
 use Rattle.vmemd.specs.Settings.{TakesSetupLine}
@@ -24,7 +24,7 @@ use Rattle.stock_desk.specs.Openings.{IsOpenedFrom}
 use Rattle.vmemd.specs.Desks.{no_arenas}
 use Rattle.vmemd.specs.Laws.{Script}
 use Rattle.vmemd.proofs.MadeLemmas.{script_begins}
-use Rattle.vmemd.specs.RuleLaws.{EndsAreScripts, FailsAreScripts, IsWrittenInPart, ScriptKeepsRules, ScriptClientsGetReplies, ScriptGrantsStayApart}
+use Rattle.vmemd.specs.RuleLaws.{EndsAreScripts, FailsAreScripts, IsWrittenInPart, ScriptKeepsRules, ScriptClientsGetReplies, ScriptGrantsStayApart, ScriptNewGrantsStayApart}
 
 pub ends_are_scripts : EndsAreScripts
 ends_are_scripts input before after (lines, desk, last, opens, writes) = record {
@@ -129,3 +129,8 @@ pub script_grants_apart : ScriptGrantsStayApart
 script_grants_apart old s g h two other =
     subst (λ (xs : List TreeArena). GrantsApart xs g h) s.opened.tree
     (grants_stay_apart s.desk old s.frames s.text g h (script_begins old s) s.opened.book.accounts (desk_named old s) s.serves two other)
+
+pub script_new_grants_apart : ScriptNewGrantsStayApart
+script_new_grants_apart old s g h two =
+    subst (λ (xs : List TreeArena). GrantsApart xs g h) s.opened.tree
+    (new_grants_stay_apart s.desk old s.frames s.text g h (script_begins old s) s.opened.book.accounts (desk_named old s) s.serves two)

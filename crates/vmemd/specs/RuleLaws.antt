@@ -12,6 +12,7 @@ use Rattle.lease_proto.specs.Serving.{ServesLines}
 use Rattle.lease_machine.specs.Picture.{Picture}
 use Rattle.lease_machine.specs.AnswerLaws.{IsReadAs, RepliesTo}
 use Rattle.lease_machine.specs.Rules.{KeepsRules}
+use Rattle.lease_machine.specs.FirstGrants.{GrantsTwo}
 use Rattle.lease_machine.specs.GrantLaws.{GrantsTwice, GrantsApart}
 use Rattle.vmemd.specs.declared.faults.ScriptFault.{ScriptFault}
 use Rattle.vmemd.specs.Desks.{ScriptEnds, ScriptFails}
@@ -70,3 +71,10 @@ ScriptClientsGetReplies = (old new : Picture) (l : Line) (line text : List ℕ)
 abbrev pub ScriptGrantsStayApart : Type 0
 ScriptGrantsStayApart = (old : Picture) (s : Script old) (g h : Granted) → GrantsTwice old g h
     → h.id ≢ g.id → GrantsApart s.made.arenas g h
+
+-- So it is of two requests that come for the first time, which the lines alone tell, where of the
+-- lines between none releases what the first was granted, and is answered so, and none is a hello
+-- of a greater incarnation of its client that is welcome.
+abbrev pub ScriptNewGrantsStayApart : Type 0
+ScriptNewGrantsStayApart = (old : Picture) (s : Script old) (g h : Granted)
+    → GrantsTwo s.frames old g h → GrantsApart s.made.arenas g h

@@ -1,4 +1,4 @@
-use Rattle.vmemd.proofs.RuleLemmas.{ends_are_scripts, fails_are_scripts, script_keeps_rules, script_clients_replies, script_grants_apart}
+use Rattle.vmemd.proofs.RuleLemmas.{ends_are_scripts, fails_are_scripts, script_keeps_rules, script_clients_replies, script_grants_apart, script_new_grants_apart}
 use Rattle.vmemd.proofs.laws.rule_laws.Goals as goal
 
 pub returns-clause-ends : goal.returns-clause-ends
@@ -15,3 +15,6 @@ returns-clause-apart c = script_grants_apart
 
 pub returns-clause-replies : goal.returns-clause-replies
 returns-clause-replies c = script_clients_replies
+
+pub returns-clause-anew : goal.returns-clause-anew
+returns-clause-anew c = script_new_grants_apart
