@@ -105,11 +105,11 @@ fn close_one<N: Name, R: Wait>(
         × (length roots.new.items + 1 ≡ length roots.old.items)) }
     ensures asked { IfErr result (ends.IsOpenAt parts.now id) }
 {
-    let deed = match parts.remove_owned(rt, id) {
-        Ok(deed) => deed,
+    let taken = match parts.remove_owned(rt, id) {
+        Ok(taken) => taken,
         Err(why) => return Err(Open::NotTaken(why)),
     };
-    match close_by(roots, deed) {
+    match close_by(roots, taken.into_deed()) {
         Ok(()) => Ok(()),
         Err((deed, odd)) => {
             cpu.hold(Segment::new(id, Route::Direct, deed));

@@ -17,7 +17,7 @@ pub(crate) fn end_parts<N: Name>(system: System<N>) -> Result<(), (System<N>, Le
     let System {
         mut parts,
         roots,
-        told,
+        told: _,
         book,
     } = system;
     match end_book(&mut parts, book) {
@@ -30,7 +30,7 @@ pub(crate) fn end_parts<N: Name>(system: System<N>) -> Result<(), (System<N>, Le
             let system = System {
                 parts,
                 roots,
-                told,
+                told: None,
                 book,
             };
             Err((system, left))

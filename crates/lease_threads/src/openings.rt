@@ -4,7 +4,7 @@ ghost use Rattle.std.specs.Prelude.{IfOk, IfErr, OnOk, vec_len, vec_capacity};
 ghost use Rattle.arena_tree.specs.declared.limits.TheConstants.{MOST_ARENAS, MOST_SPANS};
 ghost use Rattle.arena_tree.specs.declared.limits.TheConstants.{MOST_ROOTS};
 ghost use Rattle.lease_threads.specs.Openings.{IsSystemOf, roots_of, roots_of_first};
-ghost use Rattle.locked_parts.specs.News.{AreMadeAsSet, locked_of};
+ghost use Rattle.locked_parts.specs.News.{AreMadeAsSet, StandAsSet, locked_of};
 
 use crate::marked_books::MarkedBook;
 use crate::systems::System;
@@ -198,6 +198,7 @@ fn lock_parts<N: Name>(
     requires count { length made.items ≡ length tree }
     requires set_up { AreMadeAsSet tree made.items }
     ensures arenas { result.arenas ≡ tree }
+    ensures stand { StandAsSet result.arenas result.stand }
     ensures roots { map (λ r. r.items) roots.new.items ≡ roots_of made.items }
     ensures count { vec_len roots.new ≡ vec_len made }
 {

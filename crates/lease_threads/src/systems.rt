@@ -23,7 +23,8 @@ pub(crate) fn owner_of<N: Name>(root: &Root<N>) -> u32
 /// own. Workers share it. A contract sees what stands beside the locks: the arenas as they were set
 /// up, and of each the roots of the spans that it was set up with. Those that `grow` opens stand
 /// under the locks, where there is room for the end of all. `told` is empty, with room for what the
-/// end tells of each arena, until that is told. A system is never dropped: `shut` ends it.
+/// end tells of each arena, until that is told; till then all arenas stand, with all that they were
+/// set up with. A system is never dropped: `shut` ends it.
 pub struct System<N: Name> {
     pub(crate) parts: LockedParts<N>,
     pub(crate) roots: Vec<Vec<Root<N>>>,
@@ -34,6 +35,7 @@ pub struct System<N: Name> {
 impl<N: Name> Model for System<N> {
     ghost use Rattle.std.specs.Prelude.{◌≡◌, ◌≤◌, IfSome, length, vec_len, vec_capacity};
     ghost use Rattle.lease_threads.specs.Systems.{SystemState};
+    ghost use Rattle.locked_parts.specs.News.{StandAsSet};
 
     ghost Value = { SystemState };
 
@@ -41,7 +43,8 @@ impl<N: Name> Model for System<N> {
 
     ghost invariant = { λ s. (vec_len s.roots ≡ length s.parts.arenas)
         × IfSome s.told (λ told.
-        (vec_len told ≡ 0) × (length s.parts.arenas ≤ vec_capacity told)) };
+        (vec_len told ≡ 0) × (length s.parts.arenas ≤ vec_capacity told)
+        × StandAsSet s.parts.arenas s.parts.stand) };
 }
 
 impl<N: Name> System<N> {

@@ -10,7 +10,7 @@ use crate::cpus::Cpu;
 use crate::systems::System;
 use deed_core::Range;
 use deed_table::Name;
-use locked_parts::{Grown, Interval, Misplaced, NotGrown, OpenGate, Resized, Running};
+use locked_parts::{Grown, Interval, Misplaced, NoneMissed, NotGrown, OpenGate, Resized, Running};
 use quantum_cache::{EmptyingFault, ReapFault, Reaping, reap_arena};
 use std::sync::Wait;
 
@@ -43,10 +43,11 @@ impl<N: Name> System<N> {
         self.parts.grow(rt, arena, range)
     }
 
-    /// The first part that wasn't found where it was set up, if there was one. What needs it is
-    /// answered as where there is no memory or nothing.
-    pub fn misplaced<R: Wait>(&self, rt: &R) -> Option<Misplaced> {
-        self.parts.misplaced(rt)
+    /// Looks for each part once, under its lock, one after another. It gives the first that wasn't
+    /// where it was set up, now or when a call looked for it before: what needs that is answered as
+    /// where there is no memory or nothing, a grow as where there is no such arena.
+    pub fn look<R: Wait>(&self, rt: &R) -> Result<NoneMissed, Misplaced> {
+        self.parts.look(rt)
     }
 
     /// Moves rounds that the depots of the arena may let go to their slabs, and slabs of which no

@@ -24,13 +24,23 @@ use Rattle.locked_parts.specs.Owns.{cache_of}
 use Rattle.arena_tree.specs.Chains.{quantum_in}
 use Rattle.arena_tree.specs.Trees.{nodes_of}
 use Rattle.arena_tree.specs.declared.trees.TreeArena.{TreeArena}
-use Rattle.locked_parts.specs.Saying.{CameBy, HasCache, HasCacheAt, IsNoCache, arena_said, slabs_said, depot_said, number_of_cache}
+use Rattle.locked_parts.specs.Missing.{IsFoundFor}
+use Rattle.locked_parts.specs.Saying.{CameBy, HasCache, HasCacheAt, IsNoCache, IsNone, arena_said, slabs_said, depot_said, number_of_cache}
 use Rattle.locked_parts.specs.States.{IsCacheAt, LockedArenaState, LockedPartsState, StandsInPlace}
 use Rattle.locked_parts.specs.Words.{given_word, carve_word, free_word, span_word, put_word, add_word, full_word, empty_word, fresh_word}
 use Rattle.locked_parts.specs.declared.gates.NextStep.{NextStep}
 use Rattle.locked_parts.specs.declared.kinds.CacheKind.{CacheKind}
+use Rattle.locked_parts.specs.declared.misplaced.Found.TheVariants as finding
+use Rattle.locked_parts.specs.declared.misplaced.PartName.{PartName}
+use Rattle.locked_parts.specs.declared.misplaced.PartName.TheVariants as naming
 use Rattle.locked_parts.specs.declared.said.Said.{Said}
 use Rattle.locked_parts.proofs.Begins.{up_to_at}
+
+-- where none was found, the part doesn't stand
+pub none_found : (p : LockedPartsState) (part : PartName) → IsFoundFor p part finding.None → IsNone p part
+none_found p (naming.Arena arena) is = is
+none_found p (naming.Slabs arena cache) is = is
+none_found p (naming.Depot arena cache) is = is
 
 -- an arena that stands has no cache of this number
 pub lacks : (p : LockedPartsState) (arena cache : ℕ) (a : LockedArenaState) → slice_get p.stand arena ≡ Some a → ¬ HasCache a cache → IsNoCache p arena cache

@@ -73,7 +73,7 @@ module _ (arenas : List TreeArena) (arena cache : ℕ) (caches : List OwnCacheSt
     fresh (Ok u) of = did (TakesOwn (Ok u)) after (d, d', of) kind
     fresh (Err (freshing.OldSize size)) of = did (TakesOwn (Err (freshing.OldSize size))) after (d, d', of) kind
     fresh (Err freshing.NotFull) of = unwritten after of.0.0
-    fresh (Err freshing.NoMemory) of = did (λ c c'. BothFull c.cpu × (c' ≡ c)) after (of.1, of.0.0) kind
+    fresh (Err freshing.NoMemory) of = did (λ c c'. BothFull c.cpu × (c' ≡ c)) after (of.2, of.0.0) kind
 
     pub fresh_did : (m : MagazineState) → m ≡ empty_magazine r.cpu.size → (a : Result (Unit {0}) FreshFault) (told : Result (Unit {0}) (PartFault FreshFault)) → told ≡ wording_of asking.Refused a → TakesFull m r d a after d'
         → OwnSwapsFresh arenas arena cache told caches (set caches index after)

@@ -1,8 +1,9 @@
 -- What is found where a part is sought that isn't there.
-use Rattle.std.specs.Prelude.{◌≡◌, ℕ, List}
-use Rattle.arena_tree.specs.declared.trees.TreeArena.{TreeArena}
+use Rattle.std.specs.Prelude.{◌≡◌}
 use Rattle.locked_parts.specs.Answers.{set_of}
 use Rattle.locked_parts.specs.Owns.{cache_of}
+use Rattle.locked_parts.specs.Saying.{IsNone}
+use Rattle.locked_parts.specs.States.{LockedPartsState}
 use Rattle.locked_parts.specs.declared.misplaced.Cause.{Cause}
 use Rattle.locked_parts.specs.declared.misplaced.Cause.TheVariants as cause
 use Rattle.locked_parts.specs.declared.misplaced.Found.{Found}
@@ -10,16 +11,15 @@ use Rattle.locked_parts.specs.declared.misplaced.Found.TheVariants as finding
 use Rattle.locked_parts.specs.declared.misplaced.PartName.{PartName}
 use Rattle.locked_parts.specs.declared.misplaced.PartName.TheVariants.{Arena, Slabs, Depot}
 
--- another than this very part of the arena of that number was found under its lock, or none stands
--- there
-abbrev pub IsFoundFor : List TreeArena → ℕ → PartName → Found → Type 0
-IsFoundFor arenas arena part finding.None = Unit {0}
-IsFoundFor arenas arena Arena (finding.OtherArena sought) = sought ≡ set_of arenas arena
-IsFoundFor arenas arena (Slabs cache) (finding.OtherSlabs sought) =
-    sought ≡ cache_of arenas arena cache
-IsFoundFor arenas arena (Depot cache) (finding.OtherDepot sought) =
-    sought ≡ cache_of arenas arena cache
-IsFoundFor arenas arena part found = ⊥
+-- it doesn't stand, or what lies under its lock said that it is another than this very part
+abbrev pub IsFoundFor : LockedPartsState → PartName → Found → Type 0
+IsFoundFor p part finding.None = IsNone p part
+IsFoundFor p (Arena arena) (finding.OtherArena sought) = sought ≡ set_of p.arenas arena
+IsFoundFor p (Slabs arena cache) (finding.OtherSlabs sought) =
+    sought ≡ cache_of p.arenas arena cache
+IsFoundFor p (Depot arena cache) (finding.OtherDepot sought) =
+    sought ≡ cache_of p.arenas arena cache
+IsFoundFor p part found = ⊥
 
 -- why it isn't there
 abbrev pub cause_of : Found → Cause

@@ -62,23 +62,24 @@ abbrev pub IsNoCache : LockedPartsState → (arena cache : ℕ) → Type 0
 IsNoCache p arena cache = (p.standing ≤ arena)
     ⊎ ((a : LockedArenaState) × (slice_get p.stand arena ≡ Some a) × (¬ HasCache a cache))
 
--- this part of the arena of that number doesn't stand
-abbrev pub IsNone : LockedPartsState → ℕ → PartName → Type 0
-IsNone p arena naming.Arena = p.standing ≤ arena
-IsNone p arena (naming.Slabs cache) = IsNoCache p arena cache
-IsNone p arena (naming.Depot cache) = IsNoCache p arena cache
+-- this part doesn't stand
+abbrev pub IsNone : LockedPartsState → PartName → Type 0
+IsNone p (naming.Arena arena) = p.standing ≤ arena
+IsNone p (naming.Slabs arena cache) = IsNoCache p arena cache
+IsNone p (naming.Depot arena cache) = IsNoCache p arena cache
 
--- it isn't where it was set up: it doesn't stand, or another was found under its lock, which a
--- value says that is made there alone
-pub record IsMisplaced (p : LockedPartsState) (arena : ℕ) (part : PartName) (m : MisplacedState)
-    : Type 0 where
-  pub arena_is : m.arena ≡ arena
+-- it was sought for this step, if for one, and isn't where it was set up: it doesn't stand, or what
+-- lies under its lock is another, which that says itself
+pub record IsMisplaced (p : LockedPartsState) (step : Option NextStep) (part : PartName)
+    (m : MisplacedState) : Type 0 where
+  pub step_is : m.step ≡ step
   pub part_is : m.part ≡ part
-  pub none : m.cause ≡ cause.None → IsNone p arena part
+  pub none : m.cause ≡ cause.None → IsNone p part
 
--- so the part left it
-abbrev pub IsNoPart : LockedPartsState → ℕ → PartName → Said → Type 0
-IsNoPart p arena part s = (m : MisplacedState) × (s ≡ saying.Missing m) × IsMisplaced p arena part m
+-- so it was found at this step
+abbrev pub IsNoPart : LockedPartsState → NextStep → PartName → Said → Type 0
+IsNoPart p step part s =
+    (m : MisplacedState) × (s ≡ saying.Missing m) × IsMisplaced p (Some step) part m
 
 -- the part's own answer is told on in the words of the event, and the part said it
 abbrev pub IsToldOn : {X E F : Type 0} → (E → F) → (Result X E → Word) → (Word → Said)
@@ -132,25 +133,26 @@ HasNoFull p arena cache caches = HasNoOwn p.arenas arena cache caches
     × (¬ BothFull own.cpu))
 
 -- there is no such part, or what the CPU would exchange
-abbrev pub IsMissing : LockedPartsState → List OwnCacheState → Event → Said → Type 0
-IsMissing p caches (Carve arena request) s = IsNoPart p arena naming.Arena s
-IsMissing p caches (Free given) s = IsNoPart p given.arena naming.Arena s
-IsMissing p caches (AddCarve child given size) s = IsNoPart p child naming.Arena s
-IsMissing p caches (SlabTake arena cache) s = IsNoPart p arena (naming.Slabs cache) s
-IsMissing p caches (SlabPut given) s =
-    IsNoPart p given.arena (naming.Slabs (number_of_cache given.route)) s
-IsMissing p caches (SlabAdd arena cache given) s = IsNoPart p arena (naming.Slabs cache) s
-IsMissing p caches (SlabReap arena cache) s = IsNoPart p arena (naming.Slabs cache) s
-IsMissing p caches (SwapFull arena cache) s =
-    IsNoPart p arena (naming.Depot cache) s ⊎ HasNoOwn p.arenas arena cache caches
-IsMissing p caches (SwapEmpty arena cache) s =
-    IsNoPart p arena (naming.Depot cache) s ⊎ HasNoOwn p.arenas arena cache caches
-IsMissing p caches (SwapFresh arena cache) s =
-    IsNoPart p arena (naming.Depot cache) s ⊎ HasNoFull p arena cache caches
-IsMissing p caches (DepotReap arena cache) s = IsNoPart p arena (naming.Depot cache) s
-IsMissing p caches (Pop arena cache) s = ⊥
-IsMissing p caches (Push arena cache given) s = ⊥
-IsMissing p caches (Change arena cache size) s = ⊥
+abbrev pub IsMissing : LockedPartsState → List OwnCacheState → NextStep → Event → Said → Type 0
+IsMissing p caches step (Carve arena request) s = IsNoPart p step (naming.Arena arena) s
+IsMissing p caches step (Free given) s = IsNoPart p step (naming.Arena given.arena) s
+IsMissing p caches step (AddCarve child given size) s = IsNoPart p step (naming.Arena child) s
+IsMissing p caches step (SlabTake arena cache) s = IsNoPart p step (naming.Slabs arena cache) s
+IsMissing p caches step (SlabPut given) s =
+    IsNoPart p step (naming.Slabs given.arena (number_of_cache given.route)) s
+IsMissing p caches step (SlabAdd arena cache given) s =
+    IsNoPart p step (naming.Slabs arena cache) s
+IsMissing p caches step (SlabReap arena cache) s = IsNoPart p step (naming.Slabs arena cache) s
+IsMissing p caches step (SwapFull arena cache) s =
+    IsNoPart p step (naming.Depot arena cache) s ⊎ HasNoOwn p.arenas arena cache caches
+IsMissing p caches step (SwapEmpty arena cache) s =
+    IsNoPart p step (naming.Depot arena cache) s ⊎ HasNoOwn p.arenas arena cache caches
+IsMissing p caches step (SwapFresh arena cache) s =
+    IsNoPart p step (naming.Depot arena cache) s ⊎ HasNoFull p arena cache caches
+IsMissing p caches step (DepotReap arena cache) s = IsNoPart p step (naming.Depot arena cache) s
+IsMissing p caches step (Pop arena cache) s = ⊥
+IsMissing p caches step (Push arena cache given) s = ⊥
+IsMissing p caches step (Change arena cache size) s = ⊥
 
 -- what it is answered then
 abbrev pub AnswersMissing : (e : Event) → AnswerTo e → Type 0
@@ -174,4 +176,4 @@ AnswersMissing (Change arena cache size) a = ⊥
 abbrev pub CameBy : LockedPartsState → List OwnCacheState → NextStep → (e : Event) → AnswerTo e
     → Said → Type 0
 CameBy p caches step e a s =
-    IsSaid p step e a s ⊎ (IsMissing p caches e s × AnswersMissing e a)
+    IsSaid p step e a s ⊎ (IsMissing p caches step e s × AnswersMissing e a)

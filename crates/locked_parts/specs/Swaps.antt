@@ -51,5 +51,5 @@ TakesFull m c d (Err (freshing.OldSize size)) c' d' = NoExchange c d c' d' × (c
     × (size ≡ d.depot.size)
 TakesFull m c d (Err freshing.NotFull) c' d' = NoExchange c d c' d'
     × (c.kind ≡ d.kind → ¬ BothFull c.cpu)
-TakesFull m c d (Err freshing.NoMemory) c' d' = NoExchange c d c' d'
+TakesFull m c d (Err freshing.NoMemory) c' d' = NoExchange c d c' d' × (c.kind ≡ d.kind)
     × BothFull c.cpu × (c.cpu.size ≡ d.depot.size) × (m.size ≡ d.depot.size)

@@ -1,6 +1,6 @@
 -- Walks over the depots of quantum caches, in order of arenas and of caches, whatever keeps them.
 use Rattle.std.specs.Prelude.{◌≡◌, ◌⊎◌, ◌<◌, ◌||◌, ℕ, zero, suc, Bool, true, false, List, Option}
-use Rattle.std.specs.Prelude.{Some}
+use Rattle.std.specs.Prelude.{Some, None}
 use Rattle.arena_tree.specs.declared.trees.TreeArena.{TreeArena}
 use Rattle.locked_parts.specs.Kinds.{count_of_caches}
 use Rattle.locked_parts.specs.Owns.{cache_of}
@@ -28,7 +28,7 @@ TicksArenas {S} ticks arenas (suc n) s t = (m : S)
 abbrev pub SaysTick : LockedPartsState → (arena cache : ℕ) → Option CacheKind
     → Option MisplacedState → Type 0
 SaysTick p arena cache said missing = (said ≡ Some (cache_of p.arenas arena cache))
-    ⊎ ((m : MisplacedState) × (missing ≡ Some m) × IsMisplaced p arena (Depot cache) m)
+    ⊎ ((m : MisplacedState) × (missing ≡ Some m) × IsMisplaced p None (Depot arena cache) m)
 
 -- which depot was asked to keep magazines of which size, and whether it had smaller ones
 pub record ResizeSaidState : Type 0 where
@@ -46,7 +46,7 @@ abbrev pub SaysResize : LockedPartsState → (arena cache size : ℕ) → Bool �
     → Option MisplacedState → Type 0
 SaysResize p arena cache size rose said missing = ((one : ResizeSaidState) × (said ≡ Some one)
     × IsResizeFor (cache_of p.arenas arena cache) size one × (rose ≡ one.rose))
-    ⊎ ((m : MisplacedState) × (missing ≡ Some m) × IsMisplaced p arena (Depot cache) m
+    ⊎ ((m : MisplacedState) × (missing ≡ Some m) × IsMisplaced p None (Depot arena cache) m
     × (rose ≡ false))
 
 -- so many depots of an arena were asked for magazines of a size, and whether one of them had

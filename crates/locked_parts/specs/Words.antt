@@ -34,11 +34,11 @@ pub record CacheSaidState : Type 0 where
   pub step : NextStep
   pub word : Word
 
--- which part isn't where it was set up: the number of its arena, and which of its parts; and why
+-- which part isn't where it was set up, why, and for which step it was sought, if for one
 pub record MisplacedState : Type 0 where
-  pub arena : ℕ
   pub part : PartName
   pub cause : Cause
+  pub step : Option NextStep
 
 -- of a part that may give a segment
 abbrev pub given_word : Option Tag → Word

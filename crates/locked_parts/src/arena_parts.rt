@@ -200,6 +200,47 @@ pub struct ArenaSet {
     pub source: Option<u32>,
 }
 
+/// That an arena is another than this one, which was sought. Only `ArenaPart::look` makes one.
+#[derive(PartialEq, Eq, Debug, Drop)]
+pub(crate) struct OtherArena {
+    sought: ArenaSet,
+}
+
+impl Model for OtherArena {
+    ghost use Rattle.locked_parts.specs.declared.arena_parts.ArenaSet.{ArenaSet};
+
+    ghost Value = { ArenaSet };
+
+    ghost view = { λ o. o.sought };
+
+    ghost inverse = { λ s. record { sought = s } };
+}
+
+/// The lowest owned span of the arena of this number that was wholly free, which was taken out. Only
+/// `ArenaPart` makes one, where it is asked.
+pub struct Taken<N: Name> {
+    arena: u32,
+    deed: SeatDeed<N>,
+}
+
+impl<N: Name> Model for Taken<N> {
+    ghost use Rattle.locked_parts.specs.Handing.{TakenState};
+
+    ghost Value = { TakenState };
+
+    ghost view = { λ t. record { arena = t.arena; deed = t.deed } };
+}
+
+impl<N: Name> Taken<N> {
+    /// The span.
+    pub fn into_deed(self) -> SeatDeed<N>
+        ensures { result ≡ self.deed }
+    {
+        let Taken { arena: _, deed } = self;
+        deed
+    }
+}
+
 impl<N: Name> ArenaPart<N> {
     /// What it was set up as.
     pub(crate) fn set(&self) -> ArenaSet
@@ -213,12 +254,23 @@ impl<N: Name> ArenaPart<N> {
     }
 
     /// Whether it is this arena.
-    pub(crate) fn is(&self, set: &ArenaSet) -> bool
+    fn is(&self, set: &ArenaSet) -> bool
         ensures { IsTrue result ↔ IsArenaFor set.now self.now }
     {
         self.arena.id() == set.number
             && self.arena.quantum() == set.quantum
             && self.source == set.source
+    }
+
+    /// Looks whether it is the arena that is sought.
+    pub(crate) fn look(&self, sought: &ArenaSet) -> Result<(), OtherArena>
+        ensures exactly { IsOk result ↔ IsArenaFor sought.now self.now }
+        ensures other { IfErr result (λ other. other ≡ sought.now) }
+    {
+        if !self.is(sought) {
+            return Err(OtherArena { sought: *sought });
+        }
+        Ok(())
     }
 
     /// Carves a segment for the request.
@@ -288,6 +340,8 @@ impl<N: Name> ArenaPart<N> {
             ImportOf self.old.arena span (plain_of size) (Ok t) self.new.arena) }
         ensures refused { IfErr result (λ f. self.old.source ≡ Some span.arena
             → RefusesSpan self.old.arena span.holding.range span f) }
+        ensures foreign { IfErr result (λ f. self.old.source ≢ Some span.arena
+            → f ≡ SpanFault.Overlaps span) }
         ensures rest { StaysButArena self.old self.new }
         ensures unchanged { OnErr result (self.new ≡ self.old) }
     {
@@ -402,8 +456,9 @@ impl<N: Name> ArenaPart<N> {
     }
 
     /// Takes out the lowest owned span that is wholly free.
-    pub(crate) fn remove_owned(&mut self) -> Result<SeatDeed<N>, NoneWhole>
-        ensures taken { IfOk result (λ d. RemoveOf self.old.arena (Some d) self.new.arena) }
+    pub(crate) fn remove_owned(&mut self) -> Result<Taken<N>, NoneWhole>
+        ensures taken { IfOk result (λ t. RemoveOf self.old.arena (Some t.deed) self.new.arena) }
+        ensures from { IfOk result (λ t. t.arena ≡ self.old.arena.id) }
         ensures none { OnErr result (RemoveOf self.old.arena None self.new.arena) }
         ensures asked { IfErr result (λ asked. asked ≡ self.old.arena.id) }
         ensures rest { StaysButArena self.old self.new }
@@ -412,6 +467,6 @@ impl<N: Name> ArenaPart<N> {
         let Some(deed) = self.arena.remove_owned() else {
             return Err(NoneWhole { arena });
         };
-        Ok(deed)
+        Ok(Taken { arena, deed })
     }
 }

@@ -1,5 +1,5 @@
 //! A depot as its lock keeps it, and its exchanges with a CPU.
-ghost use Rattle.std.specs.Prelude.{◌≡◌, ◌<◌, [], IfSome};
+ghost use Rattle.std.specs.Prelude.{◌≡◌, ◌<◌, ◌↔◌, [], IfErr, IfSome, IsOk};
 ghost use Rattle.std.specs.Prelude.{◌≤◌, ◌-◌, ◌^◌, true, false, min};
 ghost use Rattle.deed_core.specs.Covering.{units_tagged};
 ghost use Rattle.magazine_layer.specs.Magazines.{IsSize};
@@ -110,6 +110,23 @@ fn depot_says(kind: CacheKind, step: NextStep, word: Word) -> Said
     Said::Depot(DepotSaid { kind, step, word })
 }
 
+/// That a depot is another than that of this quantum cache, which was sought. Only `KindDepot::look`
+/// makes one.
+#[derive(PartialEq, Eq, Debug, Drop)]
+pub(crate) struct OtherDepot {
+    sought: CacheKind,
+}
+
+impl Model for OtherDepot {
+    ghost use Rattle.locked_parts.specs.declared.kinds.CacheKind.{CacheKind};
+
+    ghost Value = { CacheKind };
+
+    ghost view = { λ o. o.sought };
+
+    ghost inverse = { λ k. record { sought = k } };
+}
+
 impl<D: Deed> KindDepot<D> {
     /// A depot with no magazine.
     pub(crate) fn new(alloc: Global, kind: CacheKind, size: usize) -> KindDepot<D>
@@ -129,6 +146,17 @@ impl<D: Deed> KindDepot<D> {
         ensures quantum { 0 < result.quantum }
     {
         self.kind
+    }
+
+    /// Looks whether it is the depot of the quantum cache that is sought.
+    pub(crate) fn look(&self, sought: &CacheKind) -> Result<(), OtherDepot>
+        ensures exactly { IsOk result ↔ (self.now.kind ≡ sought.now) }
+        ensures other { IfErr result (λ other. other ≡ sought.now) }
+    {
+        if !self.kind.is(sought) {
+            return Err(OtherDepot { sought: *sought });
+        }
+        Ok(())
     }
 
     /// Gives a CPU of this cache, whose magazines are both empty, a full one. Another CPU finds

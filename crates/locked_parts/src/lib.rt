@@ -66,7 +66,7 @@ mod slab_parts;
 mod words;
 
 pub use arena_parts::{
-    ArenaSaid, ArenaSet, Grown, GrowthRefused, HandedOver, NoneWhole, NotCounted,
+    ArenaSaid, ArenaSet, Grown, GrowthRefused, HandedOver, NoneWhole, NotCounted, Taken,
 };
 pub use depot_walks::{Interval, Resized};
 pub use gates::{EventName, Gate, NextStep, OpenGate, Pass, RequestStopped, StepCount};
@@ -74,7 +74,7 @@ pub use kind_depots::DepotSaid;
 pub use kinds::CacheKind;
 pub use locked_arenas::LockedArena;
 pub use magazine_sets::{end_rounds, new_rounds};
-pub use misplaced::{Cause, Misplaced, PartName};
+pub use misplaced::{Cause, Misplaced, NoneMissed, PartName};
 pub use new_arenas::NewArena;
 pub use not_empty::NotEmpty;
 pub use own_caches::OwnCache;

@@ -5,7 +5,7 @@ ghost use Rattle.locked_parts.specs.Answers.{IsArenaFor};
 ghost use Rattle.locked_parts.specs.Saying.{HasCache, HasCacheAt};
 ghost use Rattle.locked_parts.specs.States.{IsFrontOf};
 
-use crate::arena_parts::{ArenaPart, ArenaSet};
+use crate::arena_parts::{ArenaPart, ArenaSet, OtherArena};
 use crate::ending::end_caches;
 use crate::locked_caches::LockedCache;
 use crate::not_empty::{NotEmpty, end_part};
@@ -30,23 +30,6 @@ impl<N: Name> Model for LockedArena<N> {
     ghost view = { λ a. record { set = a.set; kinds = a.caches.items } };
 }
 
-/// That another arena than this one was found under its lock. Only `LockedArena` makes one, where it
-/// was sought.
-#[derive(PartialEq, Eq, Debug, Drop)]
-pub(crate) struct OtherArena {
-    sought: ArenaSet,
-}
-
-impl Model for OtherArena {
-    ghost use Rattle.locked_parts.specs.declared.arena_parts.ArenaSet.{ArenaSet};
-
-    ghost Value = { ArenaSet };
-
-    ghost view = { λ o. o.sought };
-
-    ghost inverse = { λ s. record { sought = s } };
-}
-
 impl<N: Name> LockedArena<N> {
     /// Puts an arena under a lock, with what it was set up as and its quantum caches beside that.
     pub(crate) fn new(part: ArenaPart<N>, caches: Vec<LockedCache<N>>) -> LockedArena<N>
@@ -66,9 +49,7 @@ impl<N: Name> LockedArena<N> {
         ensures other { IfErr result (λ o. o ≡ self.now.set) }
     {
         let part = self.part.lock(rt);
-        if !part.is(&self.set) {
-            return Err(OtherArena { sought: self.set });
-        }
+        part.look(&self.set)?;
         Ok(part)
     }
 

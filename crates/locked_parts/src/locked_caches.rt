@@ -3,11 +3,11 @@ ghost use Rattle.std.specs.Prelude.{◌≡◌, IfErr, IfOk};
 ghost use Rattle.std.specs.Sync.Mutex.{mutex_guard_value};
 ghost use Rattle.locked_parts.specs.Kinds.{AreSlabsOf};
 
-use crate::kind_depots::KindDepot;
+use crate::kind_depots::{KindDepot, OtherDepot};
 use crate::kinds::CacheKind;
 use crate::not_empty::{NotEmpty, end_depot, end_slabs};
 use crate::own_caches::FIRST_SIZE;
-use crate::slab_parts::are_slabs_of;
+use crate::slab_parts::{OtherSlabs, look_at_slabs};
 use deed_table::{Name, SeatDeed};
 use slab_layer::SlabCache;
 use std::alloc::Global;
@@ -36,39 +36,6 @@ impl<N: Name> Model for LockedCache<N> {
     ghost view = { λ c. c.kind };
 }
 
-/// That other slabs than those of this cache were found under their lock. Only `LockedCache` makes
-/// one, where they were sought.
-#[derive(PartialEq, Eq, Debug, Drop)]
-pub(crate) struct OtherSlabs {
-    sought: CacheKind,
-}
-
-impl Model for OtherSlabs {
-    ghost use Rattle.locked_parts.specs.declared.kinds.CacheKind.{CacheKind};
-
-    ghost Value = { CacheKind };
-
-    ghost view = { λ o. o.sought };
-
-    ghost inverse = { λ k. record { sought = k } };
-}
-
-/// That another depot than that of this cache was.
-#[derive(PartialEq, Eq, Debug, Drop)]
-pub(crate) struct OtherDepot {
-    sought: CacheKind,
-}
-
-impl Model for OtherDepot {
-    ghost use Rattle.locked_parts.specs.declared.kinds.CacheKind.{CacheKind};
-
-    ghost Value = { CacheKind };
-
-    ghost view = { λ o. o.sought };
-
-    ghost inverse = { λ k. record { sought = k } };
-}
-
 impl<N: Name> LockedCache<N> {
     /// Puts slabs and a depot each under a lock, for the quantum cache that the depot is of.
     pub(crate) fn new(slab: SlabCache<SeatDeed<N>>, depot: KindDepot<SeatDeed<N>>) -> LockedCache<N>
@@ -95,9 +62,7 @@ impl<N: Name> LockedCache<N> {
         ensures other { IfErr result (λ o. o ≡ self.now) }
     {
         let slab = self.slab.lock(rt);
-        if !are_slabs_of(&slab, &self.kind) {
-            return Err(OtherSlabs { sought: self.kind });
-        }
+        look_at_slabs(&slab, &self.kind)?;
         Ok(slab)
     }
 
@@ -107,9 +72,7 @@ impl<N: Name> LockedCache<N> {
         ensures other { IfErr result (λ o. o ≡ self.now) }
     {
         let depot = self.depot.lock(rt);
-        if !depot.kind().is(&self.kind) {
-            return Err(OtherDepot { sought: self.kind });
-        }
+        depot.look(&self.kind)?;
         Ok(depot)
     }
 

@@ -47,14 +47,14 @@ impl<N: Name, R: Wait> Depots for LockedDepots<'_, N, R> {
         × SaysResize s.parts.now arena cache size rose t.resized t.missing };
 
     fn tick(&mut self, arena: u32, cache: u8) {
-        match self.parts.reach_depot(self.rt, arena, cache) {
+        match self.parts.reach_depot(self.rt, None, arena, cache) {
             Ok(mut depot) => self.ticked = Some(depot.tick()),
             Err(misplaced) => self.missing = Some(misplaced),
         }
     }
 
     fn resize(&mut self, arena: u32, cache: u8, size: usize) -> bool {
-        match self.parts.reach_depot(self.rt, arena, cache) {
+        match self.parts.reach_depot(self.rt, None, arena, cache) {
             Ok(mut depot) => {
                 let said = depot.resize(size);
                 let rose = said.rose();

@@ -34,7 +34,7 @@ pub(crate) fn carve_in<N: Name, R: Wait>(
     ensures sound { AnswersSoundly (nodes_of parts.now.arenas) (Carve arena request.now) result }
     ensures said { CameBy parts.now [] step (Carve arena request.now) result said.new }
 {
-    match parts.reach_arena(rt, arena) {
+    match parts.reach_arena(rt, Some(step), arena) {
         Ok(mut part) => PartFault::wrap(part.carve(said, step, request)),
         Err(misplaced) => {
             *said = Said::Missing(misplaced);
@@ -58,7 +58,7 @@ pub(crate) fn free_in<N: Name, R: Wait>(
     ensures sound { AnswersSoundly (nodes_of parts.now.arenas) (Free segment) result }
     ensures said { CameBy parts.now [] step (Free segment) result said.new }
 {
-    match parts.reach_arena(rt, segment.arena()) {
+    match parts.reach_arena(rt, Some(step), segment.arena()) {
         Ok(mut part) => GivenFault::wrap(part.free(said, step, segment)),
         Err(misplaced) => {
             *said = Said::Missing(misplaced);
@@ -86,7 +86,7 @@ pub(crate) fn add_carve_in<N: Name, R: Wait>(
     ensures sound { AnswersSoundly (nodes_of parts.now.arenas) (AddCarve child span size) result }
     ensures said { CameBy parts.now [] step (AddCarve child span size) result said.new }
 {
-    match parts.reach_arena(rt, child) {
+    match parts.reach_arena(rt, Some(step), child) {
         Ok(mut part) => GivenFault::wrap(part.add_carve(said, step, span, size)),
         Err(misplaced) => {
             *said = Said::Missing(misplaced);
@@ -108,7 +108,7 @@ pub(crate) fn slab_take_in<N: Name, R: Wait>(
     ensures sound { AnswersSoundly (nodes_of parts.now.arenas) (SlabTake arena cache) result }
     ensures said { CameBy parts.now [] step (SlabTake arena cache) result said.new }
 {
-    match parts.reach_slabs(rt, arena, cache) {
+    match parts.reach_slabs(rt, Some(step), arena, cache) {
         Ok((kind, mut slab)) => Ok(take_chunk(&mut slab, said, step, &kind)),
         Err(misplaced) => {
             *said = Said::Missing(misplaced);
@@ -130,7 +130,7 @@ pub(crate) fn slab_put_in<N: Name, R: Wait>(
     ensures said { CameBy parts.now [] step (SlabPut segment) result said.new }
 {
     let number = cache_number(segment.route());
-    match parts.reach_slabs(rt, segment.arena(), number) {
+    match parts.reach_slabs(rt, Some(step), segment.arena(), number) {
         Ok((kind, mut slab)) => {
             GivenFault::wrap(put_chunk(&mut slab, said, step, &kind, segment))
         }
@@ -158,7 +158,7 @@ pub(crate) fn slab_add_in<N: Name, R: Wait>(
     ensures sound { AnswersSoundly (nodes_of parts.now.arenas) (SlabAdd arena cache span) result }
     ensures said { CameBy parts.now [] step (SlabAdd arena cache span) result said.new }
 {
-    match parts.reach_slabs(rt, arena, cache) {
+    match parts.reach_slabs(rt, Some(step), arena, cache) {
         Ok((kind, mut slab)) => GivenFault::wrap(add_slab(&mut slab, said, step, &kind, span)),
         Err(misplaced) => {
             *said = Said::Missing(misplaced);
@@ -180,7 +180,7 @@ pub(crate) fn slab_reap_in<N: Name, R: Wait>(
     ensures sound { AnswersSoundly (nodes_of parts.now.arenas) (SlabReap arena cache) result }
     ensures said { CameBy parts.now [] step (SlabReap arena cache) result said.new }
 {
-    match parts.reach_slabs(rt, arena, cache) {
+    match parts.reach_slabs(rt, Some(step), arena, cache) {
         Ok((kind, mut slab)) => Ok(reap_slab(&mut slab, said, step, &kind)),
         Err(misplaced) => {
             *said = Said::Missing(misplaced);
@@ -202,7 +202,7 @@ pub(crate) fn depot_reap_in<N: Name, R: Wait>(
     ensures sound { AnswersSoundly (nodes_of parts.now.arenas) (DepotReap arena cache) result }
     ensures said { CameBy parts.now [] step (DepotReap arena cache) result said.new }
 {
-    match parts.reach_depot(rt, arena, cache) {
+    match parts.reach_depot(rt, Some(step), arena, cache) {
         Ok(mut depot) => Ok(depot.reap_at(said, step)),
         Err(misplaced) => {
             *said = Said::Missing(misplaced);

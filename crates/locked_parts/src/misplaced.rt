@@ -3,31 +3,41 @@
 //! kept for those who run the system.
 ghost use Rattle.std.specs.Prelude.{◌≡◌};
 ghost use Rattle.locked_parts.specs.Missing.{IsFoundFor, cause_of};
+ghost use Rattle.locked_parts.specs.Saying.{IsMisplaced};
 
-use crate::locked_arenas::OtherArena;
-use crate::locked_caches::{OtherDepot, OtherSlabs};
-use arena_tree::Tree;
+use crate::arena_parts::OtherArena;
+use crate::gates::NextStep;
+use crate::kind_depots::OtherDepot;
+use crate::parts::LockedParts;
+use crate::slab_parts::OtherSlabs;
+use deed_table::Name;
 use std::marker::Model;
 use std::sync::{Mutex, Wait};
+use thiserror::Error;
 
-/// A part of an arena: what the arena itself keeps, or the slabs or the depot of its quantum cache
-/// of this number.
-#[derive(Clone, Copy, PartialEq, Eq, Debug)]
+/// A part of the arena of this number: what the arena itself keeps, or the slabs or the depot of its
+/// quantum cache of the second number.
+#[derive(Clone, Copy, PartialEq, Eq, Debug, Error)]
 pub enum PartName {
-    Arena,
-    Slabs(u8),
-    Depot(u8),
+    #[error("arena number {0}")]
+    Arena(u32),
+    #[error("the slabs of cache {1} of arena number {0}")]
+    Slabs(u32, u8),
+    #[error("the depot of cache {1} of arena number {0}")]
+    Depot(u32, u8),
 }
 
 /// Why a part isn't found: none stands there, or another lies under its lock.
-#[derive(Clone, Copy, PartialEq, Eq, Debug)]
+#[derive(Clone, Copy, PartialEq, Eq, Debug, Error)]
 pub enum Cause {
+    #[error("doesn't stand")]
     None,
+    #[error("has another in its place")]
     Other,
 }
 
-/// What was found where a part was sought. Of another part the value is made under that lock, and
-/// nowhere else.
+/// What was found where a part was sought. Of another part the value is made by that part alone, as
+/// it is looked at.
 #[derive(PartialEq, Eq, Debug, Drop)]
 pub(crate) enum Found {
     None,
@@ -36,13 +46,14 @@ pub(crate) enum Found {
     OtherDepot(OtherDepot),
 }
 
-/// That this part of the arena of this number isn't where it was set up, and why. Only an `Alarm`
-/// makes one, which keeps the first.
-#[derive(Clone, Copy, PartialEq, Eq, Debug)]
+/// That this part isn't where it was set up, why, and for which step it was sought, if for one. Only
+/// `LockedParts::missed` makes one.
+#[derive(Clone, Copy, PartialEq, Eq, Debug, Error)]
+#[error("misplaced: {part} {cause}")]
 pub struct Misplaced {
-    arena: u32,
     part: PartName,
     cause: Cause,
+    step: Option<NextStep>,
 }
 
 impl Model for Misplaced {
@@ -50,20 +61,13 @@ impl Model for Misplaced {
 
     ghost Value = { MisplacedState };
 
-    ghost view = { λ m. record { arena = m.arena; part = m.part; cause = m.cause } };
+    ghost view = { λ m. record { part = m.part; cause = m.cause; step = m.step } };
 
-    ghost inverse = { λ m. record { arena = m.arena; part = m.part; cause = m.cause } };
+    ghost inverse = { λ m. record { part = m.part; cause = m.cause; step = m.step } };
 }
 
 impl Misplaced {
-    /// The number of the arena.
-    pub fn arena(&self) -> u32
-        ensures { result ≡ self.now.arena }
-    {
-        self.arena
-    }
-
-    /// Which part of it.
+    /// Which part it is.
     pub fn part(&self) -> PartName
         ensures { result ≡ self.now.part }
     {
@@ -77,6 +81,10 @@ impl Misplaced {
         self.cause
     }
 }
+
+/// That no part was missed. Only an `Alarm` that keeps none makes one.
+#[derive(PartialEq, Eq, Debug, Drop)]
+pub struct NoneMissed(());
 
 /// Keeps the first part that wasn't found.
 #[derive(Drop)]
@@ -92,32 +100,39 @@ impl Alarm {
         }
     }
 
-    /// This was found where a part was sought. These are the arenas as they were set up.
-    pub(crate) fn raise<R: Wait>(
+    /// The first one, if there was any.
+    pub(crate) fn first<R: Wait>(&self, rt: &R) -> Result<NoneMissed, Misplaced> {
+        let first = *self.first.lock(rt);
+        match first {
+            Some(misplaced) => Err(misplaced),
+            None => Ok(NoneMissed(())),
+        }
+    }
+}
+
+impl<N: Name> LockedParts<N> {
+    /// This was found where a part was sought, for this step, if for one.
+    #[tactic(auto, using(crate::proofs::Came::none_found))]
+    pub(crate) fn missed<R: Wait>(
         &self,
         rt: &R,
-        _tree: &Tree,
-        arena: u32,
+        step: Option<NextStep>,
         part: PartName,
         found: Found,
     ) -> Misplaced
-        requires { IsFoundFor _tree.now arena part found }
-        ensures { result ≡ record { arena = arena; part = part; cause = cause_of found } }
+        requires { IsFoundFor self.now part found }
+        ensures missing { IsMisplaced self.now step part result }
+        ensures cause { result.cause ≡ cause_of found }
     {
         let cause = match found {
             Found::None => Cause::None,
             Found::OtherArena(_) | Found::OtherSlabs(_) | Found::OtherDepot(_) => Cause::Other,
         };
-        let misplaced = Misplaced { arena, part, cause };
-        let mut first = self.first.lock(rt);
+        let misplaced = Misplaced { part, cause, step };
+        let mut first = self.alarm.first.lock(rt);
         if first.is_none() {
             *first = Some(misplaced);
         }
         misplaced
-    }
-
-    /// The first one, if there was any.
-    pub(crate) fn first<R: Wait>(&self, rt: &R) -> Option<Misplaced> {
-        *self.first.lock(rt)
     }
 }

@@ -85,7 +85,7 @@ fn events_of<N: Name, R: Abort + Wait + AllocGlobal>(rt: &R, ground: Ground, set
 fn end<N: Name, R: Abort + Wait>(rt: &R, mut parts: LockedParts<N>)
     requires { 0 < length parts.arenas }
 {
-    assert!(rt; parts.misplaced(rt).is_none());
+    assert!(rt; parts.look(rt).is_ok());
     if parts.end_arenas().is_err() {
         stuck(rt, parts)
     }
@@ -100,10 +100,10 @@ fn close_all<N: Name, R: Abort + Wait>(rt: &R, parts: &LockedParts<N>, mut roots
     };
     while !roots.is_empty() {
         let root = roots.remove(0);
-        let Ok(deed) = parts.remove_owned(rt, 0) else {
+        let Ok(taken) = parts.remove_owned(rt, 0) else {
             stuck(rt, (root, roots))
         };
-        match close(root, deed) {
+        match close(root, taken.into_deed()) {
             Ok(_) => {}
             Err(held) => stuck(rt, (held, roots)),
         }
@@ -135,7 +135,10 @@ fn freed<N: Name, R: Abort + Wait>(rt: &R, parts: &LockedParts<N>, segment: Segm
 fn of_arena<N: Name, R: Abort + Wait>(rt: &R, parts: &LockedParts<N>)
     requires { 0 < length parts.now.arenas }
 {
-    let (Ok(_slabs), Ok(_depot)) = (parts.reach_slabs(rt, 0, 1), parts.reach_depot(rt, 0, 1)) else {
+    let (Ok(_slabs), Ok(_depot)) = (
+        parts.reach_slabs(rt, None, 0, 1),
+        parts.reach_depot(rt, None, 0, 1),
+    ) else {
         panic!(rt; "no cache")
     };
     let segment = carved(rt, parts);
@@ -169,7 +172,10 @@ fn through_slabs<N: Name, R: Abort + Wait>(
     requires direct { span.route ≡ Route.Direct }
     requires grid { span.holding.range.base % quantum_in (nodes_of parts.now.arenas) 0 ≡ 0 }
 {
-    let (Ok(_arena), Ok(_depot)) = (parts.reach_arena(rt, 0), parts.reach_depot(rt, 0, 1)) else {
+    let (Ok(_arena), Ok(_depot)) = (
+        parts.reach_arena(rt, None, 0),
+        parts.reach_depot(rt, None, 0, 1),
+    ) else {
         stuck(rt, span)
     };
     match slab_add_in(parts, rt, &mut Said::Nothing, FIRST, 0, 1, span) {
@@ -198,7 +204,10 @@ fn put<N: Name, R: Abort + Wait>(rt: &R, parts: &LockedParts<N>, chunk: Segment<
 fn of_depot<N: Name, R: Abort + Wait + AllocGlobal>(rt: &R, parts: &LockedParts<N>)
     requires { 0 < length parts.now.arenas }
 {
-    let (Ok(_arena), Ok(_slabs)) = (parts.reach_arena(rt, 0), parts.reach_slabs(rt, 0, 1)) else {
+    let (Ok(_arena), Ok(_slabs)) = (
+        parts.reach_arena(rt, None, 0),
+        parts.reach_slabs(rt, None, 0, 1),
+    ) else {
         panic!(rt; "no cache")
     };
     let Ok(mut caches) = new_rounds::<N>(rt.alloc(), parts.tree()) else {
@@ -237,10 +246,10 @@ fn of_none<N: Name, R: Abort + Wait>(rt: &R, parts: &LockedParts<N>)
     let Said::Missing(misplaced) = said else {
         panic!(rt; "another answer")
     };
-    assert!(rt; misplaced.arena() == 0 && misplaced.part() == PartName::Arena);
-    assert!(rt; misplaced.cause() == Cause::None);
-    let Some(first) = parts.misplaced(rt) else {
-        panic!(rt; "none kept")
-    };
-    assert!(rt; first.arena() == 0 && first.part() == PartName::Slabs(1));
+    assert!(rt; misplaced.part() == PartName::Arena(0) && misplaced.cause() == Cause::None);
+    assert!(rt;
+        parts
+            .look(rt)
+            .is_err_and(|first| first.part() == PartName::Slabs(0, 1))
+    );
 }

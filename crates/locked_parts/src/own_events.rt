@@ -144,7 +144,7 @@ pub(crate) fn swap_full_in<N: Name, R: Wait>(
     let Some(own) = own_at(parts, caches, arena, cache) else {
         return Err(PartFault::Refused(FullFault::NoneFull));
     };
-    match parts.reach_depot(rt, arena, cache) {
+    match parts.reach_depot(rt, Some(step), arena, cache) {
         Ok(mut depot) => PartFault::wrap(depot.swap_full(said, step, &mut caches[own])),
         Err(misplaced) => {
             *said = Said::Missing(misplaced);
@@ -174,7 +174,7 @@ pub(crate) fn swap_empty_in<N: Name, R: Wait>(
     let Some(own) = own_at(parts, caches, arena, cache) else {
         return Err(PartFault::Refused(EmptyFault::NoneEmpty));
     };
-    match parts.reach_depot(rt, arena, cache) {
+    match parts.reach_depot(rt, Some(step), arena, cache) {
         Ok(mut depot) => PartFault::wrap(depot.swap_empty(said, step, &mut caches[own])),
         Err(misplaced) => {
             *said = Said::Missing(misplaced);
@@ -211,7 +211,7 @@ pub(crate) fn swap_fresh_in<N: Name, R: Wait>(
     let Ok(magazine) = Magazine::new(parts.alloc, size) else {
         return Err(PartFault::Refused(FreshFault::NoMemory));
     };
-    match parts.reach_depot(rt, arena, cache) {
+    match parts.reach_depot(rt, Some(step), arena, cache) {
         Ok(mut depot) => {
             PartFault::wrap(depot.swap_fresh(said, step, &mut caches[own], magazine))
         }

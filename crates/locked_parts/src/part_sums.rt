@@ -67,7 +67,7 @@ impl<N: Name, R: Wait> CacheUnits for LockedSlabs<'_, N, R> {
     fn units(&self, cache: u8) -> u128 {
         // For its clause, here and below: no quantum is 0.
         let _ = self.parts.tree().quantum(self.arena);
-        match self.parts.reach_slabs(self.rt, self.arena, cache) {
+        match self.parts.reach_slabs(self.rt, None, self.arena, cache) {
             Ok((kind, slab)) => slab_units(&slab, &kind),
             Err(_) => 0,
         }
@@ -92,7 +92,7 @@ impl<N: Name, R: Wait> CacheUnits for LockedRounds<'_, N, R> {
     #[tactic(auto, using(crate::proofs::Sums::no_rounds))]
     fn units(&self, cache: u8) -> u128 {
         let _ = self.parts.tree().quantum(self.arena);
-        match self.parts.reach_depot(self.rt, self.arena, cache) {
+        match self.parts.reach_depot(self.rt, None, self.arena, cache) {
             Ok(depot) => depot.units(),
             Err(_) => 0,
         }
@@ -136,7 +136,7 @@ impl<N: Name> LockedParts<N> {
     fn arena_units<R: Wait>(&self, rt: &R, arena: u32) -> (u128, u128)
         ensures { ArenaTells arena result.0 result.1 }
     {
-        match self.reach_arena(rt, arena) {
+        match self.reach_arena(rt, None, arena) {
             Ok(part) => part.units(),
             Err(_) => (0, 0),
         }

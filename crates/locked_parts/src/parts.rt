@@ -10,15 +10,15 @@ ghost use Rattle.locked_parts.specs.States.{StandsInPlace};
 ghost use Rattle.locked_parts.specs.Walks.{IsResizedFor};
 ghost use Rattle.magazine_layer.specs.Magazines.{IsSize};
 
-use crate::arena_parts::{Grown, GrowthRefused, HandedOver, NoneWhole, NotCounted};
+use crate::arena_parts::{Grown, GrowthRefused, HandedOver, NoneWhole, NotCounted, Taken};
 use crate::depot_walks::{Interval, Resized, resize_each, tick_each};
 use crate::kinds::cache_count;
 use crate::locked_arenas::LockedArena;
 use crate::locked_depots::LockedDepots;
-use crate::misplaced::{Alarm, Misplaced};
+use crate::misplaced::{Alarm, Misplaced, NoneMissed};
 use arena_tree::{GrowFault, MOST_ARENAS, Tree};
 use deed_core::Range;
-use deed_table::{Name, Root, SeatDeed};
+use deed_table::{Name, Root};
 use std::alloc::Global;
 use std::marker::Model;
 use std::sync::Wait;
@@ -128,7 +128,7 @@ impl<N: Name> LockedParts<N> {
         if self.tree.arena(arena).source.is_some() {
             return Err(NotGrown::NotRoot);
         }
-        match self.reach_arena(rt, arena) {
+        match self.reach_arena(rt, None, arena) {
             Ok(mut part) => match part.grow(range) {
                 Ok(grown) => Ok(grown),
                 Err(refused) => Err(NotGrown::Refused(refused)),
@@ -151,7 +151,7 @@ impl<N: Name> LockedParts<N> {
         ensures refused { IfErr result (IsNotHandedOver self.now arena) }
         ensures unchanged { OnErr result (to.new.items ≡ to.old.items) }
     {
-        match self.reach_arena(rt, arena) {
+        match self.reach_arena(rt, None, arena) {
             Ok(mut part) => match part.hand_over(self.alloc, to) {
                 Ok(handed) => Ok(handed),
                 Err(asked) => Err(NotHandedOver::NotCounted(asked)),
@@ -161,20 +161,26 @@ impl<N: Name> LockedParts<N> {
     }
 
     /// Takes the lowest owned span that is wholly free out of the arena with this number.
-    pub fn remove_owned<R: Wait>(&self, rt: &R, arena: u32) -> Result<SeatDeed<N>, NotTaken>
-        ensures { IfErr result (IsNotTaken self.now arena) }
+    pub fn remove_owned<R: Wait>(&self, rt: &R, arena: u32) -> Result<Taken<N>, NotTaken>
+        ensures taken { IfOk result (λ t. (arena < self.now.standing) × (t.arena ≡ arena)) }
+        ensures asked { IfErr result (IsNotTaken self.now arena) }
     {
-        match self.reach_arena(rt, arena) {
+        match self.reach_arena(rt, None, arena) {
             Ok(mut part) => match part.remove_owned() {
-                Ok(deed) => Ok(deed),
+                Ok(taken) => Ok(taken),
                 Err(asked) => Err(NotTaken::NoneWhole(asked)),
             },
             Err(misplaced) => Err(NotTaken::Misplaced(misplaced)),
         }
     }
 
-    /// The first part that a call looked for and that isn't where it was set up, if there was one.
-    pub fn misplaced<R: Wait>(&self, rt: &R) -> Option<Misplaced> {
+    /// Looks for each part once, under its lock, one after another. It gives the first that wasn't
+    /// where it was set up, now or when a call looked for it before.
+    pub fn look<R: Wait>(&self, rt: &R) -> Result<NoneMissed, Misplaced> {
+        for arena in 0..self.tree().len() as u32 {
+            // It takes each lock of the arena and looks what lies under it.
+            let _ = self.sums(rt, arena);
+        }
         self.alarm.first(rt)
     }
 
@@ -205,7 +211,7 @@ pub enum NotGrown {
 }
 
 impl NotGrown {
-    /// The fault that is told of it: of an arena that isn't where it was set up, the last one.
+    /// The fault that is told of it: of an arena that isn't where it was set up, that there is none.
     pub fn fault(&self) -> GrowFault
         ensures { result ≡ grow_fault self.now }
     {
@@ -213,7 +219,7 @@ impl NotGrown {
             NotGrown::NoArena => GrowFault::NoArena,
             NotGrown::NotRoot => GrowFault::NotRoot,
             NotGrown::Refused(refused) => refused.fault(),
-            NotGrown::Misplaced(_) => GrowFault::NoMemory,
+            NotGrown::Misplaced(_) => GrowFault::NoArena,
         }
     }
 }

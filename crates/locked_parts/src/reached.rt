@@ -10,6 +10,7 @@ ghost use Rattle.locked_parts.specs.States.{IsCacheAt};
 ghost use Rattle.locked_parts.specs.declared.misplaced.PartName.{PartName};
 
 use crate::arena_parts::ArenaPart;
+use crate::gates::NextStep;
 use crate::kinds::CacheKind;
 use crate::locked_caches::{DepotGuard, LockedCache, SlabGuard};
 use crate::misplaced::{Found, Misplaced, PartName};
@@ -18,16 +19,17 @@ use deed_table::Name;
 use std::sync::{MutexGuard, Wait};
 
 impl<N: Name> LockedParts<N> {
-    /// The arena with this number under its lock.
+    /// The arena with this number under its lock, sought for this step, if for one.
     pub(crate) fn reach_arena<R: Wait>(
         &self,
         rt: &R,
+        step: Option<NextStep>,
         arena: u32,
     ) -> Result<MutexGuard<'_, ArenaPart<N>>, Misplaced>
         ensures stands { IfOk result (λ _. arena < self.now.standing) }
         ensures here { IfOk result
             (λ g. IsArenaFor (set_of self.now.arenas arena) (mutex_guard_value g)) }
-        ensures missing { IfErr result (IsMisplaced self.now arena PartName.Arena) }
+        ensures missing { IfErr result (IsMisplaced self.now step (PartName.Arena arena)) }
     {
         let found = match self.standing(arena) {
             Some(locked) => match locked.reach(rt) {
@@ -36,8 +38,7 @@ impl<N: Name> LockedParts<N> {
             },
             None => Found::None,
         };
-        let part = PartName::Arena;
-        Err(self.alarm.raise(rt, &self.tree, arena, part, found))
+        Err(self.missed(rt, step, PartName::Arena(arena), found))
     }
 
     /// The quantum cache of this number, if it stands.
@@ -55,17 +56,18 @@ impl<N: Name> LockedParts<N> {
         locked.cache(number)
     }
 
-    /// Its slabs under their lock.
+    /// Its slabs under their lock, sought likewise.
     pub(crate) fn reach_slabs<R: Wait>(
         &self,
         rt: &R,
+        step: Option<NextStep>,
         arena: u32,
         number: u8,
     ) -> Result<(CacheKind, SlabGuard<'_, N>), Misplaced>
         ensures kind { IfOk result (λ f. IsCacheAt self.now.arenas arena number f.0) }
         ensures same { IfOk result (λ f. f.0 ≡ cache_of self.now.arenas arena number) }
         ensures here { IfOk result (λ f. AreSlabsOf f.0 (mutex_guard_value f.1)) }
-        ensures missing { IfErr result (IsMisplaced self.now arena (PartName.Slabs number)) }
+        ensures missing { IfErr result (IsMisplaced self.now step (PartName.Slabs arena number)) }
     {
         let found = match self.standing_cache(arena, number) {
             Some(cache) => match cache.reach_slabs(rt) {
@@ -74,14 +76,14 @@ impl<N: Name> LockedParts<N> {
             },
             None => Found::None,
         };
-        let part = PartName::Slabs(number);
-        Err(self.alarm.raise(rt, &self.tree, arena, part, found))
+        Err(self.missed(rt, step, PartName::Slabs(arena, number), found))
     }
 
-    /// Its depot under its lock.
+    /// Its depot under its lock, likewise.
     pub(crate) fn reach_depot<R: Wait>(
         &self,
         rt: &R,
+        step: Option<NextStep>,
         arena: u32,
         number: u8,
     ) -> Result<DepotGuard<'_, N>, Misplaced>
@@ -89,7 +91,7 @@ impl<N: Name> LockedParts<N> {
             (λ g. IsCacheAt self.now.arenas arena number (mutex_guard_value g).kind) }
         ensures same { IfOk result
             (λ g. (mutex_guard_value g).kind ≡ cache_of self.now.arenas arena number) }
-        ensures missing { IfErr result (IsMisplaced self.now arena (PartName.Depot number)) }
+        ensures missing { IfErr result (IsMisplaced self.now step (PartName.Depot arena number)) }
     {
         let found = match self.standing_cache(arena, number) {
             Some(cache) => match cache.reach_depot(rt) {
@@ -98,7 +100,6 @@ impl<N: Name> LockedParts<N> {
             },
             None => Found::None,
         };
-        let part = PartName::Depot(number);
-        Err(self.alarm.raise(rt, &self.tree, arena, part, found))
+        Err(self.missed(rt, step, PartName::Depot(arena, number), found))
     }
 }

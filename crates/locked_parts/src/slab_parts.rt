@@ -1,6 +1,7 @@
 //! The events of a slab cache under its lock, once it was looked whether it is the one that is
 //! meant.
-ghost use Rattle.std.specs.Prelude.{◌≡◌, ◌↔◌, IfErr, IfNone, IfOk, IfSome, IsTrue, OnErr};
+ghost use Rattle.std.specs.Prelude.{◌≡◌, ◌↔◌, IfErr, IfNone, IfOk, IfSome, IsOk, IsTrue};
+ghost use Rattle.std.specs.Prelude.{OnErr};
 ghost use Rattle.slab_layer.specs.Calls.{TakeOf, AddOf, PutOf, ReapOf};
 ghost use Rattle.slab_layer.specs.Cache.{deeds_of};
 ghost use Rattle.deed_core.specs.Covering.{units_held};
@@ -58,10 +59,41 @@ pub(crate) fn cache_number(route: Route) -> u8
 }
 
 /// Whether they are the slabs of this quantum cache.
-pub(crate) fn are_slabs_of<D: Deed>(slab: &SlabCache<D>, kind: &CacheKind) -> bool
+fn are_slabs_of<D: Deed>(slab: &SlabCache<D>, kind: &CacheKind) -> bool
     ensures { IsTrue result ↔ AreSlabsOf kind.now slab.now }
 {
     slab.arena() == kind.arena && slab.k() == kind.number && slab.quantum() == kind.quantum
+}
+
+/// That slabs are others than those of this quantum cache, which were sought. Only `look_at_slabs`
+/// makes one.
+#[derive(PartialEq, Eq, Debug, Drop)]
+pub(crate) struct OtherSlabs {
+    sought: CacheKind,
+}
+
+impl Model for OtherSlabs {
+    ghost use Rattle.locked_parts.specs.declared.kinds.CacheKind.{CacheKind};
+
+    ghost Value = { CacheKind };
+
+    ghost view = { λ o. o.sought };
+
+    ghost inverse = { λ k. record { sought = k } };
+}
+
+/// Looks whether they are the slabs of the quantum cache that is sought.
+pub(crate) fn look_at_slabs<D: Deed>(
+    slab: &SlabCache<D>,
+    sought: &CacheKind,
+) -> Result<(), OtherSlabs>
+    ensures exactly { IsOk result ↔ AreSlabsOf sought.now slab.now }
+    ensures other { IfErr result (λ other. other ≡ sought.now) }
+{
+    if !are_slabs_of(slab, sought) {
+        return Err(OtherSlabs { sought: *sought });
+    }
+    Ok(())
 }
 
 /// Which quantum cache they are of.

@@ -21,6 +21,8 @@ pub struct Signals {
     starved: AtomicBool,
     /// Raised where something could not be put back at once.
     stuck: AtomicBool,
+    /// Raised where a part wasn't found where it was set up.
+    missed: AtomicBool,
     /// Raised where there was no descriptor for a connection.
     descriptors: AtomicBool,
     /// Raised where there was no thread for one.
@@ -64,6 +66,7 @@ impl Signals {
             ready: AtomicU64::new(0),
             starved: AtomicBool::new(false),
             stuck: AtomicBool::new(false),
+            missed: AtomicBool::new(false),
             descriptors: AtomicBool::new(false),
             threads: AtomicBool::new(false),
         }
@@ -120,6 +123,11 @@ impl Signals {
     /// Whether something could not be put back at once.
     pub fn is_stuck(&self) -> bool {
         self.stuck.load(Ordering::SeqCst)
+    }
+
+    /// Tells that a part wasn't found where it was set up, and says whether it is the first time.
+    pub fn note_missed(&self) -> bool {
+        !self.missed.swap(true, Ordering::SeqCst)
     }
 
     /// Tells that there was none of this for a connection, and says whether it is the first time.

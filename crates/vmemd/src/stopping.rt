@@ -9,12 +9,12 @@ use crate::signals::Signals;
 use deed_core::Range;
 use deed_table::Name;
 use lease_threads::{Cpu, Halted, System};
-use locked_parts::PartName;
+use locked_parts::{Misplaced, NoneMissed};
+use std::fmt::Display;
 use std::marker::Model;
 use std::sync::Wait;
 use std::thread;
 use std::time::{Clock, Duration};
-use thiserror::Error;
 
 /// How long, in milliseconds, it waits before it tries again what couldn't be put back at the end.
 const SHUT_PAUSE: u64 = 20;
@@ -135,48 +135,38 @@ pub(crate) fn stop<N: Name, R: Wait + Clock>(rt: &R, site: &Site<'_, N>) {
     }
 }
 
-/// Retires a CPU, for as long as it takes.
+/// Retires a CPU, for as long as it takes. Where that is no good at once, it looks for the parts.
 pub(crate) fn retire<N: Name, R: Wait + Clock + Eprint>(
     rt: &R,
     system: &System<N>,
     signals: &Signals,
     cpu: Cpu<N>,
 ) {
-    let rest = CpuRest { rt, system, cpu };
-    put_back(rt, rest.again(), &mut Stuck { rt, signals });
-}
-
-/// A part that wasn't found, as it is told.
-#[derive(Clone, Copy, Debug, PartialEq, Eq, Error)]
-pub(crate) enum PartFault {
-    #[error("misplaced: arena number {0}")]
-    Arena(u32),
-    #[error("misplaced: the slabs of cache {1} of arena number {0}")]
-    Slabs(u32, u8),
-    #[error("misplaced: the depot of cache {1} of arena number {0}")]
-    Depot(u32, u8),
-}
-
-impl PartFault {
-    /// Of this part of an arena. Arenas are numbered in order of setup, from 0 on.
-    pub(crate) fn of(arena: u32, part: PartName) -> PartFault {
-        match part {
-            PartName::Arena => PartFault::Arena(arena),
-            PartName::Slabs(cache) => PartFault::Slabs(arena, cache),
-            PartName::Depot(cache) => PartFault::Depot(arena, cache),
-        }
+    let tried = CpuRest { rt, system, cpu }.again();
+    if tried.is_err() {
+        let _ = look(rt, system, signals);
     }
+    put_back(rt, tried, &mut Stuck { rt, signals });
 }
 
-/// Tells on standard error of the first part that wasn't found where it was set up, and says
-/// whether there was one.
-pub(crate) fn tell_misplaced<N: Name, R: Wait + Eprint>(rt: &R, system: &System<N>) -> bool {
-    match system.misplaced(rt) {
-        Some(misplaced) => {
-            tell_fault(rt, PartFault::of(misplaced.arena(), misplaced.part()));
-            true
-        }
-        None => false,
+/// Looks for each part once. The first that wasn't found where it was set up, now or before, is told
+/// on standard error, once.
+pub(crate) fn look<N: Name, R: Wait + Eprint>(
+    rt: &R,
+    system: &System<N>,
+    signals: &Signals,
+) -> Result<NoneMissed, Misplaced> {
+    let looked = system.look(rt);
+    if let Err(misplaced) = &looked {
+        tell_missed(rt, signals, *misplaced);
+    }
+    looked
+}
+
+/// Tells that this part is missed, unless one was told.
+pub(crate) fn tell_missed<R: Eprint, M: Display + Drop>(rt: &R, signals: &Signals, missed: M) {
+    if signals.note_missed() {
+        tell_fault(rt, missed);
     }
 }
 

@@ -3,12 +3,12 @@
 use super::{Mishap, Pieces};
 use crate::commands::{GivenWords, ServeWords, WordsFault, read_words};
 use crate::configs::read_config;
-use crate::endings::{end_run, end_script, end_words, tell_fault};
+use crate::endings::{end_run, end_script, end_words};
 use crate::faults::ScriptFault;
 use crate::retrying::{Rest, put_back, tell_stuck};
 use crate::running::RunFault;
 use crate::signals::Signals;
-use crate::stopping::{PartFault, Stuck};
+use crate::stopping::{Stuck, tell_missed};
 use lease_server::Watched;
 use locked_parts::PartName;
 use std::alloc::{AllocGlobal, Global};
@@ -143,17 +143,20 @@ fn stuck_until_nothing_is_left(rt: HostRuntime) {
     assert_eq!(rt; told.into_text().as_slice(), b"vmemd: shut\n".as_slice());
 }
 
-/// What is told of parts that aren't found.
+/// What is told of the first part that isn't found, and of it alone.
 #[test]
 fn misplaced_parts(rt: HostRuntime) {
     let told = Told::new(rt.alloc());
-    for part in [PartName::Arena, PartName::Slabs(2), PartName::Depot(1)] {
-        tell_fault(&told, PartFault::of(3, part));
+    let signals = Signals::new();
+    for part in [
+        PartName::Slabs(3, 2),
+        PartName::Arena(3),
+        PartName::Depot(0, 1),
+    ] {
+        tell_missed(&told, &signals, part);
     }
-    let text: &[u8] = b"vmemd: misplaced: arena number 3\n\
-        vmemd: misplaced: the slabs of cache 2 of arena number 3\n\
-        vmemd: misplaced: the depot of cache 1 of arena number 3\n";
-    assert_eq!(rt; told.into_text().as_slice(), text);
+    let text = b"vmemd: the slabs of cache 2 of arena number 3\n";
+    assert_eq!(rt; told.into_text().as_slice(), text.as_slice());
 }
 
 /// CONFIGs that are refused, and what is told of them.
