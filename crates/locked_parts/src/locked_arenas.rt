@@ -30,6 +30,22 @@ impl<N: Name> Model for LockedArena<N> {
     ghost view = { λ a. record { set = a.set; kinds = a.caches.items } };
 }
 
+/// That what lies under an arena's lock said that it is another. Only `LockedArena::reach` makes one.
+#[derive(PartialEq, Eq, Debug, Drop)]
+pub(crate) struct OtherArenaUnder {
+    said: OtherArena,
+}
+
+impl Model for OtherArenaUnder {
+    ghost use Rattle.locked_parts.specs.declared.arena_parts.ArenaSet.{ArenaSet};
+
+    ghost Value = { ArenaSet };
+
+    ghost view = { λ o. o.said };
+
+    ghost inverse = { λ s. record { said = s } };
+}
+
 impl<N: Name> LockedArena<N> {
     /// Puts an arena under a lock, with what it was set up as and its quantum caches beside that.
     pub(crate) fn new(part: ArenaPart<N>, caches: Vec<LockedCache<N>>) -> LockedArena<N>
@@ -44,12 +60,17 @@ impl<N: Name> LockedArena<N> {
     }
 
     /// What lies under the lock, unless it is another arena.
-    pub(crate) fn reach<R: Wait>(&self, rt: &R) -> Result<MutexGuard<'_, ArenaPart<N>>, OtherArena>
+    pub(crate) fn reach<R: Wait>(
+        &self,
+        rt: &R,
+    ) -> Result<MutexGuard<'_, ArenaPart<N>>, OtherArenaUnder>
         ensures here { IfOk result (λ g. IsArenaFor self.now.set (mutex_guard_value g)) }
         ensures other { IfErr result (λ o. o ≡ self.now.set) }
     {
         let part = self.part.lock(rt);
-        part.look(&self.set)?;
+        if let Err(said) = part.look(&self.set) {
+            return Err(OtherArenaUnder { said });
+        }
         Ok(part)
     }
 

@@ -36,6 +36,39 @@ impl<N: Name> Model for LockedCache<N> {
     ghost view = { λ c. c.kind };
 }
 
+/// That the slabs under their lock said that they are others. Only `LockedCache` makes one, where it
+/// reaches them.
+#[derive(PartialEq, Eq, Debug, Drop)]
+pub(crate) struct OtherSlabsUnder {
+    said: OtherSlabs,
+}
+
+impl Model for OtherSlabsUnder {
+    ghost use Rattle.locked_parts.specs.declared.kinds.CacheKind.{CacheKind};
+
+    ghost Value = { CacheKind };
+
+    ghost view = { λ o. o.said };
+
+    ghost inverse = { λ k. record { said = k } };
+}
+
+/// That the depot under its lock said so.
+#[derive(PartialEq, Eq, Debug, Drop)]
+pub(crate) struct OtherDepotUnder {
+    said: OtherDepot,
+}
+
+impl Model for OtherDepotUnder {
+    ghost use Rattle.locked_parts.specs.declared.kinds.CacheKind.{CacheKind};
+
+    ghost Value = { CacheKind };
+
+    ghost view = { λ o. o.said };
+
+    ghost inverse = { λ k. record { said = k } };
+}
+
 impl<N: Name> LockedCache<N> {
     /// Puts slabs and a depot each under a lock, for the quantum cache that the depot is of.
     pub(crate) fn new(slab: SlabCache<SeatDeed<N>>, depot: KindDepot<SeatDeed<N>>) -> LockedCache<N>
@@ -57,22 +90,26 @@ impl<N: Name> LockedCache<N> {
     }
 
     /// Its slabs under their lock, unless others lie there.
-    pub(crate) fn reach_slabs<R: Wait>(&self, rt: &R) -> Result<SlabGuard<'_, N>, OtherSlabs>
+    pub(crate) fn reach_slabs<R: Wait>(&self, rt: &R) -> Result<SlabGuard<'_, N>, OtherSlabsUnder>
         ensures here { IfOk result (λ g. AreSlabsOf self.now (mutex_guard_value g)) }
         ensures other { IfErr result (λ o. o ≡ self.now) }
     {
         let slab = self.slab.lock(rt);
-        look_at_slabs(&slab, &self.kind)?;
+        if let Err(said) = look_at_slabs(&slab, &self.kind) {
+            return Err(OtherSlabsUnder { said });
+        }
         Ok(slab)
     }
 
     /// Its depot under its lock, unless another lies there.
-    pub(crate) fn reach_depot<R: Wait>(&self, rt: &R) -> Result<DepotGuard<'_, N>, OtherDepot>
+    pub(crate) fn reach_depot<R: Wait>(&self, rt: &R) -> Result<DepotGuard<'_, N>, OtherDepotUnder>
         ensures here { IfOk result (λ g. (mutex_guard_value g).kind ≡ self.now) }
         ensures other { IfErr result (λ o. o ≡ self.now) }
     {
         let depot = self.depot.lock(rt);
-        depot.look(&self.kind)?;
+        if let Err(said) = depot.look(&self.kind) {
+            return Err(OtherDepotUnder { said });
+        }
         Ok(depot)
     }
 

@@ -5,11 +5,10 @@ ghost use Rattle.std.specs.Prelude.{◌≡◌};
 ghost use Rattle.locked_parts.specs.Missing.{IsFoundFor, cause_of};
 ghost use Rattle.locked_parts.specs.Saying.{IsMisplaced};
 
-use crate::arena_parts::OtherArena;
 use crate::gates::NextStep;
-use crate::kind_depots::OtherDepot;
+use crate::locked_arenas::OtherArenaUnder;
+use crate::locked_caches::{OtherDepotUnder, OtherSlabsUnder};
 use crate::parts::LockedParts;
-use crate::slab_parts::OtherSlabs;
 use deed_table::Name;
 use std::marker::Model;
 use std::sync::{Mutex, Wait};
@@ -36,14 +35,14 @@ pub enum Cause {
     Other,
 }
 
-/// What was found where a part was sought. Of another part the value is made by that part alone, as
-/// it is looked at.
+/// What was found where a part was sought. Of another part the value is made under that lock alone,
+/// of what that part said of itself.
 #[derive(PartialEq, Eq, Debug, Drop)]
 pub(crate) enum Found {
     None,
-    OtherArena(OtherArena),
-    OtherSlabs(OtherSlabs),
-    OtherDepot(OtherDepot),
+    OtherArena(OtherArenaUnder),
+    OtherSlabs(OtherSlabsUnder),
+    OtherDepot(OtherDepotUnder),
 }
 
 /// That this part isn't where it was set up, why, and for which step it was sought, if for one. Only

@@ -45,9 +45,9 @@ pub fn audit<D: Deed>(
     audit_units(stock, arena, out)
 }
 
-/// The same where the caller counts what is out, as by a book of leases. What is allocated and
-/// neither in caches nor out is exported. It goes once over the arenas and the arena's caches, in
-/// constant time each.
+/// The same where the caller counts what is out, as by a book of leases. Exported is what other
+/// arenas imported. It goes over the arenas, and over the arena's slabs and depots, in constant time
+/// each.
 pub fn audit_units<D: Deed>(stock: &Stock<D>, arena: usize, out: UnitsOut) -> ArenaSums
     requires within { arena < length stock.now }
     requires balanced { IsBalanced stock.now arena out }
