@@ -45,7 +45,7 @@ impl<N: Name> System<N> {
 
     /// Looks for each part once, under its lock, one after another. It gives the first that wasn't
     /// where it was set up, now or when a call looked for it before: what needs that is answered as
-    /// where there is no memory or nothing, a grow as where there is no such arena.
+    /// where there is no memory or nothing.
     pub fn look<R: Wait>(&self, rt: &R) -> Result<NoneMissed, Misplaced> {
         self.parts.look(rt)
     }

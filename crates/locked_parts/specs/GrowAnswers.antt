@@ -3,7 +3,7 @@ use Rattle.std.specs.Prelude.{◌≡◌, ℕ, ◌≤◌, List, Some, None, IsSom
 use Rattle.std.specs.Prelude.{length, slice_get}
 use Rattle.deed_core.specs.Extent.{Extent}
 use Rattle.arena_tree.specs.declared.part_faults.GrowFault.{GrowFault}
-use Rattle.arena_tree.specs.declared.part_faults.GrowFault.TheVariants.{NoArena, NotRoot}
+use Rattle.arena_tree.specs.declared.part_faults.GrowFault.TheVariants.{NoArena, NotRoot, NoMemory}
 use Rattle.arena_tree.specs.declared.trees.TreeArena.{TreeArena}
 use Rattle.locked_parts.specs.Growing.{GrownState, IsGrowthBy, IsRefusalBy}
 use Rattle.locked_parts.specs.Saying.{IsMisplaced}
@@ -40,9 +40,9 @@ abbrev pub AnswersGrow : List TreeArena → ℕ → Extent → Result GrownState
 AnswersGrow arenas id range (Ok g) = IsRootArena arenas id × IsGrowthBy id range g
 AnswersGrow arenas id range (Err f) = MayRefuseGrow arenas id range f
 
--- the fault that is told of it: of an arena that isn't where it was set up, that there is none
+-- the fault that is told of it: of an arena that isn't where it was set up, the last one
 abbrev pub grow_fault : NotGrown → GrowFault
 grow_fault growing.NoArena = NoArena
 grow_fault growing.NotRoot = NotRoot
 grow_fault (growing.Refused r) = r.fault
-grow_fault (growing.Misplaced m) = NoArena
+grow_fault (growing.Misplaced m) = NoMemory

@@ -216,8 +216,8 @@ impl Model for OtherArena {
     ghost inverse = { λ s. record { sought = s } };
 }
 
-/// The lowest owned span of the arena of this number that was wholly free, which was taken out. Only
-/// `ArenaPart` makes one, where it is asked.
+/// The lowest owned span of the arena of this number that was wholly free, which was taken out.
+/// Only `ArenaPart` makes one, where it is asked.
 pub struct Taken<N: Name> {
     arena: u32,
     deed: SeatDeed<N>,

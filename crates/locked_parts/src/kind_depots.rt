@@ -110,8 +110,8 @@ fn depot_says(kind: CacheKind, step: NextStep, word: Word) -> Said
     Said::Depot(DepotSaid { kind, step, word })
 }
 
-/// That a depot is another than that of this quantum cache, which was sought. Only `KindDepot::look`
-/// makes one.
+/// That a depot is another than that of this quantum cache, which was sought. Only
+/// `KindDepot::look` makes one.
 #[derive(PartialEq, Eq, Debug, Drop)]
 pub(crate) struct OtherDepot {
     sought: CacheKind,

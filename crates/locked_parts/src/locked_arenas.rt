@@ -30,7 +30,8 @@ impl<N: Name> Model for LockedArena<N> {
     ghost view = { λ a. record { set = a.set; kinds = a.caches.items } };
 }
 
-/// That what lies under an arena's lock said that it is another. Only `LockedArena::reach` makes one.
+/// That what lies under an arena's lock said that it is another. Only `LockedArena::reach` makes
+/// one.
 #[derive(PartialEq, Eq, Debug, Drop)]
 pub(crate) struct OtherArenaUnder {
     said: OtherArena,

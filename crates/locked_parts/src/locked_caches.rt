@@ -36,8 +36,8 @@ impl<N: Name> Model for LockedCache<N> {
     ghost view = { λ c. c.kind };
 }
 
-/// That the slabs under their lock said that they are others. Only `LockedCache` makes one, where it
-/// reaches them.
+/// That the slabs under their lock said that they are others. Only `LockedCache` makes one, where
+/// it reaches them.
 #[derive(PartialEq, Eq, Debug, Drop)]
 pub(crate) struct OtherSlabsUnder {
     said: OtherSlabs,

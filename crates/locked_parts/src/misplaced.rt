@@ -14,8 +14,8 @@ use std::marker::Model;
 use std::sync::{Mutex, Wait};
 use thiserror::Error;
 
-/// A part of the arena of this number: what the arena itself keeps, or the slabs or the depot of its
-/// quantum cache of the second number.
+/// A part of the arena of this number: what the arena itself keeps, or the slabs or the depot of
+/// its quantum cache of the second number.
 #[derive(Clone, Copy, PartialEq, Eq, Debug, Error)]
 pub enum PartName {
     #[error("arena number {0}")]
@@ -45,8 +45,8 @@ pub(crate) enum Found {
     OtherDepot(OtherDepotUnder),
 }
 
-/// That this part isn't where it was set up, why, and for which step it was sought, if for one. Only
-/// `LockedParts::missed` makes one.
+/// That this part isn't where it was set up, why, and for which step it was sought, if for one.
+/// Only `LockedParts::missed` makes one.
 #[derive(Clone, Copy, PartialEq, Eq, Debug, Error)]
 #[error("misplaced: {part} {cause}")]
 pub struct Misplaced {

@@ -211,7 +211,7 @@ pub enum NotGrown {
 }
 
 impl NotGrown {
-    /// The fault that is told of it: of an arena that isn't where it was set up, that there is none.
+    /// The fault that is told of it: of an arena that isn't where it was set up, the last one.
     pub fn fault(&self) -> GrowFault
         ensures { result ≡ grow_fault self.now }
     {
@@ -219,7 +219,7 @@ impl NotGrown {
             NotGrown::NoArena => GrowFault::NoArena,
             NotGrown::NotRoot => GrowFault::NotRoot,
             NotGrown::Refused(refused) => refused.fault(),
-            NotGrown::Misplaced(_) => GrowFault::NoArena,
+            NotGrown::Misplaced(_) => GrowFault::NoMemory,
         }
     }
 }

@@ -46,8 +46,8 @@ pub fn audit<D: Deed>(
 }
 
 /// The same where the caller counts what is out, as by a book of leases. Exported is what other
-/// arenas imported. It goes over the arenas, and over the arena's slabs and depots, in constant time
-/// each.
+/// arenas imported. It goes over the arenas, and over the arena's slabs and depots, in constant
+/// time each.
 pub fn audit_units<D: Deed>(stock: &Stock<D>, arena: usize, out: UnitsOut) -> ArenaSums
     requires within { arena < length stock.now }
     requires balanced { IsBalanced stock.now arena out }

@@ -7,8 +7,8 @@
 //! that a new stock is accounted for, that each step keeps it, and what follows: the sums add up,
 //! what a source exported are its children's spans, and no two segments that are out overlap.
 //!
-//! `audit` goes once over the lists that it is given; else it takes constant time for each arena and
-//! each cache of the one that it tells of. It takes no memory.
+//! `audit` goes once over the lists that it is given; else it takes constant time for each arena
+//! and each cache of the one that it tells of. It takes no memory.
 //!
 //! Begin with `audit` in `audits`; `specs/Outside.antt` has what is out, `specs/Laws.antt` what the
 //! laws say.

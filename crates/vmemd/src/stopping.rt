@@ -149,8 +149,8 @@ pub(crate) fn retire<N: Name, R: Wait + Clock + Eprint>(
     put_back(rt, tried, &mut Stuck { rt, signals });
 }
 
-/// Looks for each part once. The first that wasn't found where it was set up, now or before, is told
-/// on standard error, once.
+/// Looks for each part once. The first that wasn't found where it was set up, now or before, is
+/// told on standard error, once.
 pub(crate) fn look<N: Name, R: Wait + Eprint>(
     rt: &R,
     system: &System<N>,
