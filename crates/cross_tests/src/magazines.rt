@@ -1,12 +1,15 @@
 //! Worked runs of giving and taking over a CPU's cache and its depot, most of them with magazines
 //! of three rounds. A round is told by its base.
+ghost use Rattle.std.specs.Prelude.{◌≡◌, All};
+ghost use Rattle.deed_core.specs.Covering.{units_in};
+ghost use Rattle.magazine_layer.specs.Magazines.{cache_rounds};
 
 mod steps;
 
 use self::steps::{
     NOTHING, Step, base, cache_of, close, close_depot, round, run, run_anew, single, take_all,
 };
-use deed_core::PlainDeed;
+use deed_core::{PlainDeed, Range, Route, Segment};
 use magazine_layer::{
     CpuCache, Depot, FullFault, Magazine, NotGreater, RoundAnswer, RoundOp, RoundRun,
     is_magazine_size, run_rounds, two_empty,
@@ -207,6 +210,34 @@ fn discard(rt: &impl Abort, magazine: Magazine<PlainDeed>) {
     match magazine.discard() {
         Ok(()) => {}
         Err(_) => panic!(rt; "the magazine has rounds"),
+    }
+}
+
+/// Five rounds of four units lie in both magazines: by their number they have as many units as
+/// counted one after another.
+#[test]
+fn alike_rounds(rt: HostRuntime) {
+    let mut cpu = cache_of(&rt, 3);
+    assert_eq!(rt; cpu.units_alike(), 0);
+    for at in 0..5 {
+        give_four(&rt, &mut cpu, 4 * at);
+    }
+    assert_eq!(rt; (cpu.units_alike(), cpu.units()), (20, 20));
+    for wanted in [16, 12, 8, 4, 0] {
+        assert_eq!(rt; cpu.take().map(base), Some(wanted));
+    }
+    close(&rt, cpu);
+}
+
+/// The round of four units at this base is kept, beside others of four.
+fn give_four(rt: &impl Abort, cpu: &mut CpuCache<PlainDeed>, at: u64)
+    requires { All (λ t. units_in t.holding ≡ 4) (cache_rounds cpu.old) }
+    ensures { All (λ t. units_in t.holding ≡ 4) (cache_rounds cpu.new) }
+{
+    let range = Range::new(at, 4).expect(rt, "range");
+    match cpu.give(Segment::new(1, Route::Cached(4), PlainDeed::new(1, range))) {
+        Ok(()) => {}
+        Err(_) => panic!(rt; "no room"),
     }
 }
 

@@ -6,6 +6,7 @@ use Rattle.std.proofs.lemmas.List.Sums.{sum_by-cons}
 use Rattle.deed_core.specs.Tag.{Tag}
 use Rattle.deed_core.specs.Covering.{units_in, units_tagged}
 use Rattle.magazine_layer.specs.Magazines.{IsSize}
+use Rattle.magazine_layer.specs.Alike.{AreAlike}
 use Rattle.magazine_layer.specs.Depots.{DepotState, IsDepot, IsOldCount, all_rounds, depot_rounds}
 
 abbrev Few : List Tag → Type 0
@@ -82,3 +83,7 @@ alike_units each (t ∷ ts) all =
     let one : units_in t.holding ≡ each = All-head P t ts all in
     let rest : units_tagged ts ≡ length ts * each = alike_units each ts (All-tail P t ts all) in
     omega (arith, one, rest, sum_by-cons (λ (t : Tag). units_in t.holding) t ts)
+
+pub alike_last : (ts us : List Tag) → AreAlike (ts ++ us) → AreAlike us
+alike_last [] us a = a
+alike_last (t ∷ ts) us a = alike_last ts us (record { each = a.each; alike = All-tail (λ (t : Tag). units_in t.holding ≡ a.each) t (ts ++ us) a.alike })

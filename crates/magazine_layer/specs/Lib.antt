@@ -1,4 +1,5 @@
 pub mod Magazines
+pub mod Alike
 pub mod Depots
 pub mod Calls
 pub mod Rounds

@@ -3,6 +3,7 @@ ghost use Rattle.std.specs.Prelude.{◌≡◌, ◌+◌, ◌≤◌, ◌↔◌, �
 ghost use Rattle.std.specs.Prelude.{IfSome, IfOk, OnOk, option_to_list};
 ghost use Rattle.deed_core.specs.Covering.{units_tagged};
 ghost use Rattle.deed_core.specs.Weights.{WeighSame, Gains, Loses};
+ghost use Rattle.magazine_layer.specs.Alike.{AreAlike};
 ghost use Rattle.magazine_layer.specs.Magazines.{IsSize, AreAmong, IsShaped, BothEmpty, BothFull};
 ghost use Rattle.magazine_layer.specs.Magazines.{cache_rounds, with_rounds, after_change};
 ghost use Rattle.magazine_layer.specs.Calls.{PopOf, PushOf, ChangeOverOf, CpuCacheCloseOf};
@@ -69,11 +70,19 @@ impl<D: Deed> CpuCache<D> {
         self.loaded.is_full() && self.previous.is_full()
     }
 
-    /// The units that its rounds cover, each counted by itself.
+    /// The units that its rounds cover, each counted by itself. It goes over all rounds.
     pub fn units(&self) -> u128
         ensures { result ≡ units_tagged (cache_rounds self.now) }
     {
         self.previous.units() + self.loaded.units()
+    }
+
+    /// The same where all of them are alike, in constant time.
+    pub fn units_alike(&self) -> u128
+        requires { AreAlike (cache_rounds self.now) }
+        ensures { result ≡ units_tagged (cache_rounds self.now) }
+    {
+        self.previous.units_alike() + self.loaded.units_alike()
     }
 
     /// Takes the last round of loaded, or of previous where loaded is empty and previous is full.

@@ -24,8 +24,8 @@
 //! oldest magazine goes without a move of the others: `reap` takes constant time, and constant time
 //! more for each empty magazine that it discards. `resize` takes constant time for each magazine
 //! that the depot has of its size, full or empty, and a depot's `close` for each empty one.
-//! `rounds` takes constant time, so that where all rounds are alike their units are told without a
-//! walk; `units` goes over all rounds.
+//! `rounds` and `units_alike` take constant time: where all rounds are alike their units are told
+//! without a walk; `units` goes over all rounds.
 //!
 //! What contracts see of each type stands in `specs/`: begin with `Magazines.antt`. What a call
 //! did, by its answer, stands in `Calls.antt`. Runs of the whole are in `cross_tests`.

@@ -3,6 +3,7 @@ ghost use Rattle.std.specs.Prelude.{◌≡◌, ◌+◌, ◌<◌, ◌≤◌, ◌^
 ghost use Rattle.std.specs.Prelude.{IfSome, IfOk, option_to_list};
 ghost use Rattle.deed_core.specs.Covering.{units_tagged};
 ghost use Rattle.deed_core.specs.Weights.{Loses};
+ghost use Rattle.magazine_layer.specs.Alike.{AreAlike};
 ghost use Rattle.magazine_layer.specs.Magazines.{IsSize, AreAmong, IsMagazine, empty_magazine};
 ghost use Rattle.magazine_layer.specs.Calls.{MagazineTakeOf, DiscardOf};
 
@@ -96,6 +97,18 @@ impl<D: Deed> Magazine<D> {
         ensures bound { result < 2 ^ 126 }
     {
         units_of_rounds(&self.rounds)
+    }
+
+    /// The same where all of them are alike, by their number and the last of them.
+    pub(crate) fn units_alike(&self) -> u128
+        requires alike { AreAlike self.now.rounds }
+        ensures value { result ≡ units_tagged self.now.rounds }
+        ensures bound { result < 2 ^ 126 }
+    {
+        let Some(last) = self.rounds.last() else {
+            return 0;
+        };
+        self.rounds.len() as u128 * u128::from(last.range().len())
     }
 
     /// Takes the last round that was put in. It takes no memory.

@@ -1,6 +1,5 @@
 //! The law of deeds over each type of deed, and what a refused split leaves.
 ghost use Rattle.std.specs.Prelude.{◌≡◌};
-ghost use Rattle.deed_core.specs.Holding.{GoesOn};
 
 use super::range;
 use deed_core::{Deed, PlainDeed, Refused, join_three, move_border};

@@ -2,7 +2,6 @@
 ghost use Rattle.std.specs.Prelude.{◌≡◌, ◌≤◌, ◌++◌, ◌∷◌, ◌↔◌, [], All, IfOk, IsTrue, OnOk, IfSome};
 ghost use Rattle.std.specs.Prelude.{length};
 ghost use Rattle.std.specs.Prelude.{flat_map, option_to_list};
-ghost use Rattle.deed_core.specs.Tag.{Tag};
 ghost use Rattle.deed_core.specs.Weights.{Gains, Loses, WeighSame};
 ghost use Rattle.magazine_layer.specs.Calls.{PopOf, PushOf, SwapFullOf, SwapEmptyOf, PutFullOf};
 ghost use Rattle.magazine_layer.specs.Calls.{ResizeOf, DepotReapOf, ChangeOverOf};
@@ -10,7 +9,7 @@ ghost use Rattle.magazine_layer.specs.Depots.{CanReap, IsDepot, both_rounds, dep
 ghost use Rattle.magazine_layer.specs.Magazines.{AreAmong, BothEmpty, BothFull, IsMagazine};
 ghost use Rattle.magazine_layer.specs.Magazines.{IsShaped};
 ghost use Rattle.magazine_layer.specs.Magazines.{IsSize};
-ghost use Rattle.magazine_layer.specs.Magazines.{cache_rounds, empty_magazine};
+ghost use Rattle.magazine_layer.specs.Magazines.{cache_rounds};
 ghost use Rattle.magazine_layer.specs.Rounds.{rounds_of_answer, rounds_of_op};
 
 use deed_core::{Deed, PlainDeed, Range, Route, Segment};
