@@ -5,7 +5,6 @@ use Rattle.std.proofs.lemmas.List.Concat.{flat_map-cons}
 use Rattle.std.proofs.lemmas.List.Elements.{All-cons}
 use Rattle.deed_core.specs.Tag.{Tag}
 use Rattle.stock.specs.OwnCaches.{OwnCacheState, own_rounds, all_own_rounds, HasNoRound}
-use Rattle.local_parts.specs.Cpus.{HasNoRounds, cpu_rounds}
 use Rattle.local_parts.specs.Laws.{EmptyHasNoRounds}
 
 split_none : (xs ys : List Tag) → xs ++ ys ≡ [] → (xs ≡ []) × (ys ≡ [])

@@ -1,7 +1,6 @@
 //! One CPU's caches.
-ghost use Rattle.std.specs.Prelude.{◌≡◌, ◌+◌, ◌-◌, ◌^◌, ◌↔◌, List, [], length, min, slice_get};
-ghost use Rattle.std.specs.Prelude.{Some, IfOk, IfErr, IfSome, IfNone, IsOk, IsTrue};
-ghost use Rattle.deed_core.specs.Covering.{units_tagged};
+ghost use Rattle.std.specs.Prelude.{◌≡◌, ◌+◌, ◌-◌, ◌^◌, ◌↔◌, List, []};
+ghost use Rattle.std.specs.Prelude.{IsTrue};
 ghost use Rattle.stock.specs.OwnCaches.{OwnCacheState};
 ghost use Rattle.local_parts.specs.Cpus.{IsOwnAt, OnOwn};
 ghost use Rattle.local_parts.specs.OwnChanges.{OwnPops, OwnPushes, OwnChanges};

@@ -9,7 +9,7 @@ use Rattle.deed_core.proofs.LawProofs.{written, sum_set, map_set_same, slice_get
 use Rattle.stock.specs.Spaces.{SpaceState, QuantumCacheState, with_cache, IsCacheAt, HasCache, slab_size_of, plan_of, plans_of, quantum_of, quanta_of}
 use Rattle.stock.specs.Stocks.{IsQuantumCache, IsSpaceAt, IsStock}
 use Rattle.stock.specs.Accounts.{weight_allocated, weight_imported, slabs_in, chunks_in, rounds_in, slabs, chunks, rounds, Frames}
-use Rattle.stock.proofs.Moving.{Moves, is_written}
+use Rattle.stock.proofs.Moving.{Moves}
 use Rattle.stock.proofs.Moving as moving
 
 -- the indexes of a cache that stands

@@ -21,7 +21,7 @@ use Rattle.magazine_layer.specs.Depots.{IsDepot, new_depot}
 use Rattle.stock.specs.Spaces.{SpaceState, QuantumCacheState, with_caches, quantum_of, quanta_of}
 use Rattle.stock.specs.Stocks.{IsRoundOf, IsQuantumCache, IsFrom, IsSpaceAt, IsStock}
 use Rattle.stock.specs.Accounts as accounts
-use Rattle.stock.specs.Accounts.{weight_allocated, weight_imported, slabs_in, chunks_in, rounds_in, chunks, rounds, Accounts, Frames}
+use Rattle.stock.specs.Accounts.{weight_allocated, weight_imported, slabs_in, chunks_in, rounds_in, chunks, rounds, Accounts}
 use Rattle.stock.specs.Steps.{CanImportFrom, next_cache, GainsCache, new_space}
 use Rattle.stock.proofs.Moving.{Opens, is_written}
 

@@ -112,11 +112,11 @@ impl<D: Deed> OwnCache<D> {
         self.cpu.size()
     }
 
-    /// The units of its rounds.
+    /// The units of its rounds, in constant time.
     pub fn units(&self) -> u128
         ensures { result ≡ units_tagged (cache_rounds self.now.cpu) }
     {
-        self.cpu.units()
+        self.cpu.units_alike()
     }
 
     /// Takes a round. It takes no memory.

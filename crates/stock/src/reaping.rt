@@ -7,7 +7,7 @@ ghost use Rattle.magazine_layer.specs.Depots.{depot_rounds};
 ghost use Rattle.stock.specs.Spaces.{QuantumCacheState, IsCacheAt, HasCache, plans_of};
 ghost use Rattle.stock.specs.Accounts.{Accounts, Frames};
 ghost use Rattle.stock.specs.Steps.{IsRoundIn};
-ghost use Rattle.stock.specs.Endings.{IsReaped, IsReapedAt, IsReapedCache, hand_after_reap};
+ghost use Rattle.stock.specs.Endings.{IsReaped, IsReapedAt, hand_after_reap};
 ghost use Rattle.stock.specs.Endings.{OthersStay, OtherArenasStay, DepotsStay, AllCachesStay};
 ghost use Rattle.stock.specs.Endings.{lastings_of};
 

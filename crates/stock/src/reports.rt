@@ -1,5 +1,4 @@
-//! What a stock tells of its parts. The sums of an audit are read off these: what is exported is
-//! what is left of the span.
+//! What a stock tells of its parts. The sums of an audit are read off these.
 ghost use Rattle.std.specs.Prelude.{◌≡◌, ◌+◌, ◌-◌, ◌^◌, ◌<◌, length, min, slice_get, Some};
 ghost use Rattle.deed_core.specs.Covering.{units_held, units_tagged};
 ghost use Rattle.tag_arena.specs.ArenaState.{spans_of};

@@ -66,6 +66,16 @@ module _ (spaces : List SpaceState) (stock : IsStock spaces) (k : ℕ) (s : Spac
       pub moved_fits : sums.magazine + units.rounds ≤ units_held (spans_of s.arena)
       moved_fits = omega (arith, depots, all_told)
 
+      slabs : sums.slab ≡ units_held (in_slabs s)
+      slabs = ap (λ (x : Sums). x.slab) told
+
+      children : sums.exported ≡ exported
+      children = ap (λ (x : Sums). x.exported) told
+
+      -- the parts of what is allocated
+      pub told_parts : units_held s.arena.free + (sums.slab + (sums.magazine + units.rounds) + units.leased + units.hand) + sums.exported ≡ units_held (spans_of s.arena)
+      told_parts = omega (arith, slabs, depots, children, all_told)
+
       -- what counted as leased is where it is
       pub moved : (o : Out) → IsTally k o units
           → told_sums (record { free = sums.free; slab = sums.slab; magazine = sums.magazine + units.rounds; exported = sums.exported; leased = units.leased; hand = units.hand }) ≡ lengths_of (homes_of spaces o s)
@@ -78,3 +88,8 @@ module _ (spaces : List SpaceState) (stock : IsStock spaces) (k : ℕ) (s : Spac
           (ap (λ (x : Sums). x.exported) told)
           (tally.leased ∙ here o.leases)
           (tally.hand ∙ here o.hands)
+
+      -- and so where the free ones are a report's, and the exported ones are what is left
+      pub moved_left : (free left : ℕ) → free ≡ units_held s.arena.free → left ≡ sums.exported → (o : Out) → IsTally k o units
+          → told_sums (record { free = free; slab = sums.slab; magazine = sums.magazine + units.rounds; exported = left; leased = units.leased; hand = units.hand }) ≡ lengths_of (homes_of spaces o s)
+      moved_left free left same is o tally = (λ i. record { free = (same ∙ sym (ap (λ (x : Sums). x.free) told)) i; slab = sums.slab; magazine = sums.magazine + units.rounds; exported = is i; leased = units.leased; hand = units.hand }) ∙ moved o tally

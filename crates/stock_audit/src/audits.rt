@@ -57,14 +57,32 @@ pub fn audit_units<D: Deed>(stock: &Stock<D>, arena: usize, out: UnitsOut) -> Ar
     with_out(stock, arena, sums, out)
 }
 
-/// The same, counted by parts: one round of the depots after another.
+/// The same, counted by parts: one round of the depots after another, and exported is what is left
+/// of what is allocated.
 pub fn audit_units_by_parts<D: Deed>(stock: &Stock<D>, arena: usize, out: UnitsOut) -> ArenaSums
     requires within { arena < length stock.now }
     requires balanced { IsBalanced stock.now arena out }
     ensures { (o : Out) → IsTally arena o out → TellsSums stock.now arena o result }
 {
+    // For its clause: what is always so of a stock.
+    let _ = stock.count();
+    let report = stock.arena_report(arena);
     let sums = stock.sums_by_parts(arena);
-    with_out(stock, arena, sums, out)
+    let UnitsOut {
+        rounds,
+        leased,
+        hand,
+    } = out;
+    let magazine = sums.magazine + rounds;
+    let elsewhere = sums.slab + magazine + leased + hand;
+    ArenaSums {
+        free: report.free,
+        slab: sums.slab,
+        magazine,
+        exported: report.allocated - elsewhere,
+        leased,
+        hand,
+    }
 }
 
 /// The sums of an arena of which the stock tells these, as it counts all that is out as leased.
@@ -75,7 +93,7 @@ fn with_out<D: Deed>(stock: &Stock<D>, arena: usize, sums: ArenaSums, out: Units
         → TellsSums stock.now arena (as_leased all) sums }
     ensures { (o : Out) → IsTally arena o out → TellsSums stock.now arena o result }
 {
-    // For their clauses, as above.
+    // For their clauses: what is always so of a stock, and how many units an arena's spans have.
     let _ = stock.count();
     let _ = stock.arena_report(arena);
     ArenaSums {

@@ -1,14 +1,15 @@
 //! The audits of two arenas, of which the second imports from the first, after a few events, with
 //! numbers counted by hand: without caches, and with slabs, a gap and tails, and a CPU's magazines;
 //! and what one thread's parts tell of the first.
-ghost use Rattle.std.specs.Prelude.{[], ◌∷◌};
+ghost use Rattle.std.specs.Prelude.{List, [], ◌∷◌};
 ghost use Rattle.std.specs.Option.{option_to_list};
+ghost use Rattle.deed_core.specs.Tag.{Tag};
 ghost use Rattle.stock.specs.Accounts.{Accounts, Frames};
 ghost use Rattle.stock.specs.OwnCaches.{own_rounds};
 ghost use Rattle.stock_audit.specs.Outside.{outside, segments_out};
 
 use crate::stocks::{name, stock_of, two_arenas};
-use arena_tree::{NewChild, NewRoot, Setting, Setup, Tree};
+use arena_tree::{NewChild, NewRoot, Parts, Setting, Setup, Tree};
 use deed_core::{Deed, PlainDeed, Request, Route, Segment};
 use local_parts::{CpuCaches, Local};
 use std::alloc::Global;
@@ -305,8 +306,21 @@ fn sums_with_caches(rt: HostRuntime) {
 }
 
 /// One thread's parts tell these sums of the first arena, by counts and by parts, and of the second
-/// that it has nothing. What is out counts as leased.
-fn parts_tell(
+/// that it has nothing.
+fn parts_tell(rt: &impl Abort, parts: &Local<PlainDeed>, first: ArenaSums)
+    requires balances { (out : List Tag) × Accounts parts.now.stock.now out }
+{
+    assert!(rt; parts.stock.count() == 2);
+    let mut room = SumsRoom::new();
+    let told = parts.sums(&mut room);
+    assert_eq!(rt; told.len(), 2);
+    assert_eq!(rt; told[0], first);
+    assert_eq!(rt; told[1], sums(0, 0, 0, 0));
+    assert_eq!(rt; parts.audit_by_parts(0), first);
+}
+
+/// What is out counts as leased.
+fn leased_told(
     rt: &impl Abort,
     stock: &mut Stock<PlainDeed>,
     tree: &Tree,
@@ -319,7 +333,6 @@ fn parts_tell(
     let Ok(mut cpu) = CpuCaches::new(alloc, stock, 3) else {
         panic!(rt; "a CPU")
     };
-    assert!(rt; stock.count() == 2);
     let leased = u128::from(out.range().len());
     let parts = Local {
         stock,
@@ -328,12 +341,7 @@ fn parts_tell(
         alloc,
         steps: 0,
     };
-    let mut room = SumsRoom::new();
-    let told = parts.sums(&mut room);
-    assert_eq!(rt; told.len(), 2);
-    assert_eq!(rt; told[0], sums(free, 0, leased, 0));
-    assert_eq!(rt; told[1], sums(0, 0, 0, 0));
-    assert_eq!(rt; parts.audit_by_parts(0), sums(free, 0, leased, 0));
+    parts_tell(rt, &parts, sums(free, 0, leased, 0));
     match cpu.close() {
         Ok(()) => {}
         Err(_) => panic!(rt; "a round"),
@@ -345,10 +353,65 @@ fn sums_of_one_threads_parts(rt: HostRuntime) {
     let setup = two_arenas(&rt, rt.alloc());
     let mut stock = stock_of(&rt, rt.alloc(), &setup);
     let span = carve(&rt, &mut stock, 16);
-    parts_tell(&rt, &mut stock, setup.tree(), rt.alloc(), &span, 112);
+    leased_told(&rt, &mut stock, setup.tree(), rt.alloc(), &span, 112);
     match free(&rt, &mut stock, span) {
         None => {}
         Some(_) => panic!(rt; "a span"),
     }
+    end_reaped(&rt, stock);
+}
+
+/// So does a round of the CPU: five units of a slab of sixteen, of which the others lie in the
+/// slab. It goes home at last.
+fn round_told(
+    rt: &impl Abort,
+    stock: &mut Stock<PlainDeed>,
+    tree: &Tree,
+    alloc: Global,
+    chunk: Segment<PlainDeed>,
+)
+    requires balances { Accounts stock.old (chunk ∷ []) }
+{
+    let Ok(mut cpu) = CpuCaches::new(alloc, stock, 3) else {
+        panic!(rt; "a CPU")
+    };
+    let mut parts = Local {
+        stock,
+        cpu: &mut cpu,
+        tree,
+        alloc,
+        steps: 0,
+    };
+    match parts.push(0, 5, chunk) {
+        Ok(()) => {}
+        Err(_) => panic!(rt; "a push"),
+    }
+    let told = ArenaSums {
+        free: 112,
+        slab: 11,
+        magazine: 0,
+        exported: 0,
+        leased: 5,
+        hand: 0,
+    };
+    parts_tell(rt, &parts, told);
+    assert_eq!(rt; parts.cpu.units(0), 5);
+    match parts.pop(0, 5) {
+        Ok(Some(round)) => put(rt, parts.stock, round),
+        _ => panic!(rt; "a pop"),
+    }
+    match cpu.close() {
+        Ok(()) => {}
+        Err(_) => panic!(rt; "a round"),
+    }
+}
+
+#[test]
+fn sums_of_parts_with_a_round(rt: HostRuntime) {
+    let setup = two_arenas(&rt, rt.alloc());
+    let mut stock = stock_of(&rt, rt.alloc(), &setup);
+    let span = carve(&rt, &mut stock, 16);
+    let chunk = slab_add(&rt, &mut stock, span);
+    round_told(&rt, &mut stock, setup.tree(), rt.alloc(), chunk);
     end_reaped(&rt, stock);
 }

@@ -5,7 +5,6 @@ ghost use Rattle.std.specs.Prelude.{[], ◌++◌};
 ghost use Rattle.std.specs.Option.{option_to_list};
 ghost use Rattle.deed_core.specs.Weights.{WeighSame};
 ghost use Rattle.stock.specs.Accounts.{Accounts};
-ghost use Rattle.stock.specs.OwnCaches.{own_rounds};
 ghost use Rattle.stock_tests.specs.Walks.{Balances};
 
 use crate::same_sums::same_sums;

@@ -4,7 +4,6 @@ use Rattle.std.specs.Prelude.{slice_get, IsSome}
 use Rattle.std.proofs.lemmas.Option.{slice_get_within}
 use Rattle.std.proofs.lemmas.Bool.{false≢true}
 use Rattle.deed_core.specs.Extent.{Extent}
-use Rattle.deed_core.proofs.LawProofs.{slice_get_one}
 use Rattle.arena_tree.specs.declared.part_faults.GrowFault.{GrowFault}
 use Rattle.arena_tree.specs.declared.part_faults.GrowFault.TheVariants as growing
 use Rattle.stock.specs.Spaces.{SpaceState, plans_of}
