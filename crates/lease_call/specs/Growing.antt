@@ -1,5 +1,5 @@
 -- What an operator's line that grows a root asks for, and what it is told.
-use Rattle.std.specs.Prelude.{◌≡◌, ◌⊎◌, ℕ, List, Option, Some, None, Result, Ok, Err, slice_get}
+use Rattle.std.specs.Prelude.{◌≡◌, ◌⊎◌, ℕ, List, Some, None, Result, Ok, Err, slice_get}
 use Rattle.deed_core.specs.Extent.{Extent, IsRange}
 use Rattle.arena_tree.specs.Trees.{index_in}
 use Rattle.arena_tree.specs.declared.trees.TreeArena.{TreeArena}
@@ -7,7 +7,7 @@ use Rattle.arena_tree.specs.declared.part_faults.GrowFault.{GrowFault}
 use Rattle.arena_tree.specs.declared.part_faults.GrowFault.TheVariants as faults
 use Rattle.lease_proto.specs.declared.faults.ErrorWord.{ErrorWord}
 use Rattle.lease_proto.specs.declared.faults.ErrorWord.TheVariants.{Line, Memory, NoArena, Size}
-use Rattle.lease_proto.specs.declared.faults.ErrorWord.TheVariants.{Range, Many, Busy}
+use Rattle.lease_proto.specs.declared.faults.ErrorWord.TheVariants.{Range, Many, Misplaced, Busy}
 use Rattle.lease_proto.specs.declared.operators.GrowLine.{GrowLine}
 use Rattle.lease_call.specs.declared.growing.Growth.{Growth}
 
@@ -32,6 +32,7 @@ AsksGrowth arenas line (Err (Line fault)) = ⊥
 AsksGrowth arenas line (Err Memory) = ⊥
 AsksGrowth arenas line (Err Size) = ⊥
 AsksGrowth arenas line (Err Many) = ⊥
+AsksGrowth arenas line (Err Misplaced) = ⊥
 AsksGrowth arenas line (Err Busy) = ⊥
 
 -- the word of a root that didn't grow
@@ -48,12 +49,11 @@ abbrev pub grow_outcome : Result (Unit {0}) GrowFault → Result (Unit {0}) Erro
 grow_outcome (Ok done) = Ok done
 grow_outcome (Err fault) = Err (grow_word fault)
 
-module _ {S : Type 0} (grows : S → ℕ → Extent → Result (Unit {0}) GrowFault → S → Type 0) where
-  -- a line is refused and nothing changes, or the root that it names grows or says why not
+module _ {S : Type 0} (grows : S → ℕ → Extent → Result (Unit {0}) ErrorWord → S → Type 0) where
+  -- a line is refused and nothing changes, or what may come of the root that it names is told
   abbrev pub TellsGrowth : List TreeArena → GrowLine → S → Result (Unit {0}) ErrorWord → S
       → Type 0
   TellsGrowth arenas line old told new =
       ((word : ErrorWord) × AsksGrowth arenas line (Err word) × (told ≡ Err word) × (new ≡ old))
-      ⊎ ((growth : Growth) × (grown : Result (Unit {0}) GrowFault)
-      × AsksGrowth arenas line (Ok growth) × grows old growth.arena growth.range grown new
-      × (told ≡ grow_outcome grown))
+      ⊎ ((growth : Growth) × AsksGrowth arenas line (Ok growth)
+      × grows old growth.arena growth.range told new)

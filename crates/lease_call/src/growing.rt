@@ -43,7 +43,7 @@ pub fn grow_outcome(grown: Result<(), GrowFault>) -> Result<(), ErrorWord>
 }
 
 /// The word of a root that didn't grow.
-fn grow_word(fault: GrowFault) -> ErrorWord
+pub fn grow_word(fault: GrowFault) -> ErrorWord
     ensures { result ≡ spec.grow_word fault }
 {
     match fault {

@@ -32,7 +32,7 @@ mod requesting;
 pub use books::Books;
 pub use call_faults::{CallFault, NotGreeted, NotReleased, NotSettled};
 pub use greeting::hello;
-pub use growing::{Growth, grow_outcome, growth_asked};
+pub use growing::{Growth, grow_outcome, grow_word, growth_asked};
 pub use laws::{hand_laws, kept_laws, lock_laws, no_fit_laws, stop_laws};
 pub use outcomes::{Greeting, Outcome};
 pub use placing::place;

@@ -113,9 +113,12 @@ error_word_says word r e = elim (named error_word word (errors.Line faults.TooLo
                 | inl is ↦ is
                 | inr e8 ↦ elim (named error_word word errors.Many _ r e8) [
                   | inl is ↦ is
-                  | inr e9 ↦ elim (named error_word word errors.Busy _ r e9) [
+                  | inr e9 ↦ elim (named error_word word errors.Misplaced _ r e9) [
                     | inl is ↦ is
-                    | inr none ↦ absurd (cc)
+                    | inr e10 ↦ elim (named error_word word errors.Busy _ r e10) [
+                      | inl is ↦ is
+                      | inr none ↦ absurd (cc)
+                    ]
                   ]
                 ]
               ]

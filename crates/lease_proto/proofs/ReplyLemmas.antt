@@ -57,6 +57,7 @@ error_again errors.NoArena = refl
 error_again errors.Size = refl
 error_again errors.Range = refl
 error_again errors.Many = refl
+error_again errors.Misplaced = refl
 error_again errors.Busy = refl
 
 error_is_word : (error : ErrorWord) → is_word (error_word error) ≡ true
@@ -69,9 +70,10 @@ error_is_word errors.NoArena = refl
 error_is_word errors.Size = refl
 error_is_word errors.Range = refl
 error_is_word errors.Many = refl
+error_is_word errors.Misplaced = refl
 error_is_word errors.Busy = refl
 
-pub error_short : (error : ErrorWord) → length (error_word error) ≤ 7
+pub error_short : (error : ErrorWord) → length (error_word error) ≤ 9
 error_short (errors.Line faults.TooLong) = lit≤ tt
 error_short (errors.Line faults.BadLine) = lit≤ tt
 error_short (errors.Line faults.Word) = lit≤ tt
@@ -81,6 +83,7 @@ error_short errors.NoArena = lit≤ tt
 error_short errors.Size = lit≤ tt
 error_short errors.Range = lit≤ tt
 error_short errors.Many = lit≤ tt
+error_short errors.Misplaced = lit≤ tt
 error_short errors.Busy = lit≤ tt
 
 words_again : (reply : Reply) → IsReply reply → reply_in (first_reply_word reply ∷ reply_words reply) ≡ Ok reply

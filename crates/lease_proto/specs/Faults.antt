@@ -5,7 +5,7 @@ use Rattle.lease_proto.specs.declared.faults.LineFault.{LineFault}
 use Rattle.lease_proto.specs.declared.faults.LineFault.TheVariants.{TooLong, BadLine, Word, Number}
 use Rattle.lease_proto.specs.declared.faults.ErrorWord.{ErrorWord}
 use Rattle.lease_proto.specs.declared.faults.ErrorWord.TheVariants.{Line, Memory, NoArena, Size}
-use Rattle.lease_proto.specs.declared.faults.ErrorWord.TheVariants.{Range, Many, Busy}
+use Rattle.lease_proto.specs.declared.faults.ErrorWord.TheVariants.{Range, Many, Misplaced, Busy}
 
 -- the word of a fault
 abbrev pub fault_word : LineFault → List ℕ
@@ -22,6 +22,7 @@ error_word NoArena = codes "noarena"
 error_word Size = codes "size"
 error_word Range = codes "range"
 error_word Many = codes "many"
+error_word Misplaced = codes "misplaced"
 error_word Busy = codes "busy"
 
 -- the `error` line, with its line feed
@@ -44,5 +45,6 @@ error_word_in word =
     else if bytes_eq word (codes "size") then Ok Size
     else if bytes_eq word (codes "range") then Ok Range
     else if bytes_eq word (codes "many") then Ok Many
+    else if bytes_eq word (codes "misplaced") then Ok Misplaced
     else if bytes_eq word (codes "busy") then Ok Busy
     else Err BadLine

@@ -68,6 +68,8 @@ pub enum ErrorWord {
     Range,
     /// The arena of an operator's line has as many owned spans as it may have.
     Many,
+    /// The arena of an operator's line wasn't found where it was set up: a fault of the program.
+    Misplaced,
     /// A server has as many connections as it serves at a time.
     Busy,
 }
@@ -98,6 +100,8 @@ impl ErrorWord {
             Ok(ErrorWord::Range)
         } else if word == b"many".as_slice() {
             Ok(ErrorWord::Many)
+        } else if word == b"misplaced".as_slice() {
+            Ok(ErrorWord::Misplaced)
         } else if word == b"busy".as_slice() {
             Ok(ErrorWord::Busy)
         } else {
@@ -108,7 +112,7 @@ impl ErrorWord {
     /// The protocol's word.
     pub fn word(self) -> &'static [u8]
         ensures text { result.now ≡ error_word self }
-        ensures short { length result.now ≤ 7 }
+        ensures short { length result.now ≤ 9 }
     {
         match self {
             ErrorWord::Line(fault) => fault.word(),
@@ -117,6 +121,7 @@ impl ErrorWord {
             ErrorWord::Size => b"size",
             ErrorWord::Range => b"range",
             ErrorWord::Many => b"many",
+            ErrorWord::Misplaced => b"misplaced",
             ErrorWord::Busy => b"busy",
         }
     }
@@ -132,6 +137,7 @@ impl ErrorWord {
             ErrorWord::Size => b"error size\n",
             ErrorWord::Range => b"error range\n",
             ErrorWord::Many => b"error many\n",
+            ErrorWord::Misplaced => b"error misplaced\n",
             ErrorWord::Busy => b"error busy\n",
         }
     }

@@ -53,6 +53,7 @@ const REPLIES: &str = "welcome 65536 1\n\
     error size\n\
     error range\n\
     error many\n\
+    error misplaced\n\
     error busy";
 
 /// What isn't a line of a client, and of an operator neither, by its words or their count.
