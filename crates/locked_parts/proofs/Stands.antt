@@ -4,7 +4,7 @@ use Rattle.std.specs.Prelude.{slice_get}
 use Rattle.std.specs.Option.{is_some, option_map}
 use Rattle.std.proofs.lemmas.Bool.{ltb-true}
 use Rattle.deed_core.proofs.LawProofs.{slice_get_here}
-use Rattle.std.proofs.lemmas.List.{append-nil, append_assoc, length-map}
+use Rattle.std.proofs.lemmas.List.{append_assoc, length-map}
 use Rattle.std.proofs.lemmas.Option.{slice_get-map, slice_get_within}
 use Rattle.arena_tree.specs.Chains.{quantum_in, source_of}
 use Rattle.arena_tree.specs.Trees.{nodes_of}
@@ -43,13 +43,14 @@ stand_as_set arenas made stand count all is = record {
           kinds = ap (λ (l : LockedArenaState). l.kinds) (sym same) ∙ made_so.kinds;
         }
 
--- the same of one alone
-pub one_stands : (arenas : List TreeArena) (made : NewArenaState) (stand : List LockedArenaState) → length arenas ≡ 1 → IsMadeAsSet arenas 0 made → stand ≡ locked_of made ∷ [] → StandAsSet arenas stand
-one_stands arenas made stand count this is = stand_as_set arenas (made ∷ []) stand (sym count) (record { each = first }) is
+-- the same of two alone
+pub two_stand : (arenas : List TreeArena) (one two : NewArenaState) (stand : List LockedArenaState) → length arenas ≡ 2 → IsMadeAsSet arenas 0 one → IsMadeAsSet arenas 1 two → stand ≡ locked_of one ∷ locked_of two ∷ [] → StandAsSet arenas stand
+two_stand arenas one two stand count first second is = stand_as_set arenas (one ∷ two ∷ []) stand (sym count) (record { each = each }) is
   where
-    first : (k : ℕ) (a : NewArenaState) → slice_get (made ∷ []) k ≡ Some a → IsMadeAsSet arenas k a
-    first zero a at = (let same : made ≡ a = cc in subst (IsMadeAsSet arenas 0) same this)
-    first (suc k) a at = absurd (let e : None ≡ Some a = at in cc)
+    each : (k : ℕ) (a : NewArenaState) → slice_get (one ∷ two ∷ []) k ≡ Some a → IsMadeAsSet arenas k a
+    each zero a at = (let same : one ≡ a = cc in subst (IsMadeAsSet arenas 0) same first)
+    each (suc zero) a at = (let same : two ≡ a = cc in subst (IsMadeAsSet arenas 1) same second)
+    each (suc (suc k)) a at = absurd (let e : None ≡ Some a = at in cc)
 
 -- those are in their places
 pub set_in_place : (arenas : List TreeArena) (stand : List LockedArenaState) → StandAsSet arenas stand → AreInPlace arenas stand

@@ -1,9 +1,9 @@
 -- Which arenas may grow, and what a grow is answered.
-use Rattle.std.specs.Prelude.{◌≡◌, ℕ, ◌≤◌, List, Some, None, IsSome, Result, Ok, Err}
+use Rattle.std.specs.Prelude.{◌≡◌, ℕ, ◌≤◌, List, Option, Some, None, IsSome, Result, Ok, Err}
 use Rattle.std.specs.Prelude.{length, slice_get}
 use Rattle.deed_core.specs.Extent.{Extent}
 use Rattle.arena_tree.specs.declared.part_faults.GrowFault.{GrowFault}
-use Rattle.arena_tree.specs.declared.part_faults.GrowFault.TheVariants.{NoArena, NotRoot, NoMemory}
+use Rattle.arena_tree.specs.declared.part_faults.GrowFault.TheVariants.{NoArena, NotRoot}
 use Rattle.arena_tree.specs.declared.trees.TreeArena.{TreeArena}
 use Rattle.locked_parts.specs.Growing.{GrownState, IsGrowthBy, IsRefusalBy}
 use Rattle.locked_parts.specs.Saying.{IsMisplaced}
@@ -40,9 +40,9 @@ abbrev pub AnswersGrow : List TreeArena → ℕ → Extent → Result GrownState
 AnswersGrow arenas id range (Ok g) = IsRootArena arenas id × IsGrowthBy id range g
 AnswersGrow arenas id range (Err f) = MayRefuseGrow arenas id range f
 
--- the fault that is told of it: of an arena that isn't where it was set up, the last one
-abbrev pub grow_fault : NotGrown → GrowFault
-grow_fault growing.NoArena = NoArena
-grow_fault growing.NotRoot = NotRoot
-grow_fault (growing.Refused r) = r.fault
-grow_fault (growing.Misplaced m) = NoMemory
+-- the fault that it is; none where the arena isn't where it was set up
+abbrev pub grow_fault : NotGrown → Option GrowFault
+grow_fault growing.NoArena = Some NoArena
+grow_fault growing.NotRoot = Some NotRoot
+grow_fault (growing.Refused r) = Some r.fault
+grow_fault (growing.Misplaced m) = None

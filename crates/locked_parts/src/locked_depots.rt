@@ -1,6 +1,5 @@
 //! The depots of the parts under their locks, as a walk reaches them.
 ghost use Rattle.std.specs.Prelude.{◌≡◌};
-ghost use Rattle.magazine_layer.specs.Magazines.{IsSize};
 
 use crate::depot_walks::Depots;
 use crate::kind_depots::{ResizeSaid, TickSaid};

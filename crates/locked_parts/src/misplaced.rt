@@ -29,9 +29,9 @@ pub enum PartName {
 /// Why a part isn't found: none stands there, or another lies under its lock.
 #[derive(Clone, Copy, PartialEq, Eq, Debug, Error)]
 pub enum Cause {
-    #[error("doesn't stand")]
+    #[error("none stands there")]
     None,
-    #[error("has another in its place")]
+    #[error("another lies there")]
     Other,
 }
 
@@ -48,7 +48,7 @@ pub(crate) enum Found {
 /// That this part isn't where it was set up, why, and for which step it was sought, if for one.
 /// Only `LockedParts::missed` makes one.
 #[derive(Clone, Copy, PartialEq, Eq, Debug, Error)]
-#[error("misplaced: {part} {cause}")]
+#[error("misplaced: {part}: {cause}")]
 pub struct Misplaced {
     part: PartName,
     cause: Cause,

@@ -17,12 +17,13 @@ use crate::new_arenas::NewArena;
 use crate::own_events::{swap_empty_in, swap_fresh_in, swap_full_in};
 use crate::parts::LockedParts;
 use crate::said::Said;
-use arena_tree::{GivenFault, GrowFault, NewRoot, PartFault, Setting, Setup};
+use arena_tree::{GivenFault, GrowFault, NewChild, NewRoot, PartFault, Setting, Setup};
 use deed_core::{Range, Request, Route, Segment};
 use deed_table::{Ground, Name, Root, SeatDeed, close};
 use lease_terms::ArenaName;
 use std::alloc::AllocGlobal;
 use std::marker::Brand;
+use std::mem;
 use std::process::Abort;
 use std::sync::Wait;
 use std::test::Fail;
@@ -54,25 +55,44 @@ fn one_lock_an_event(rt: HostRuntime) -> Result<(), Fail> {
         qcache_max: 5,
     };
     setup.add(&Setting::Root(root)).expect(&rt, "a root");
+    let child = NewChild {
+        name: ArenaName::new(b"e").expect(&rt, "a name"),
+        source: root.name,
+        quantum: 1,
+        policy: Policy::Best,
+        qcache_max: 0,
+        import_min: 0,
+    };
+    setup.add(&Setting::Child(child)).expect(&rt, "a child");
     events_of::<Brand, _>(&rt, Ground::new(rt.alloc())?, setup);
     Ok(())
 }
 
-/// The arena's events, those of its first cache's slabs, and those of that one's depot.
+/// The first arena's events, those of its first cache's slabs, and those of that one's depot.
 fn events_of<N: Name, R: Abort + Wait + AllocGlobal>(rt: &R, ground: Ground, setup: Setup)
     requires { ground ≡ N.table }
 {
-    assert!(rt; setup.tree().len() == 1);
+    assert!(rt; setup.tree().len() == 2);
     let mut numbers = ground.start();
-    let Ok(opened) = NewArena::<N>::open(rt.alloc(), setup.tree(), 0, setup.spans(), &mut numbers)
+    let Ok(first) = NewArena::<N>::open(rt.alloc(), setup.tree(), 0, setup.spans(), &mut numbers)
     else {
         panic!(rt; "memory")
     };
-    let (locked, roots) = opened.lock();
-    let Ok(mut arenas) = Vec::with_capacity(rt.alloc(), 1) else {
-        stuck(rt, (locked, roots))
+    let Ok(second) = NewArena::<N>::open(rt.alloc(), setup.tree(), 1, setup.spans(), &mut numbers)
+    else {
+        stuck(rt, first)
     };
+    let Ok(mut arenas) = Vec::with_capacity(rt.alloc(), 2) else {
+        stuck(rt, (first, second))
+    };
+    let (locked, roots) = first.lock();
     arenas.push_reserved(locked);
+    let (locked, none) = second.lock();
+    arenas.push_reserved(locked);
+    if !none.is_empty() {
+        stuck(rt, (arenas, roots, none))
+    }
+    none.destroy_empty();
     let parts = LockedParts::new(rt.alloc(), setup.into_tree(), arenas);
     of_arena(rt, &parts);
     of_slabs(rt, &parts);
@@ -82,10 +102,11 @@ fn events_of<N: Name, R: Abort + Wait + AllocGlobal>(rt: &R, ground: Ground, set
 }
 
 /// Ends the parts, of which none was missed before.
-fn end<N: Name, R: Abort + Wait>(rt: &R, mut parts: LockedParts<N>)
+fn end<N: Name, R: Abort + Wait + AllocGlobal>(rt: &R, mut parts: LockedParts<N>)
     requires { 0 < length parts.arenas }
 {
     assert!(rt; parts.look(rt).is_ok());
+    of_moved(rt, &parts);
     if parts.end_arenas().is_err() {
         stuck(rt, parts)
     }
@@ -148,7 +169,7 @@ fn of_arena<N: Name, R: Abort + Wait>(rt: &R, parts: &LockedParts<N>)
     }
     let over = Range::new(60, 8).expect(rt, "a range");
     let refused = parts.grow(rt, 0, over);
-    assert!(rt; refused.is_err_and(|why| why.fault() == GrowFault::Overlaps));
+    assert!(rt; refused.is_err_and(|why| why.fault() == Some(GrowFault::Overlaps)));
     let beside = Range::new(64, 8).expect(rt, "a range");
     assert!(rt; parts.grow(rt, 0, beside).is_ok());
 }
@@ -229,7 +250,75 @@ fn of_depot<N: Name, R: Abort + Wait + AllocGlobal>(rt: &R, parts: &LockedParts<
     assert!(rt; parts.resize(rt, 0, 7).rose());
 }
 
-/// An arena that is ended isn't where it was set up: the first part that was looked for is kept.
+/// The two arenas change places under their locks, and so do the slabs and the depots of the first
+/// one's first two caches, which no contract forbids.
+fn change_places<N: Name, R: Abort + Wait>(rt: &R, parts: &LockedParts<N>) {
+    let (Ok((_, mut one)), Ok((_, mut other))) = (
+        parts.reach_slabs(rt, None, 0, 1),
+        parts.reach_slabs(rt, None, 0, 2),
+    ) else {
+        panic!(rt; "no slabs")
+    };
+    mem::swap(&mut *one, &mut *other);
+    let (Ok(mut one), Ok(mut other)) = (
+        parts.reach_depot(rt, None, 0, 1),
+        parts.reach_depot(rt, None, 0, 2),
+    ) else {
+        panic!(rt; "no depots")
+    };
+    mem::swap(&mut *one, &mut *other);
+    let (Ok(mut one), Ok(mut other)) = (
+        parts.reach_arena(rt, None, 0),
+        parts.reach_arena(rt, None, 1),
+    ) else {
+        panic!(rt; "no arenas")
+    };
+    mem::swap(&mut *one, &mut *other);
+}
+
+/// Then none is where it was set up, and the first that is sought is kept.
+fn of_moved<N: Name, R: Abort + Wait + AllocGlobal>(rt: &R, parts: &LockedParts<N>)
+    requires { 0 < length parts.now.arenas }
+{
+    change_places(rt, parts);
+    let mut said = Said::Nothing;
+    match slab_take_in(parts, rt, &mut said, FIRST, 0, 2) {
+        Ok(None) => {}
+        Ok(Some(chunk)) => stuck(rt, chunk),
+        Err(_) => panic!(rt; "stopped"),
+    }
+    let Said::Missing(misplaced) = said else {
+        panic!(rt; "another answer")
+    };
+    let text = format!(in rt.alloc(); "{misplaced}").expect(rt, "room");
+    assert!(rt;
+        text.as_str() == "misplaced: the slabs of cache 2 of arena number 0: another lies there"
+    );
+    match depot_reap_in(parts, rt, &mut said, FIRST, 0, 1) {
+        Ok(None) => {}
+        Ok(Some(round)) => stuck(rt, round),
+        Err(_) => panic!(rt; "stopped"),
+    }
+    let Said::Missing(misplaced) = said else {
+        panic!(rt; "another answer")
+    };
+    assert!(rt; misplaced.part() == PartName::Depot(0, 1) && misplaced.cause() == Cause::Other);
+    match carve_in(parts, rt, &mut said, FIRST, 0, &Request::plain(16)) {
+        Ok(segment) => stuck(rt, segment),
+        Err(fault) => assert!(rt; fault == PartFault::Refused(ArenaFault::NoMemory)),
+    }
+    let Said::Missing(misplaced) = said else {
+        panic!(rt; "another answer")
+    };
+    assert!(rt; misplaced.part() == PartName::Arena(0) && misplaced.cause() == Cause::Other);
+    assert!(rt;
+        parts
+            .look(rt)
+            .is_err_and(|first| first.part() == PartName::Slabs(0, 2))
+    );
+}
+
+/// An arena that is ended isn't where it was set up; the first part that was missed is kept.
 fn of_none<N: Name, R: Abort + Wait>(rt: &R, parts: &LockedParts<N>)
     requires { 0 < length parts.now.arenas }
 {
@@ -247,9 +336,12 @@ fn of_none<N: Name, R: Abort + Wait>(rt: &R, parts: &LockedParts<N>)
         panic!(rt; "another answer")
     };
     assert!(rt; misplaced.part() == PartName::Arena(0) && misplaced.cause() == Cause::None);
+    let beside = Range::new(64, 8).expect(rt, "a range");
+    let refused = parts.grow(rt, 0, beside);
+    assert!(rt; refused.is_err_and(|why| why.fault().is_none()));
     assert!(rt;
         parts
             .look(rt)
-            .is_err_and(|first| first.part() == PartName::Slabs(0, 1))
+            .is_err_and(|first| first.part() == PartName::Slabs(0, 2))
     );
 }

@@ -107,11 +107,11 @@ impl<D: Deed> OwnCache<D> {
         self.cpu.is_full()
     }
 
-    /// The units of its rounds.
+    /// The units of its rounds, in constant time.
     pub fn units(&self) -> u128
         ensures { result ≡ units_tagged (cache_rounds self.now.cpu) }
     {
-        self.cpu.units()
+        self.cpu.units_alike()
     }
 
     /// Ends it, with no round.

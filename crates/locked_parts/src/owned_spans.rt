@@ -1,6 +1,6 @@
 //! An arena all of whose units are free, with a root of each span that it owns beside it.
 ghost use Rattle.std.specs.Prelude.{◌≡◌, ◌+◌, ◌-◌, ◌<◌, ◌≤◌, ◌++◌, [], ◌∷◌, Contains, OnOk, length};
-ghost use Rattle.std.specs.Prelude.{HoldsAt, vec_len};
+ghost use Rattle.std.specs.Prelude.{HoldsAt};
 ghost use Rattle.arena_tree.specs.Settings.{span_count};
 ghost use Rattle.tag_arena.specs.Outcomes.{KeepsSetup};
 ghost use Rattle.locked_parts.specs.News.{AreWhole, numbered_from, ranges_owned};

@@ -211,15 +211,15 @@ pub enum NotGrown {
 }
 
 impl NotGrown {
-    /// The fault that is told of it: of an arena that isn't where it was set up, the last one.
-    pub fn fault(&self) -> GrowFault
+    /// The fault that it is; none where the arena isn't where it was set up.
+    pub fn fault(&self) -> Option<GrowFault>
         ensures { result ≡ grow_fault self.now }
     {
         match self {
-            NotGrown::NoArena => GrowFault::NoArena,
-            NotGrown::NotRoot => GrowFault::NotRoot,
-            NotGrown::Refused(refused) => refused.fault(),
-            NotGrown::Misplaced(_) => GrowFault::NoMemory,
+            NotGrown::NoArena => Some(GrowFault::NoArena),
+            NotGrown::NotRoot => Some(GrowFault::NotRoot),
+            NotGrown::Refused(refused) => Some(refused.fault()),
+            NotGrown::Misplaced(_) => None,
         }
     }
 }
