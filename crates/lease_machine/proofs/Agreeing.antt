@@ -2,6 +2,7 @@
 use Rattle.std.proofs.Common.{◌≡◌, ℕ, sym, subst, ap, ◌∙◌, inl, inr, List, [], ◌∷◌, ◌++◌, Option, Some, None, Ok, Err, Result}
 use Rattle.std.proofs.lemmas.List.{append_assoc}
 use Rattle.arena_tree.specs.declared.trees.TreeArena.{TreeArena}
+use Rattle.lease_terms.specs.Requests.{RequestId}
 use Rattle.lease_proto.specs.declared.faults.LineFault.{LineFault}
 use Rattle.lease_proto.specs.declared.lines.Op.TheVariants as ops
 use Rattle.lease_proto.specs.declared.operators.ServedLine.{ServedLine}
@@ -10,10 +11,11 @@ use Rattle.lease_proto.specs.Operators.{served_of}
 use Rattle.lease_book.specs.Entry.{Entry}
 use Rattle.lease_book.specs.Receipts.{Kept}
 use Rattle.lease_book.specs.History.{outcome_of}
-use Rattle.lease_book.specs.BookState.{BookState, IsHistory, Enters}
+use Rattle.lease_book.specs.Answers.{IsNew}
+use Rattle.lease_book.specs.BookState.{BookState, IsHistory, Enters, account_in}
 use Rattle.lease_book.proofs.LawProofs.{outcomes_stay}
 use Rattle.lease_history.specs.Told.{reply_to}
-use Rattle.lease_machine.specs.Picture.{Picture}
+use Rattle.lease_machine.specs.Picture.{Picture, IsPicture}
 use Rattle.arena_tree.specs.Trees.{arena_named}
 use Rattle.lease_machine.specs.Machine.{AnswersLine}
 use Rattle.lease_machine.specs.Laws.{Runs}
@@ -22,7 +24,7 @@ use Rattle.lease_machine.proofs.Homes.{setup_only_grows}
 use Rattle.lease_machine.proofs.Entering.{Comes, still, further, answer_comes}
 use Rattle.lease_machine.proofs.Fitting.{grants_fit}
 use Rattle.lease_machine.proofs.Numbers.{kept_outcome, new_outcome, recent_outcome}
-use Rattle.lease_machine.proofs.Repeats.{history_of, known_kept, request_again, request_kept, request_answer, kept_or}
+use Rattle.lease_machine.proofs.Repeats.{IsKeptOf, history_of, known_kept, request_again, request_kept, request_answer, kept_or}
 
 -- whatever history gives the old book, that and some entries more give the new one
 abbrev Grows : BookState → BookState → Type 0
@@ -63,6 +65,15 @@ not_none : (o : Option Kept) (k : Kept) → o ≡ None → o ≡ Some k → ⊥
 not_none None k none some = (let e : None ≡ Some k = some in cc)
 not_none (Some j) k none some = (let e : Some j ≡ None = none in cc)
 
+-- a number whose reply was kept is never new again
+pub never_new : (mid late : Picture) (id : RequestId) (k : Kept) (frames : List Frame) (between : List ℕ) → IsPicture mid → IsKeptOf mid.book id k → Runs mid frames between late → IsNew (account_in id.client late.book) id → ⊥
+never_new mid late id k frames between is was run fresh =
+    let es : List Entry = is.book.entries in
+    let outcome : outcome_of id es ≡ Some k = kept_outcome es mid.book id is.book.history was.current k was.there in
+    let grown = run_grows frames mid late between run es is.book.history in
+    let all : List Entry = grown.0 ++ es in
+    not_none (outcome_of id all) k (new_outcome all late.book id grown.1 fresh.current fresh) (outcomes_stay.later grown.0 es id k grown.1.orderly outcome)
+
 pub answers_agree : AnswersAgree
 answers_agree old mid late new id op again line text between repeat bytes frames is read first run read_again second =
     let a = request_answer old mid id op line text read first in
@@ -79,7 +90,7 @@ answers_agree old mid late new id op again line text between repeat bytes frames
             let all : List Entry = grown.0 ++ es in
             let stays : outcome_of id all ≡ Some was.0 = outcomes_stay.later grown.0 es id was.0 grown.1.orderly outcome in
             elim b.2 [
-              | inr fresh ↦ absurd (not_none (outcome_of id all) was.0 (new_outcome all late.book id grown.1 fresh.0.current fresh.0) stays)
+              | inr fresh ↦ absurd (never_new mid late id was.0 frames between first.picture was.1 run fresh.0)
               | inl known ↦
                   let then_kept = known_kept late id b.0 also known.0 in
                   let one : then_kept.0 ≡ was.0 = some_is_one (outcome_of id all) then_kept.0 was.0 (kept_outcome all late.book id grown.1 then_kept.1.current then_kept.0 then_kept.1.there) stays in

@@ -1,5 +1,5 @@
 -- What served a request could.
-use Rattle.std.proofs.Common.{◌≡◌, ◌≢◌, ◌⊎◌, ℕ, ◌≤◌, sym, subst, ap, ◌∙◌, inl, inr, List, [], Some, arith}
+use Rattle.std.proofs.Common.{◌≡◌, ◌≢◌, ℕ, ◌≤◌, subst, ap, ◌∙◌, inl, inr, List, [], Some, arith}
 use Rattle.std.specs.Prelude.{slice_get}
 use Rattle.std.proofs.lemmas.Bool.{cases_eq}
 use Rattle.deed_core.specs.Tag.{Tag}

@@ -1,5 +1,5 @@
 -- What a root gets that grows, and what becomes of it.
-use Rattle.std.proofs.Common.{◌≡◌, ◌≢◌, ◌⊎◌, ◌∙◌, ℕ, ◌+◌, ◌≤◌, refl, sym, subst, ap, inl, inr, List, [], ◌∷◌, ◌++◌, map, set, length, Contains, All, Some, Result, Ok, Err, arith, get_or}
+use Rattle.std.proofs.Common.{◌≡◌, ◌≢◌, ◌⊎◌, ◌∙◌, ℕ, ◌+◌, ◌≤◌, refl, sym, subst, ap, inl, inr, List, [], ◌∷◌, ◌++◌, map, set, Contains, All, Some, Result, Ok, Err, arith, get_or}
 use Rattle.std.specs.Prelude.{slice_get, sum_by}
 use Rattle.std.specs.List.{flat_map}
 use Rattle.std.proofs.lemmas.Bool.{cases_eq}
@@ -63,9 +63,9 @@ record Adds (g : GrowLine) (old new : Picture) : Type 0 where
 
 grow_adds : (old new : Picture) (g : GrowLine) (text : List ℕ) → Grows g old text new → ((text ≡ ok_text) × Adds g old new) ⊎ ((text ≢ ok_text) × (new ≡ old))
 grow_adds old new g text (told, says, inl none) = inr (λ ok. not_ok none.0 (sym (says ∙ ap outcome_text none.2) ∙ ok), none.3)
-grow_adds old new g text (told, says, inr (growth, Err why, asks, (by, same), is)) =
+grow_adds old new g text (told, says, inr (growth, asks, (Err why, is, by, same))) =
     inr (λ ok. not_ok (grow_word why) (sym (says ∙ ap outcome_text is) ∙ ok), same ∙ ap (λ (ss : List SpaceState). record old { spaces = ss }) by.1)
-grow_adds old new g text (told, says, inr (growth, Ok u, asks, (by, same), is)) =
+grow_adds old new g text (told, says, inr (growth, asks, (Ok u, is, by, same))) =
     let on = by.1 in
     inl (
       says ∙ ap outcome_text is,

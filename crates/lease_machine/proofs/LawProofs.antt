@@ -27,7 +27,7 @@ pub use Rattle.lease_machine.proofs.CachedUnits.{cached_units_fit}
 pub use Rattle.lease_machine.proofs.ReapLaws.{reap_reaps, reaps_none, reapings_add}
 pub use Rattle.lease_machine.proofs.Leases.{leases_move}
 pub use Rattle.lease_machine.proofs.GrantedApart.{grants_stay_apart}
-pub use Rattle.lease_machine.proofs.Unasked.{new_grants_stay_apart}
+pub use Rattle.lease_machine.proofs.Unsettled.{new_grants_stay_apart}
 pub use Rattle.lease_machine.proofs.Replied.{clients_get_replies}
 pub use Rattle.lease_machine.proofs.Ruling.{steps_keep_rules, runs_keep_rules}
 pub use Rattle.lease_machine.proofs.RequestRuns.{request_runs}

@@ -61,5 +61,5 @@ pub mod LeaseTaken
 pub mod LeaseRuns
 pub mod HelloRuns
 pub mod RequestRuns
-pub mod Unasked
+pub mod Unsettled
 pub mod LawProofs

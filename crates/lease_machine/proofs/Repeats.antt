@@ -252,7 +252,7 @@ does_keep (operator.Resize m) old new text does = elim does [
 ]
 does_keep (operator.Grow g) old new text does = elim does.2 [
   | inl none ↦ ap (λ (d : Picture). d.book) none.3
-  | inr some ↦ ap (λ (d : Picture). d.book) some.3.1
+  | inr some ↦ ap (λ (d : Picture). d.book) some.2.3
 ]
 does_keep operator.Reap old new text does = ap (λ (d : Picture). d.book) does.2.parts
 does_keep operator.Audit old new text does = ap (λ (d : Picture). d.book) does.1

@@ -48,7 +48,7 @@ bounds : (d : Picture) → IsPicture d → (c : ℕ) → IsInBounds (account_in 
 bounds d is c = books_in_bounds.accounts d.book c (history_of d is)
 
 -- a reply that is kept is one that is written
-kept_valid : (d : Picture) → IsPicture d → AreNamed d.tree → (id : RequestId) → IsRequestId id → (k : Kept) → kept_at id.number (account_in id.client d.book).kept ≡ Some k → IsReply (reply_to (arena_named d.tree) id k.reply)
+pub kept_valid : (d : Picture) → IsPicture d → AreNamed d.tree → (id : RequestId) → IsRequestId id → (k : Kept) → kept_at id.number (account_in id.client d.book).kept ≡ Some k → IsReply (reply_to (arena_named d.tree) id k.reply)
 kept_valid d is named id is_id k there = by k.reply refl
   where
     range : IsReplyInRange k.reply
@@ -143,7 +143,7 @@ module _ (old new : Picture) (is : IsPicture old) (is_new : IsPicture new) (tree
   hello_valid h is_h (reply.Error x) does = absurd does
 
 -- what is written of a reply is read as it
-read_as : (text : List ℕ) (r : Reply) → text ≡ reply_bytes r → IsReply r → IsReadAs text r
+pub read_as : (text : List ℕ) (r : Reply) → text ≡ reply_bytes r → IsReply r → IsReadAs text r
 read_as text r is valid = (reply_text r, is, (replies_are_texts (reply_text r) r).1 (valid, refl))
 
 pub clients_get_replies : ClientsGetReplies

@@ -9,7 +9,7 @@ pub mod Laws
 pub mod AnswerLaws
 pub mod LeaseLaws
 pub mod GrantLaws
-pub mod FirstGrants
+pub mod NewGrants
 pub mod RoomLaws
 pub mod GrowLaws
 pub mod EmptyingLaws

@@ -28,7 +28,7 @@ use Rattle.lease_proto.specs.declared.reports.AuditLine.{AuditLine}
 use Rattle.lease_proto.specs.declared.reports.ClientLine.{ClientLine}
 use Rattle.lease_proto.specs.Faults.{error_text}
 use Rattle.lease_proto.specs.Operators.{rounds_named}
-use Rattle.lease_call.specs.Growing.{TellsGrowth}
+use Rattle.lease_call.specs.Growing.{TellsGrowth, grow_outcome}
 use Rattle.lease_proto.specs.Reports.{audit_text, client_text, reaped_text, ok_text}
 use Rattle.lease_proto.specs.Reports.{outcome_text}
 use Rattle.lease_machine.specs.Picture.{NumberedCpu, Picture, is_cpu, fresh_cpu, held_outside}
@@ -80,10 +80,11 @@ Resizes name m old text new =
     × (slice_get old.spaces index ≡ Some s) × HasSmaller m s × (text ≡ ok_text)
     × (new ≡ record old { spaces = set old.spaces index (with_depots_by (after_rise m) s) }))
 
--- the root at the index grew by the range, or why it didn't, and nothing else changed
-abbrev pub GrowsAt : Picture → ℕ → Extent → Result (Unit {0}) GrowFault → Picture → Type 0
-GrowsAt old index range grown new =
-    GrowsBy index range grown old.spaces new.spaces × (new ≡ record old { spaces = new.spaces })
+-- the root at the index grew by the range, or the word of why it didn't, and nothing else changed
+abbrev pub GrowsAt : Picture → ℕ → Extent → Result (Unit {0}) ErrorWord → Picture → Type 0
+GrowsAt old index range told new = (grown : Result (Unit {0}) GrowFault)
+    × (told ≡ grow_outcome grown) × GrowsBy index range grown old.spaces new.spaces
+    × (new ≡ record old { spaces = new.spaces })
 
 -- no root has the name, or the numbers are no range; or the root grew by the range, or why it
 -- didn't

@@ -15,7 +15,7 @@ ghost use Rattle.lease_machine.specs.AnswerLaws.{ClientsGetReplies, RecentRepeat
 ghost use Rattle.lease_machine.specs.Rules.{StepsKeepRules, RunsKeepRules};
 ghost use Rattle.lease_machine.specs.AnswerLaws.{KeptGrantsFit, GrantsWereReachable, RepeatsFit};
 ghost use Rattle.lease_machine.specs.LeaseLaws.{LeasesMove};
-ghost use Rattle.lease_machine.specs.FirstGrants.{NewGrantsStayApart};
+ghost use Rattle.lease_machine.specs.NewGrants.{NewGrantsStayApart};
 ghost use Rattle.lease_machine.specs.GrantLaws.{GrantsStayApart};
 ghost use Rattle.lease_machine.specs.RoomLaws.{NoFitMeansTaken, NoFitMeansTakenUp};
 ghost use Rattle.lease_machine.specs.RoomLaws.{FreedIsWhole, FirstLeaseIsServed, FewerFitToo};
@@ -86,7 +86,7 @@ pub fn grant_laws()
 /// What each line and its answer make of all leases: one more, one less, those of a client's older
 /// incarnations gone, or none changed. So what two requests are granted doesn't overlap, while no
 /// line ends the first lease: each is told to a new request, or again by the first protocol or
-/// while its lease stands. Of requests that come for the first time, lines and answers alone tell
+/// while its lease stands. Of requests that no line before settled, lines and answers alone tell
 /// all that is asked for.
 pub fn lease_laws()
     ensures moves { LeasesMove }

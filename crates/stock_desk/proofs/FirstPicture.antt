@@ -1,5 +1,5 @@
 -- What a setup opens is a stock of which nothing is out, and with a first CPU a picture.
-use Rattle.std.proofs.Common.{◌≡◌, ℕ, suc, zero, ◌+◌, ◌*◌, ◌/◌, ◌%◌, ◌<◌, ◌≤◌, refl, sym, subst, ap, ◌∙◌, inl, inr, List, [], ◌∷◌, map, length, replicate, All, AllPairs, Option, Some, None, arith}
+use Rattle.std.proofs.Common.{◌≡◌, ℕ, suc, zero, ◌+◌, ◌*◌, ◌/◌, ◌%◌, ◌<◌, ◌≤◌, refl, sym, subst, ap, ◌∙◌, inl, List, [], ◌∷◌, map, length, replicate, All, AllPairs, Option, Some, None, arith}
 use Rattle.std.specs.Prelude.{slice_get, sum_by, IfSome}
 use Rattle.std.proofs.Math.Nat.{mul-le-mul_right, div-mul-le_self, mod_self, zero-mod}
 use Rattle.std.proofs.lemmas.List.{length-map, length-replicate}
@@ -18,7 +18,7 @@ use Rattle.stock.specs.Accounts.{IsAccounted, weight_allocated, weight_imported,
 use Rattle.stock.specs.Setups.{IsSetUpFrom, deeds_owned, numbered_deeds, plan_for, unused_arena}
 use Rattle.stock.specs.Spaces.{SpaceState, QuantumCacheState, SpacePlan, plan_of, quantum_of, quanta_of, slab_size_of}
 use Rattle.stock.specs.Steps.{new_cache}
-use Rattle.stock.specs.Stocks.{IsFrom, IsQuantumCache, IsRoundOf, IsSpaceAt, IsStock}
+use Rattle.stock.specs.Stocks.{IsFrom, IsQuantumCache, IsRoundOf, IsSpaceAt}
 use Rattle.lease_machine.specs.Picture.{IsPicture}
 use Rattle.stock_desk.specs.Openings.{OpenedIsPicture}
 use Rattle.stock_desk.proofs.Opening.{begins_picture}

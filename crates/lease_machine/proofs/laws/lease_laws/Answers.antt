@@ -1,6 +1,6 @@
 use Rattle.lease_machine.proofs.Leases.{leases_move}
 use Rattle.lease_machine.proofs.GrantedApart.{grants_stay_apart}
-use Rattle.lease_machine.proofs.Unasked.{new_grants_stay_apart}
+use Rattle.lease_machine.proofs.Unsettled.{new_grants_stay_apart}
 use Rattle.lease_machine.proofs.laws.lease_laws.Goals as goal
 
 pub returns-clause-moves : goal.returns-clause-moves

@@ -1,4 +1,4 @@
--- What no line asked for isn't settled, so that who is granted it then is new.
+-- What no line settled isn't in the book, so that who is granted it then is new.
 use Rattle.std.proofs.Common.{◌≡◌, ◌≢◌, ◌==◌, ◌⊎◌, ◌∙◌, ℕ, refl, sym, ap, subst, inl, inr, cond, Bool, true, false, nat_eq, List, [], ◌∷◌, ◌++◌, Option, Some, None, Result, Ok, Err, arith}
 use Rattle.std.specs.List.{find}
 use Rattle.std.proofs.lemmas.Bool.{cases_eq, cases_lt, eqb-true}
@@ -18,7 +18,7 @@ use Rattle.lease_proto.specs.declared.replies.Reply.{Reply}
 use Rattle.lease_proto.specs.declared.replies.Reply.TheVariants as reply
 use Rattle.lease_proto.specs.Frames.{Frame}
 use Rattle.lease_proto.specs.Operators.{served_of}
-use Rattle.lease_proto.specs.Replies.{reply_of}
+use Rattle.lease_proto.specs.Replies.{reply_of, IsReply}
 use Rattle.lease_proto.specs.Requests.{client_of}
 use Rattle.lease_proto.specs.Serving.{ServesLines}
 use Rattle.lease_book.specs.Account.{Account}
@@ -32,15 +32,17 @@ use Rattle.lease_book.proofs.LawProofs.{found_above}
 use Rattle.lease_machine.specs.Picture.{Picture, IsPicture}
 use Rattle.lease_machine.specs.Machine.{LeaseStep}
 use Rattle.lease_machine.specs.Laws.{Runs}
-use Rattle.lease_machine.specs.AnswerLaws.{AreNamed, IsKept, IsReadAs, IsRequestLine, RepliesTo}
+use Rattle.lease_machine.specs.AnswerLaws.{reply_bytes, AreNamed, IsKept, IsReadAs, IsRequestLine, RepliesTo}
 use Rattle.lease_machine.specs.GrantLaws.{EndsLease, GrantsTwice, StepKeeps, SweepsAway}
-use Rattle.lease_machine.specs.FirstGrants.{AsksNot, GrantsTwo, IsUnasked, NewGrantsStayApart, ReleasesGrant, StepLeaves}
+use Rattle.lease_machine.specs.NewGrants.{NewGrantsStayApart, ReleasesGrant, RunUnsettled, Settles, StepLeaves, StepUnsettled}
 use Rattle.lease_machine.specs.Rules.{HelloRule, IsReplyKept, KeepsRules, RequestRule}
+use Rattle.lease_machine.proofs.Agreeing.{never_new}
 use Rattle.lease_machine.proofs.GrantedApart.{grants_stay_apart}
 use Rattle.lease_machine.proofs.Granting.{grant_bytes, is_grant}
+use Rattle.lease_machine.proofs.Naming.{line_is}
 use Rattle.lease_machine.proofs.Homes.{pictures_stay, setup_only_grows}
-use Rattle.lease_machine.proofs.Repeats.{kept_or, known_kept, request_answer}
-use Rattle.lease_machine.proofs.Replied.{clients_get_replies}
+use Rattle.lease_machine.proofs.Repeats.{history_of, kept_or, known_kept, request_answer, request_kept}
+use Rattle.lease_machine.proofs.Replied.{clients_get_replies, kept_valid, read_as}
 use Rattle.lease_machine.proofs.Ruling.{steps_keep_rules}
 
 -- nothing is kept of the request's number, in its incarnation
@@ -59,7 +61,7 @@ none_more w n k ks differ none = by (kept_at n (recent w (k ∷ ks))) refl
     by None is = is
     by (Some x) is = absurd (first (nat_eq n k.number) x refl (found_above (greatest (k ∷ ks)) w n (k ∷ ks) x is))
 
-module _ (id : RequestId) (old new : Picture) (line text : List ℕ) (is : IsPicture old) (step : LeaseStep old line text new) (unasked : AsksNot id (Ok line)) (was : IsUnsettled id old) where
+module _ (id : RequestId) (old new : Picture) (line text : List ℕ) (is : IsPicture old) (names : AreNamed old.tree) (step : LeaseStep old line text new) (not : ¬ Settles id line text) (was : IsUnsettled id old) where
   same_account : account_in id.client new.book ≡ account_in id.client old.book → IsUnsettled id new
   same_account same now = ap (λ (a : Account). kept_at id.number a.kept) same ∙ was (sym (ap (λ (a : Account). a.incarnation) same) ∙ now)
 
@@ -109,9 +111,16 @@ module _ (id : RequestId) (old new : Picture) (line text : List ℕ) (is : IsPic
   unkept asked (ops.Release l) (reply.Gap x) not rule = absurd rule
   unkept asked (ops.Release l) (reply.Error x) not rule = absurd rule
 
+  -- a reply that is kept is read back
+  settles : (asked : RequestId) (op : Op) → IsRequestLine line asked op → (r : Reply) → text ≡ reply_bytes r → IsKept r → IsReplyKept old new asked r → Settles asked line text
+  settles asked op read r said is_kept k =
+      let is_id = (line_is line (lines.Request asked op) read).0 in
+      let valid = kept_valid new step.picture (subst AreNamed (sym step.setup.tree) names) asked is_id k.kept k.there in
+      (op, r, read, read_as text r said (subst IsReply (sym k.reply) valid), is_kept)
+
   -- one of the client that is settled has another number
-  settled : (asked : RequestId) (op : Op) → IsRequestLine line asked op → asked.client ≡ id.client → IsNew (account_in asked.client old.book) asked → (r : Reply) → IsReplyKept old new asked r → IsUnsettled id new
-  settled asked op read own fresh r k now =
+  settled : (asked : RequestId) (op : Op) → IsRequestLine line asked op → asked.client ≡ id.client → IsNew (account_in asked.client old.book) asked → (r : Reply) → text ≡ reply_bytes r → IsKept r → IsReplyKept old new asked r → IsUnsettled id new
+  settled asked op read own fresh r said is_kept k now =
       let becomes : standing_of (account_in id.client new.book) ≡ settled_with k.kept (standing_of (account_in id.client old.book)) =
       subst (λ (c : ℕ). standing_of (account_in c new.book) ≡ settled_with k.kept (standing_of (account_in c old.book))) own k.becomes in
       let before : (account_in id.client old.book).incarnation ≡ id.incarnation = sym (ap (λ (s : StandingState). s.incarnation) becomes) ∙ now in
@@ -120,7 +129,7 @@ module _ (id : RequestId) (old new : Picture) (line text : List ℕ) (is : IsPic
       (λ e.
       (let number : asked.number ≡ id.number = sym k.number ∙ e in
       let same : asked ≡ id = λ j. record { client = own j; incarnation = incarnation j; number = number j } in
-      unasked op (subst (λ (i : RequestId). IsRequestLine line i op) same read))) in
+      not (subst (λ (i : RequestId). Settles i line text) same (settles asked op read r said is_kept k)))) in
       ap (λ (s : StandingState). kept_at id.number s.kept) becomes ∙ none_more (window_of (account_in id.client old.book).protocol) id.number k.kept (account_in id.client old.book).kept differ (was before)
 
   of_request : (asked : RequestId) (op : Op) → IsRequestLine line asked op → asked.client ≡ id.client → IsUnsettled id new
@@ -131,7 +140,7 @@ module _ (id : RequestId) (old new : Picture) (line text : List ℕ) (is : IsPic
         | inr does ↦
             let by = keeps.request asked op read does.0 in
             elim (kept_or by.0) [
-              | inl is_kept ↦ settled asked op read own does.0 by.0 (by.3 is_kept)
+              | inl is_kept ↦ settled asked op read own does.0 by.0 by.1 is_kept (by.3 is_kept)
               | inr not ↦ same_book (unkept asked op by.0 not by.2)
             ]
       ]
@@ -158,11 +167,11 @@ module _ (id : RequestId) (old new : Picture) (line text : List ℕ) (is : IsPic
   stays_unsettled : IsUnsettled id new
   stays_unsettled = by_line (served_of line) refl
 
-run_unsettled : (id : RequestId) (frames : List Frame) (old new : Picture) (text : List ℕ) → IsPicture old → Runs old frames text new → IsUnasked id frames → IsUnsettled id old → IsUnsettled id new
-run_unsettled id [] old new text is run unasked was = subst (IsUnsettled id) (sym run.1) was
-run_unsettled id (Ok line ∷ frames) old new text is (first, rest, mid, step, same, run) unasked was =
-    run_unsettled id frames mid new rest step.picture run unasked.1 (stays_unsettled id old mid line first is step unasked.0 was)
-run_unsettled id (Err fault ∷ frames) old new text is (rest, same, run) unasked was = run_unsettled id frames old new rest is run unasked.1 was
+run_unsettled : (id : RequestId) (frames : List Frame) (old new : Picture) (text : List ℕ) → IsPicture old → AreNamed old.tree → RunUnsettled id old frames text new → IsUnsettled id old → IsUnsettled id new
+run_unsettled id [] old new text is names run was = subst (IsUnsettled id) (sym run.1) was
+run_unsettled id (Ok line ∷ frames) old new text is names (first, rest, mid, step, same, run) was =
+    run_unsettled id frames mid new rest step.0.picture (subst AreNamed (sym step.0.setup.tree) names) run (stays_unsettled id old mid line first is names step.0 step.1 was)
+run_unsettled id (Err fault ∷ frames) old new text is names (rest, same, run) was = run_unsettled id frames old new rest is names run was
 
 none_kept : (id : RequestId) (d : Picture) → d.book.accounts ≡ [] → IsUnsettled id d
 none_kept id d none now = ap (λ (all : List Account). kept_at id.number (account_or_nobody id.client (find (λ a. id.client == a.client) all)).kept) none
@@ -202,14 +211,20 @@ told_ends : (g : Granted) (old : Picture) (line text : List ℕ) → EndsLease g
 told_ends g old line text (inl (id, l, read, fresh, client, incarnation, arena, base, said)) = inl (id, l, read, client, incarnation, arena, base, said)
 told_ends g old line text (inr sweeps) = inr sweeps
 
-unasked_parts : (id : RequestId) (first more : List Frame) → IsUnasked id (first ++ more) → IsUnasked id first × IsUnasked id more
-unasked_parts id [] more all = (tt, all)
-unasked_parts id (f ∷ first) more all = (let rest = unasked_parts id first more all.1 in ((all.0, rest.0), rest.1))
+-- what was granted once is never new again
+granted_once : (old mid late : Picture) (id : RequestId) (op : Op) (line text : List ℕ) (g : Granted) (frames : List Frame) (between : List ℕ) → IsPicture old → IsRequestLine line id op → LeaseStep old line text mid → IsReadAs text (reply.Granted g)
+    → Runs mid frames between late → IsNew (account_in id.client late.book) id → ⊥
+granted_once old mid late id op line text g frames between is read step told run fresh =
+    let a = request_answer old mid id op line text read step in
+    let grant = is_grant a.0 g (sym a.1 ∙ grant_bytes text g told) in
+    let was = request_kept old mid id (history_of old is) op a.0 a.2 (subst IsKept (sym grant.1) tt) in
+    never_new mid late id was.0 frames between step.picture was.1 run fresh
 
 pub new_grants_stay_apart : NewGrantsStayApart
-new_grants_stay_apart start old frames text g h is none names run t =
+new_grants_stay_apart start old frames text g h is none names t =
     let one = t.first in
     let two = t.second in
+    let run = serves_by (StepUnsettled one.id) LeaseStep (λ a b line told step. step.0) frames start old text one.unsettled in
     let old_is = pictures_stay start old frames text is run in
     let mid_is = one.step.picture in
     let between = serves_by (StepLeaves g) LeaseStep (λ a b line told step. step.0) t.frames t.mid t.late t.between t.leaves in
@@ -218,11 +233,10 @@ new_grants_stay_apart start old frames text g h is none names run t =
     let old_names = subst AreNamed (sym (setup_only_grows start old frames text run).tree) names in
     let mid_names = subst AreNamed (sym one.step.setup.tree) old_names in
     let late_names = subst AreNamed (sym (setup_only_grows t.mid t.late t.frames t.between between).tree) mid_names in
-    let parts = unasked_parts two.id frames (Ok t.line ∷ t.frames) two.first in
-    let first_was = run_unsettled one.id frames start old text is run one.first (none_kept one.id start none) in
-    let second_was = run_unsettled two.id frames start old text is run parts.0 (none_kept two.id start none) in
-    let second_mid = stays_unsettled two.id old t.mid t.line t.text old_is one.step parts.1.0 second_was in
-    let second_late = run_unsettled two.id t.frames t.mid t.late t.between mid_is between parts.1.1 second_mid in
+    let first_was = run_unsettled one.id frames start old text is names one.unsettled (none_kept one.id start none) in
+    let second_was = run_unsettled two.id (frames ++ Ok t.line ∷ t.frames) start t.late (text ++ (t.text ++ t.between)) is names two.unsettled (none_kept two.id start none) in
+    let first_new = granted_new old t.mid one.id one.op t.line t.text g one.read one.step one.told first_was in
+    let second_new = granted_new t.late t.new two.id two.op t.next t.reply h two.read two.step two.told second_was in
     let first_named = granted_named old t.mid one.id one.op t.line t.text g old_is old_names one.read one.step one.told in
     let second_named = granted_named t.late t.new two.id two.op t.next t.reply h late_is late_names two.read two.step two.told in
     let twice : GrantsTwice old g h =
@@ -230,7 +244,7 @@ new_grants_stay_apart start old frames text g h is none names run t =
       line = t.line;
       text = t.text;
       mid = t.mid;
-      first = record { id = one.id; op = one.op; read = one.read; counts = inl (granted_new old t.mid one.id one.op t.line t.text g one.read one.step one.told first_was); step = one.step; told = one.told };
+      first = record { id = one.id; op = one.op; read = one.read; counts = inl first_new; step = one.step; told = one.told };
       frames = t.frames;
       between = t.between;
       late = t.late;
@@ -238,6 +252,7 @@ new_grants_stay_apart start old frames text g h is none names run t =
       next = t.next;
       reply = t.reply;
       new = t.new;
-      second = record { id = two.id; op = two.op; read = two.read; counts = inl (granted_new t.late t.new two.id two.op t.next t.reply h two.read two.step two.told second_late); step = two.step; told = two.told };
+      second = record { id = two.id; op = two.op; read = two.read; counts = inl second_new; step = two.step; told = two.told };
     } in
-    grants_stay_apart start old frames text g h is none names run twice (λ same. parts.1.0 one.op (subst (λ (i : RequestId). IsRequestLine t.line i one.op) (sym first_named ∙ sym same ∙ second_named) one.read))
+    grants_stay_apart start old frames text g h is none names run twice (λ same. granted_once old t.mid t.late one.id one.op t.line t.text g t.frames t.between old_is one.read one.step one.told between (
+    subst (λ (i : RequestId). IsNew (account_in i.client t.late.book) i) (sym second_named ∙ same ∙ first_named) second_new))

@@ -1,37 +1,42 @@
 -- What two new requests are granted doesn't overlap: which lines these are, and which end a lease,
 -- the lines and their answers tell alone.
-use Rattle.std.specs.Prelude.{◌≡◌, ◌⊎◌, ℕ, List, [], ◌∷◌, ◌++◌, Ok, Err}
-use Rattle.std.specs.List.{AllByRecursion}
+use Rattle.std.specs.Prelude.{◌≡◌, ◌⊎◌, ℕ, List, [], ◌∷◌, ◌++◌, Ok}
 use Rattle.lease_terms.specs.Requests.{RequestId}
 use Rattle.lease_proto.specs.declared.lines.ReleaseLine.{ReleaseLine}
 use Rattle.lease_proto.specs.declared.lines.Op.{Op}
 use Rattle.lease_proto.specs.declared.lines.Op.TheVariants as ops
 use Rattle.lease_proto.specs.declared.replies.Granted.{Granted}
+use Rattle.lease_proto.specs.declared.replies.Reply.{Reply}
 use Rattle.lease_proto.specs.declared.replies.Reply.TheVariants as reply
 use Rattle.lease_proto.specs.Frames.{Frame}
 use Rattle.lease_proto.specs.Serving.{ServesLines}
 use Rattle.lease_machine.specs.Picture.{Picture, IsPicture}
 use Rattle.lease_machine.specs.Machine.{LeaseStep}
-use Rattle.lease_machine.specs.Laws.{Runs}
-use Rattle.lease_machine.specs.AnswerLaws.{reply_bytes, IsRequestLine, IsReadAs, AreNamed}
+use Rattle.lease_machine.specs.AnswerLaws.{reply_bytes, IsKept, IsRequestLine, IsReadAs, AreNamed}
 use Rattle.lease_machine.specs.GrantLaws.{GrantsApart, SweepsAway}
 
--- the line is no request of this client, incarnation and number
-abbrev pub AsksNot : RequestId → Frame → Type 0
-AsksNot id (Ok line) = (op : Op) → ¬ IsRequestLine line id op
-AsksNot id (Err fault) = Unit {0}
+-- the line is a request of this client, incarnation and number, and its answer is one that is kept:
+-- `granted`, `released` or `refused`
+abbrev pub Settles : RequestId → List ℕ → List ℕ → Type 0
+Settles id line text = (op : Op) × (r : Reply)
+    × IsRequestLine line id op × IsReadAs text r × IsKept r
 
--- none of these lines is one
-abbrev pub IsUnasked : RequestId → List Frame → Type 0
-IsUnasked id frames = AllByRecursion (AsksNot id) frames
+-- the line is answered, and doesn't settle it
+abbrev pub StepUnsettled : RequestId → Picture → List ℕ → List ℕ → Picture → Type 0
+StepUnsettled id old line text new = LeaseStep old line text new × (¬ Settles id line text)
 
--- the line is the first such request, and is answered with this grant
-pub record GrantsFirst (before : List Frame) (old : Picture) (line text : List ℕ) (g : Granted)
-    (new : Picture) : Type 0 where
+-- these frames were answered with this text, one after another, and none of them settled it
+abbrev pub RunUnsettled : RequestId → Picture → List Frame → List ℕ → Picture → Type 0
+RunUnsettled id old frames text new = ServesLines (StepUnsettled id) old frames text new
+
+-- the line is a request that none of the frames from start on settled, and is answered with this
+-- grant
+pub record GrantsNew (start : Picture) (before : List Frame) (said : List ℕ) (old : Picture)
+    (line text : List ℕ) (g : Granted) (new : Picture) : Type 0 where
   pub id : RequestId
   pub op : Op
   pub read : IsRequestLine line id op
-  pub first : IsUnasked id before
+  pub unsettled : RunUnsettled id start before said old
   pub step : LeaseStep old line text new
   pub told : IsReadAs text (reply.Granted g)
 
@@ -52,13 +57,14 @@ StepLeaves g old line text new = LeaseStep old line text new
 abbrev pub RunLeaves : Granted → Picture → List Frame → List ℕ → Picture → Type 0
 RunLeaves g old frames text new = ServesLines (StepLeaves g) old frames text new
 
--- behind these lines comes a request for the first time and is answered `granted`, then come lines
--- of which none ends that lease, and then another request for the first time
-pub record GrantsTwo (before : List Frame) (old : Picture) (g h : Granted) : Type 0 where
+-- behind these lines a request that none of them settled is answered `granted`; then come lines of
+-- which none ends that lease, and then a request that no line before settled is answered so, too
+pub record GrantsTwo (start : Picture) (before : List Frame) (said : List ℕ) (old : Picture)
+    (g h : Granted) : Type 0 where
   pub line : List ℕ
   pub text : List ℕ
   pub mid : Picture
-  pub first : GrantsFirst before old line text g mid
+  pub first : GrantsNew start before said old line text g mid
   pub frames : List Frame
   pub between : List ℕ
   pub late : Picture
@@ -66,10 +72,11 @@ pub record GrantsTwo (before : List Frame) (old : Picture) (g h : Granted) : Typ
   pub next : List ℕ
   pub reply : List ℕ
   pub new : Picture
-  pub second : GrantsFirst (before ++ Ok line ∷ frames) late next reply h new
+  pub second : GrantsNew start (before ++ Ok line ∷ frames) (said ++ (text ++ between)) late
+      next reply h new
 
 -- what the two are granted doesn't overlap
 abbrev pub NewGrantsStayApart : Type 0
 NewGrantsStayApart = (start old : Picture) (frames : List Frame) (text : List ℕ) (g h : Granted)
-    → IsPicture start → start.book.accounts ≡ [] → AreNamed start.tree → Runs start frames text old
-    → GrantsTwo frames old g h → GrantsApart start.tree g h
+    → IsPicture start → start.book.accounts ≡ [] → AreNamed start.tree
+    → GrantsTwo start frames text old g h → GrantsApart start.tree g h
