@@ -14,6 +14,7 @@ use Rattle.lease_threads.specs.Replying.{IsAnswerTo, IsAgain}
 use Rattle.lease_threads.specs.Retiring.{IsDrained, RetiresSoundly}
 use Rattle.lease_threads.specs.Systems.{CpuState}
 use Rattle.locked_parts.specs.Kinds.{AreForSame}
+use Rattle.locked_parts.specs.declared.gates.NextStep.{NextStep}
 use Rattle.quantum_cache.specs.declared.reaps.Reaping.{Reaping}
 
 -- the arenas that its system was set up with, and its CPU
@@ -42,11 +43,15 @@ moves_units (Granted grant) = true
 moves_units (Released id) = true
 moves_units _ = false
 
+-- a seat's gate is open: it lets each step come
+abbrev pub any_step : NextStep → Type 0
+any_step next = Unit {0}
+
 -- the system over these arenas may answer the line so, by a CPU that this changes: with some receipt
 -- or none, the line's list of steps was gone through, after the CPU's hand was emptied
 abbrev pub IsAnswer : (D : Type 0) → List TreeArena → (old new : CpuState) → Line → Reply → Type 0
 IsAnswer D arenas old new line reply = (receipt : Option ReceiptState) × (is_new : Bool)
-    × RunsLine D arenas old.hand line new.hand reply receipt is_new
+    × RunsLine D arenas any_step old.number old.hand line new.hand reply receipt is_new
     × IsAnswerTo arenas line reply receipt
 
 -- The system may answer the line so. The arenas and the CPU stay; where the CPU's hand can't be

@@ -1,6 +1,6 @@
 //! One connection, over any reader and writer.
 ghost use Rattle.std.specs.Prelude.{◌≡◌, [], false, OnOk, IfErr};
-ghost use Rattle.lease_server.specs.Watching.{inner_of, has_failed, streams_of};
+ghost use Rattle.lease_server.specs.Watching.{has_failed, streams_of};
 ghost use Rattle.lease_tcp.specs.Connections.{BreaksOff, ServesConnection, ServesSome};
 
 use crate::counts::Counter;

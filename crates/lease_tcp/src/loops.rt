@@ -6,6 +6,7 @@ use crate::connections::serve_connection;
 use crate::counts::Counter;
 use crate::doors::Door;
 use crate::entrances::Entrance;
+use crate::links::Link;
 use crate::pacing::{Pace, PacedReader, PacedWriter};
 use crate::replying::ClientLines;
 use crate::rolls::Guest;
@@ -144,14 +145,15 @@ fn serve_stream<R: Clock, K: Worker, C: Counter>(
 ) -> Result<(), ServeFault>
     ensures { ServesSome K.may_reply C.may_count K.may_tidy lines.old lines.new }
 {
+    let mut link = stream;
     // (so that answers leave at once)
     if stream.set_nodelay(true).is_err() {
+        link.end();
         lines.tidy();
         return Err(ServeFault::Write);
     }
     let mut reader = Watched::new(PacedReader::new(rt, stream, pace));
     let mut writer = Watched::new(PacedWriter::new(rt, stream, pace));
-    let mut link = stream;
     serve_connection(alloc, &mut reader, &mut writer, &mut link, lines)
 }
 

@@ -8,7 +8,7 @@ ghost use Rattle.lease_threads.specs.Reaping.{KeepsHand, ReapsSoundly};
 ghost use Rattle.lease_threads.specs.Replying.{IsAgain, IsAnswerTo};
 ghost use Rattle.lease_threads.specs.Retiring.{IsDrained, RetiresSoundly};
 ghost use Rattle.lease_threads.specs.Settling.{IsSettledAsAsked};
-ghost use Rattle.lease_tcp.specs.Workers.{StaysCpu, moves_units};
+ghost use Rattle.lease_tcp.specs.Workers.{StaysCpu, any_step, moves_units};
 ghost use Rattle.lease_tcp.specs.declared.system_workers.TheConstants.{REAP_LIMIT};
 
 use crate::system_workers::REAP_LIMIT;
@@ -118,8 +118,9 @@ impl<N: Name> Seat<N> {
     /// Answers a line by the system, as that does. Where its CPU's hand can't be placed the reply is
     /// `again`.
     pub fn answer<R: Wait>(&mut self, rt: &R, system: &System<N>, line: &Line) -> Told<N>
-        ensures runs { RunsLine (SeatDeed N) system.now.arenas self.old.cpu.hand line.now
-            self.new.cpu.hand result.reply result.receipt result.is_new }
+        ensures runs { RunsLine (SeatDeed N) system.now.arenas any_step self.old.cpu.number
+            self.old.cpu.hand line.now self.new.cpu.hand
+            result.reply result.receipt result.is_new }
         ensures answers { IsAnswerTo system.now.arenas line.now result.reply result.receipt }
         ensures new { result.is_new ≡ true
             → IsSettledAsAsked system.now.arenas line.now result.receipt }

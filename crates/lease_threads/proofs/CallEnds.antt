@@ -30,7 +30,7 @@ use Rattle.lease_proto.specs.declared.lines.LeaseLine.{LeaseLine}
 use Rattle.lease_proto.specs.declared.lines.Op.{Op}
 use Rattle.lease_proto.specs.declared.lines.Op.TheVariants as op
 use Rattle.lease_proto.specs.declared.lines.ReleaseLine.{ReleaseLine}
-use Rattle.lease_call.specs.Answered.{EndsWell}
+use Rattle.lease_call.specs.Answered.{EndsWell, GoneThrough}
 use Rattle.lease_call.specs.CallPlans.{CallPlan, Done}
 use Rattle.lease_call.specs.Calls.{BookCall, AnswerOf, Look, Settle, Refuse, Release, Hello, Sweep}
 use Rattle.lease_call.specs.Greeting.{HelloEnd, on_sweep, sweep_plan, on_hello, greet_plan, hello_plan}
@@ -52,7 +52,7 @@ use Rattle.lease_call.specs.declared.outcomes.Outcome.{Outcome}
 use Rattle.lease_call.specs.declared.outcomes.Outcome.TheVariants.{Settled, Answered}
 use Rattle.lease_call.proofs.LawProofs.{gone_ends, ends_over, ends_gives, take_gives}
 use Rattle.locked_parts.specs.Answers.{AnswersSoundly}
-use Rattle.lease_threads.specs.Calling.{IsLockedCall, IsOutcomeTo, IsGreetedSo, WentThrough, end_receipt}
+use Rattle.lease_threads.specs.Calling.{IsLockedCall, IsOutcomeTo, IsGreetedSo, end_receipt}
 use Rattle.lease_threads.specs.Settling.{Settles, SettlesLease, SettlesRelease, MayRefuseLease, MayRefuseRelease, IsGrantReceipt, IsRefusalReceipt}
 use Rattle.lease_threads.proofs.Receipts.{answered, answered_new, refused, refused_so, granted, granted_so, released, late}
 
@@ -105,7 +105,7 @@ module _ (D : Type 0) (arenas : List TreeArena) where
     hello_ends hand turns = hand_first_ends (IsGreetedSo h) hand (greet_plan arenas h turns) (greet_ends turns)
 
     -- a hello comes to what its book says
-    pub hello_well : (hand : Option Tag) (turns : ℕ) (r : HelloEnd D) → WentThrough {D = D} arenas (hello_plan arenas hand h turns) r → IfOk r (IsGreetedSo h)
+    pub hello_well : (hand : Option Tag) (turns : ℕ) (r : HelloEnd D) → GoneThrough SoundIn Locked (hello_plan arenas hand h turns) r → IfOk r (IsGreetedSo h)
     hello_well hand turns r went = gone_ends SoundIn Locked (λ x. IfOk x (IsGreetedSo h)) (hello_plan arenas hand h turns) r went (hello_ends hand turns)
 
   module _ (id : RequestId) where
@@ -197,5 +197,5 @@ module _ (D : Type 0) (arenas : List TreeArena) where
     request_ends tree hand o = hand_first_ends (IsOutcomeTo arenas id o) hand (op_plan arenas id o) (op_ends tree o)
 
     -- a request comes to what its book says, as its words ask
-    pub request_well : IsTree arenas → (hand : Option Tag) (o : Op) (r : CallEnd D) → WentThrough arenas (request_plan arenas hand id o) r → Well o r
+    pub request_well : IsTree arenas → (hand : Option Tag) (o : Op) (r : CallEnd D) → GoneThrough SoundIn Locked (request_plan arenas hand id o) r → Well o r
     request_well tree hand o r went = gone_ends SoundIn Locked (Well o) (request_plan arenas hand id o) r went (request_ends tree hand o)

@@ -1,24 +1,18 @@
 -- The roots of a system, and its arenas as they are made.
-use Rattle.std.proofs.Common.{◌≡◌, ℕ, zero, suc, ◌+◌, ◌*◌, ◌<◌, ◌≤◌, ◌++◌, inl, inr, ◌↔◌, Bool, true, false, IsTrue, nat_lt, List, [], ◌∷◌, Option, Some, None, subst, sym, ap, ◌∙◌, refl, arith, length, map, slice_index_or, append_assoc, add-one}
+use Rattle.std.proofs.Common.{◌≡◌, ℕ, zero, suc, ◌+◌, ◌*◌, ◌<◌, ◌≤◌, ◌++◌, inl, inr, ◌↔◌, Bool, true, false, IsTrue, nat_lt, List, [], ◌∷◌, Some, None, subst, sym, ap, ◌∙◌, refl, arith, length, map, slice_index_or, append_assoc, add-one}
 use Rattle.std.specs.List.{AllAdjacentBelow, IsAllAdjacentAnswer, remove}
 use Rattle.std.specs.Prelude.{slice_get}
 use native.Mathlib.Numerals.{unary_clauses}
 use Rattle.std.proofs.Math.Nat.{eq-or-lt_of_le}
 use Rattle.std.proofs.lemmas.Bool.{ltb-true, lt-ltb}
-use Rattle.std.proofs.lemmas.List.{map-append, length-map}
-use Rattle.std.proofs.lemmas.Option.{slice_get-map}
-use Rattle.std.specs.Option.{option_map}
+use Rattle.std.proofs.lemmas.List.{map-append}
 use Rattle.std.specs.Global.{Vec}
 use Rattle.deed_core.specs.Holding.{Holding}
 use Rattle.deed_core.proofs.LawProofs.{pushed}
 use Rattle.arena_tree.specs.declared.setups.OwnedSpan.{OwnedSpan}
 use Rattle.arena_tree.specs.declared.trees.TreeArena.{TreeArena}
 use Rattle.arena_tree.specs.declared.limits.TheConstants.{MOST_SPANS}
-use Rattle.arena_tree.specs.Chains.{quantum_in}
-use Rattle.arena_tree.specs.Trees.{nodes_of}
-use Rattle.locked_parts.specs.Kinds.{kinds_up_to, count_of_caches}
 use Rattle.locked_parts.specs.News.{NewArenaState, IsMadeAsSet, AreMadeAsSet, locked_of, numbered_from, ranges_owned}
-use Rattle.locked_parts.specs.States.{LockedArenaState}
 use Rattle.lease_threads.specs.Ends.{InOrder}
 use Rattle.lease_threads.specs.Openings.{roots_of, roots_of_first}
 

@@ -1,5 +1,5 @@
 -- What a list of steps of a running system leaves.
-use Rattle.std.proofs.Common.{◌≡◌, ◌∙◌, ℕ, List, Option, Bool, true, false, refl, sym, ap}
+use Rattle.std.proofs.Common.{◌≡◌, ◌∙◌, ℕ, List, Bool, true, false, refl, sym, ap}
 use Rattle.arena_tree.specs.Chains.{Node}
 use Rattle.arena_tree.specs.Events.{Event, AnswerTo}
 use Rattle.arena_tree.specs.Plans.{Plan, Done, Ask, Step, Path, Ran}

@@ -2,10 +2,12 @@
 //! any kind. A law does nothing: its contract is the law.
 ghost use Rattle.lease_threads.specs.LineLaws.{LineKeeps, StoppedLineKeeps, LineNoFit};
 
-/// No line loses a segment, and the book is asked to refuse one for NoFit only after carves that
-/// found none.
-pub fn line_laws<D>()
-    ensures kept { LineKeeps D }
-    ensures stopped { StoppedLineKeeps D }
-    ensures no_fit { LineNoFit D }
+use locked_parts::Gate;
+
+/// By whatever gate, no line loses a segment, and the book is asked to refuse one for NoFit only
+/// after carves that found none.
+pub fn line_laws<D, G: Gate>()
+    ensures kept { LineKeeps D G.passed }
+    ensures stopped { StoppedLineKeeps D G.may_stop G.passed }
+    ensures no_fit { LineNoFit D G.passed }
 {}

@@ -6,8 +6,8 @@ ghost use Rattle.lease_call.specs.Kept.{call_left};
 ghost use Rattle.lease_call.specs.Requesting.{request_plan};
 ghost use Rattle.locked_parts.specs.Gates.{MayStop};
 ghost use Rattle.locked_parts.specs.Kinds.{AreForSame};
-ghost use Rattle.lease_threads.specs.Calling.{AnswersNewly, GreetsBy, RunsLine, WentThrough};
-ghost use Rattle.lease_threads.specs.Calling.{IsGreetedSo, IsOutcomeOf, TellsEnd};
+ghost use Rattle.lease_threads.specs.Calling.{AnswersNewly, GreetsBy, RunsLine};
+ghost use Rattle.lease_threads.specs.Calling.{IsGreetedSo, IsOutcomeOf, TellsEnd, WentThrough};
 ghost use Rattle.lease_threads.specs.Calling.{greeting_end, end_receipt, greeting_plan};
 ghost use Rattle.lease_threads.specs.Calling.{StopsIn, StopsLine, StopsOrEnds};
 ghost use Rattle.lease_threads.specs.Replying.{IsAnswerTo, IsReplyTo, IsGreeting, IsAgain};
@@ -37,9 +37,10 @@ impl<N: Name> System<N> {
     /// is of the arena that the line names, by that one's quantum, and for what it asks; what is
     /// released is the lease of the arena and the base that it names; and a refusal's word may be
     /// so. What is settled neither now nor before is answered by the book's word, or `again`. The
-    /// gate is asked before each step; where it says Stop the request ends there, and the CPU keeps
-    /// what that left in its hand, and its magazines. A segment that can't be placed stays in the
-    /// hand: each request tries to place it first, and is answered `again` while it can't.
+    /// gate is asked before each step, as one of this CPU's; where it says Stop the request ends
+    /// there, and the CPU keeps what that left in its hand, and its magazines. A segment that can't
+    /// be placed stays in the hand: each request tries to place it first, and is answered `again`
+    /// while it can't.
     pub fn request<R: Wait, G: Gate>(
         &self,
         rt: &R,
@@ -48,8 +49,8 @@ impl<N: Name> System<N> {
         line: &Line,
     ) -> Result<Told<N>, RequestStopped>
         ensures runs { IfOk result (λ r.
-            RunsLine (SeatDeed N) self.now.arenas cpu.old.hand line.now cpu.new.hand
-            r.reply r.receipt r.is_new) }
+            RunsLine (SeatDeed N) self.now.arenas (G.passed gate.now) cpu.old.number
+            cpu.old.hand line.now cpu.new.hand r.reply r.receipt r.is_new) }
         ensures answers { IfOk result (λ r.
             IsAnswerTo self.now.arenas line.now r.reply r.receipt) }
         ensures backed { IfOk result (λ r. IsBacked r.reply r.receipt r.word) }
@@ -60,7 +61,8 @@ impl<N: Name> System<N> {
         ensures held { IfOk result (λ r. IfSome cpu.new.hand (λ _. IsAgain r.reply)) }
         ensures stopped { OnErr result (MayStop G.may_stop gate.now) }
         ensures left { OnErr result
-            (StopsLine (SeatDeed N) self.now.arenas cpu.old.hand line.now cpu.new.hand) }
+            (StopsLine (SeatDeed N) self.now.arenas (G.may_stop gate.now) (G.passed gate.now)
+            cpu.old.number cpu.old.hand line.now cpu.new.hand) }
     {
         match line {
             Line::Hello(hello) => {
@@ -79,7 +81,8 @@ impl<N: Name> System<N> {
         gate: &G,
         hello: &HelloLine,
     ) -> Result<HelloTold<N>, RequestStopped>
-        ensures runs { IfOk result (λ r. GreetsBy (SeatDeed N) self.now.arenas hello.now
+        ensures runs { IfOk result (λ r. GreetsBy (SeatDeed N) self.now.arenas
+            (G.passed gate.now) cpu.old.number hello.now
             (greeting_plan (SeatDeed N) self.now.arenas cpu.old.hand hello.now) cpu.new.hand r.0) }
         ensures greeting { IfOk result (λ r. IsGreeting hello.now r.0) }
         ensures backed { IfOk result (λ r. IsBacked r.0 None r.1) }
@@ -88,6 +91,7 @@ impl<N: Name> System<N> {
         ensures held { IfOk result (λ r. IfSome cpu.new.hand (λ _. IsAgain r.0)) }
         ensures stopped { OnErr result (MayStop G.may_stop gate.now) }
         ensures left { OnErr result (StopsIn self.now.arenas
+            (G.may_stop gate.now) (G.passed gate.now) cpu.old.number
             (greeting_plan (SeatDeed N) self.now.arenas cpu.old.hand hello.now) cpu.new.hand) }
     {
         let ended = self.run_hello(rt, cpu, gate, hello)?;
@@ -103,7 +107,8 @@ impl<N: Name> System<N> {
         id: RequestId,
         op: &Op,
     ) -> Result<Told<N>, RequestStopped>
-        ensures runs { IfOk result (λ r. AnswersNewly {D = SeatDeed N} self.now.arenas id
+        ensures runs { IfOk result (λ r. AnswersNewly {D = SeatDeed N} self.now.arenas
+            (G.passed gate.now) cpu.old.number id
             (request_plan self.now.arenas cpu.old.hand id op.now) cpu.new.hand
             r.reply r.receipt r.is_new) }
         ensures told { IfOk result (λ r. IsReplyTo self.now.arenas id r.reply r.receipt) }
@@ -115,6 +120,7 @@ impl<N: Name> System<N> {
         ensures held { IfOk result (λ r. IfSome cpu.new.hand (λ _. IsAgain r.reply)) }
         ensures stopped { OnErr result (MayStop G.may_stop gate.now) }
         ensures left { OnErr result (StopsIn {D = SeatDeed N} self.now.arenas
+            (G.may_stop gate.now) (G.passed gate.now) cpu.old.number
             (request_plan self.now.arenas cpu.old.hand id op.now) cpu.new.hand) }
     {
         let ended = self.run_request(rt, cpu, gate, id, op)?;
@@ -133,12 +139,14 @@ impl<N: Name> System<N> {
         op: &Op,
     ) -> Result<Ended<N, Outcome<SeatDeed<N>>>, RequestStopped>
         ensures went { IfOk result (WentThrough self.now.arenas
+            (G.passed gate.now) cpu.old.number
             (request_plan self.now.arenas cpu.old.hand id op.now)) }
         ensures number { cpu.new.number ≡ cpu.old.number }
         ensures magazines { AreForSame cpu.old.caches cpu.new.caches }
         ensures hand { OnOk result (cpu.new.hand ≡ None) }
         ensures stopped { OnErr result (MayStop G.may_stop gate.now) }
         ensures left { OnErr result (StopsIn {D = SeatDeed N} self.now.arenas
+            (G.may_stop gate.now) (G.passed gate.now) cpu.old.number
             (request_plan self.now.arenas cpu.old.hand id op.now) cpu.new.hand) }
     {
         let hand = cpu.hand.take();
@@ -159,12 +167,14 @@ impl<N: Name> System<N> {
         hello: &HelloLine,
     ) -> Result<Ended<N, Greeting<SeatDeed<N>>>, RequestStopped>
         ensures went { IfOk result (WentThrough self.now.arenas
+            (G.passed gate.now) cpu.old.number
             (greeting_plan (SeatDeed N) self.now.arenas cpu.old.hand hello.now)) }
         ensures number { cpu.new.number ≡ cpu.old.number }
         ensures magazines { AreForSame cpu.old.caches cpu.new.caches }
         ensures hand { OnOk result (cpu.new.hand ≡ None) }
         ensures stopped { OnErr result (MayStop G.may_stop gate.now) }
         ensures left { OnErr result (StopsIn self.now.arenas
+            (G.may_stop gate.now) (G.passed gate.now) cpu.old.number
             (greeting_plan (SeatDeed N) self.now.arenas cpu.old.hand hello.now) cpu.new.hand) }
     {
         let hand = cpu.hand.take();

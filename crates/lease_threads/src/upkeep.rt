@@ -44,8 +44,8 @@ impl<N: Name> System<N> {
     }
 
     /// Looks for each part once, under its lock, one after another. It gives the first that wasn't
-    /// where it was set up, now or when a call looked for it before: what needs that is answered as
-    /// where there is no memory or nothing.
+    /// where it was set up, now or when a call looked for it before: a step that needs that is
+    /// answered as where there is no memory or nothing, and a `grow` says so.
     pub fn look<R: Wait>(&self, rt: &R) -> Result<NoneMissed, Misplaced> {
         self.parts.look(rt)
     }

@@ -36,7 +36,7 @@ fn refused<N: Name, R: Abort + Wait>(
     let range = Range::new(base, len).expect(rt, "a range");
     match system.grow(rt, arena, range) {
         Ok(_) => panic!(rt; "it grew"),
-        Err(why) => why.fault(),
+        Err(why) => why.fault().expect(rt, "the arena isn't there"),
     }
 }
 

@@ -9,18 +9,19 @@ use std::alloc::AllocGlobal;
 use std::marker::Brand;
 use std::process::Abort;
 use std::sync::Wait;
-use std::sync::atomic::{AtomicBool, Ordering};
+use std::sync::atomic::{AtomicBool, AtomicU64, Ordering};
 use tag_arena::Policy;
 
-/// Looks whether the steps are those that are wanted, in their order, of this CPU.
+/// Looks whether the steps are those that are wanted, each asked for once, in their order, of this
+/// CPU.
 #[derive(Drop)]
 struct InOrder<'a> {
     cpu: u32,
     wanted: &'a [EventName],
     /// Another step came.
     astray: &'a AtomicBool,
-    /// The last one came.
-    ended: &'a AtomicBool,
+    /// How often it was asked.
+    asked: &'a AtomicU64,
 }
 
 impl Gate for InOrder<'_> {
@@ -29,12 +30,10 @@ impl Gate for InOrder<'_> {
     ghost passed = { λ _ _. Unit {0} };
 
     fn pass(&self, step: &NextStep) -> Pass {
-        match self.wanted.get(step.turn as usize) {
-            Some(event) if *event == step.event && step.cpu == self.cpu => {}
+        let asked = self.asked.fetch_add(1, Ordering::SeqCst);
+        match self.wanted.get(asked as usize) {
+            Some(event) if *event == step.event && step.turn == asked && step.cpu == self.cpu => {}
             _ => self.astray.store(true, Ordering::SeqCst),
-        }
-        if step.turn.saturating_add(1) == self.wanted.len() as u64 {
-            self.ended.store(true, Ordering::SeqCst);
         }
         Pass::Go
     }
@@ -49,19 +48,22 @@ fn ask_by<N: Name, R: Abort + Wait + AllocGlobal>(
     wanted: &str,
     steps: &[EventName],
 ) {
-    let (astray, ended) = (AtomicBool::new(false), AtomicBool::new(false));
+    let (astray, asked) = (AtomicBool::new(false), AtomicU64::new(0));
     let gate = InOrder {
         cpu: cpu.number(),
         wanted: steps,
         astray: &astray,
-        ended: &ended,
+        asked: &asked,
     };
     match system.request(rt, cpu, &gate, &line(rt, text)) {
         Ok(told) => same(rt, &told.reply, wanted),
         Err(RequestStopped) => panic!(rt; "stopped"),
     }
     assert!(rt; !astray.load(Ordering::SeqCst), "another step");
-    assert!(rt; ended.load(Ordering::SeqCst), "too few steps");
+    assert!(rt;
+        asked.load(Ordering::SeqCst) == steps.len() as u64,
+        "too few steps"
+    );
 }
 
 /// A line, what it is answered, and its steps.

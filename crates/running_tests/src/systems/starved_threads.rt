@@ -231,10 +231,10 @@ fn grow<N: Name, R: Abort + Wait>(rt: &R, system: &System<N>, arena: u32, base: 
             Ok(_) => {
                 assert!(rt; free(rt, system, arena) == before.saturating_add(u128::from(len)));
                 let again = system.grow(rt, arena, range);
-                assert!(rt; again.is_err_and(|why| why.fault() == GrowFault::Overlaps));
+                assert!(rt; again.is_err_and(|why| why.fault() == Some(GrowFault::Overlaps)));
                 return;
             }
-            Err(why) => assert!(rt; why.fault() == GrowFault::NoMemory),
+            Err(why) => assert!(rt; why.fault() == Some(GrowFault::NoMemory)),
         }
         assert!(rt; free(rt, system, arena) == before);
     }
@@ -298,7 +298,7 @@ fn grown_and_ended<N: Name, R: Abort + Wait + AllocGlobal>(rt: &R, ground: Groun
         let range = Range::new(turn * 8 + 8, 8).expect(rt, "a range");
         match system.grow(rt, 0, range) {
             Ok(_) => grown = grown.saturating_add(1),
-            Err(why) => assert!(rt; why.fault() == GrowFault::NoMemory),
+            Err(why) => assert!(rt; why.fault() == Some(GrowFault::NoMemory)),
         }
     }
     match system.shut(rt) {

@@ -1,5 +1,4 @@
 use Rattle.std.proofs.Common.{ap, arith, length}
-use Rattle.lease_threads.specs.Systems.{SystemState}
 use Rattle.lease_threads.proofs.Gathered.{closed_all}
 use Rattle.lease_threads.proofs.closing.close_each.Goals as goal
 
