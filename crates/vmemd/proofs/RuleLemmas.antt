@@ -133,4 +133,4 @@ script_grants_apart old s g h two other =
 pub script_new_grants_apart : ScriptNewGrantsStayApart
 script_new_grants_apart old s g h two =
     subst (λ (xs : List TreeArena). GrantsApart xs g h) s.opened.tree
-    (new_grants_stay_apart s.desk old s.frames s.text g h (script_begins old s) s.opened.book.accounts (desk_named old s) s.serves two)
+    (new_grants_stay_apart s.desk old s.frames s.text g h (script_begins old s) s.opened.book.accounts (desk_named old s) two)

@@ -1,28 +1,27 @@
 -- From what was told and read to how a server ran.
-use Rattle.std.proofs.Common.{IfOk, IfErr, ◌≡◌, ◌∙◌, ◌++◌, ◌-◌, ◌<◌, ℕ, length, Option, Some, None, List, [], ◌∷◌, Result, Ok, Err, Bool, true, false, refl, sym, ap, subst, inl, inr, append_assoc, arith}
+use Rattle.std.proofs.Common.{IfOk, IfErr, ◌≡◌, ◌∙◌, ◌++◌, ◌-◌, ◌<◌, ℕ, Option, Some, None, List, [], ◌∷◌, Result, Ok, Err, Bool, true, false, refl, sym, ap, subst, inl, inr, append_assoc}
 use Rattle.std.proofs.lemmas.List.{append-nil}
 use Rattle.std.specs.Global.{Vec}
 use Rattle.std.specs.Io.KnownBytes.{Appends, Consumes}
 use Rattle.std.proofs.KnownBytes.{Appends-trans, Consumes-nil}
 use Rattle.deed_core.specs.Extent.{Extent}
 use Rattle.arena_tree.specs.declared.trees.TreeArena.{TreeArena}
-use Rattle.lease_proto.specs.Frames.{Frame, frames_in, frames_of}
+use Rattle.lease_proto.specs.Frames.{frames_of}
 use Rattle.lease_proto.specs.Serving.{ServesLines}
-use Rattle.lease_server.specs.Intakes.{IntakeState, frames_on, frames_to_end, hand_in}
+use Rattle.lease_server.specs.Intakes.{IntakeState, hand_in}
 use Rattle.lease_server.specs.Serving as serving
 use Rattle.lease_server.specs.Serving.{TellFails, WritesFront}
 use Rattle.lease_server.specs.Watching.{Streams}
 use Rattle.lease_server.specs.declared.faults.ServeFault.TheVariants as serve
-use Rattle.lease_server.specs.declared.intakes.TheConstants.{MOST_READS}
 use Rattle.lease_server.proofs.LawProofs.{hand_tells}
 use Rattle.lease_threads.specs.Ends.{HaltedState, AreTold, AreRangesLeft, IsRestOf, KeepsRoots}
 use Rattle.lease_threads.proofs.Gathered.{ranges_later}
 use Rattle.lease_threads.specs.Systems.{SystemState}
-use Rattle.vmemd.specs.Operators.{may_tell, Tells}
+use Rattle.vmemd.specs.Operators.{may_tell}
 use Rattle.vmemd.specs.declared.running.RunFault.{RunFault}
 use Rattle.vmemd.specs.declared.running.RunFault.TheVariants.{Read, Write, Listen, Memory, Shut}
 use Rattle.vmemd.specs.Retrying.{Retries}
-use Rattle.vmemd.specs.Running.{AnswersBehind, Attends, BothWork, Closes, ServesToItsEnd, TellsSome, TellsToEnd, closed_line, listening_line, run_text}
+use Rattle.vmemd.specs.Running.{AnswersBehind, Attends, Closes, ServesToItsEnd, closed_line, listening_line}
 
 -- before anything is read
 abbrev pub unread_intake : IntakeState

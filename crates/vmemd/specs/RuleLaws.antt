@@ -12,8 +12,8 @@ use Rattle.lease_proto.specs.Serving.{ServesLines}
 use Rattle.lease_machine.specs.Picture.{Picture}
 use Rattle.lease_machine.specs.AnswerLaws.{IsReadAs, RepliesTo}
 use Rattle.lease_machine.specs.Rules.{KeepsRules}
-use Rattle.lease_machine.specs.FirstGrants.{GrantsTwo}
 use Rattle.lease_machine.specs.GrantLaws.{GrantsTwice, GrantsApart}
+use Rattle.lease_machine.specs.NewGrants.{GrantsTwo}
 use Rattle.vmemd.specs.declared.faults.ScriptFault.{ScriptFault}
 use Rattle.vmemd.specs.Desks.{ScriptEnds, ScriptFails}
 use Rattle.vmemd.specs.Laws.{Script, AnswersNext}
@@ -72,9 +72,10 @@ abbrev pub ScriptGrantsStayApart : Type 0
 ScriptGrantsStayApart = (old : Picture) (s : Script old) (g h : Granted) → GrantsTwice old g h
     → h.id ≢ g.id → GrantsApart s.made.arenas g h
 
--- So it is of two requests that come for the first time, which the lines alone tell, where of the
--- lines between none releases what the first was granted, and is answered so, and none is a hello
--- of a greater incarnation of its client that is welcome.
+-- So it is of two requests that no line before settled (none of their client, incarnation and
+-- number was answered `granted`, `released` or `refused`), where of the lines between none releases
+-- what the first was granted, and is answered so, and none is a hello of a greater incarnation of
+-- its client that is welcome. Which lines these are, they and their answers tell alone.
 abbrev pub ScriptNewGrantsStayApart : Type 0
 ScriptNewGrantsStayApart = (old : Picture) (s : Script old) (g h : Granted)
-    → GrantsTwo s.frames old g h → GrantsApart s.made.arenas g h
+    → GrantsTwo s.desk s.frames s.text old g h → GrantsApart s.made.arenas g h

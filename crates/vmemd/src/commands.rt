@@ -273,12 +273,13 @@ taken in time (--line-limit); and where no other line is begun in time (--idle-l
 to 86400.
 
 Standard input is its operator's. A line grow NAME BASE LEN there gives a root a further span while
-clients are served, and is answered on standard output as in a script; any other line there is
-answered by its error. When standard input ends, no further connection is served, those being served
-end when their clients end them, all leases end, and it prints closed. With --grace it ends them
-itself: what was sent by then is answered, and those that haven't ended in time are cut off. So keep
-standard input open as long as the server is to run. Where a number can't be put back at once then,
-it says vmemd: shut, tries until it can, and ends with status 1.";
+clients are served, and is answered on standard output as in a script, or by error misplaced, which
+tells of a fault of the program; any other line there is answered by its error. When standard input
+ends, no further connection is served, those being served end when their clients end them, all
+leases end, and it prints closed. With --grace it ends them itself: what was sent by then is
+answered, and those that haven't ended in time are cut off. So keep standard input open as long as
+the server is to run. Where a number can't be put back at once then, it says vmemd: shut, tries
+until it can, and ends with status 1.";
 
 /// What `--line-limit` sets, for the help of `serve`.
 const LINE_LIMIT_HELP: &str = "How long a line and taking an answer may take (10 without it)";

@@ -1,5 +1,5 @@
 //! How the program ends: what it says then, and its exit status.
-ghost use Rattle.std.specs.Prelude.{◌≡◌, false, OnOk, OnErr};
+ghost use Rattle.std.specs.Prelude.{◌≡◌, false};
 ghost use Rattle.std.specs.Process.{exit_status};
 ghost use Rattle.lease_server.specs.Watching.{inner_of, has_failed};
 ghost use Rattle.vmemd.specs.Commands.{EndsWords};

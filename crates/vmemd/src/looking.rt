@@ -1,6 +1,5 @@
 //! What is seen of a running system, as values.
 ghost use Rattle.std.specs.Prelude.{◌≡◌, ◌<◌, ◌++◌, [], ◌∷◌, IfOk, OnOk, length};
-ghost use Rattle.std.specs.Prelude.{option_map, option_and_then, slice_get};
 ghost use Rattle.std.specs.List.{flat_map};
 ghost use Rattle.lease_threads.specs.Sums.{AreSumsOf};
 ghost use Rattle.lease_threads.specs.declared.sums.SystemSums.{SystemSums};

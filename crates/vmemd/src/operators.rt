@@ -3,10 +3,10 @@ ghost use Rattle.std.specs.Prelude.{◌≡◌};
 ghost use Rattle.lease_call.specs.Growing.{TellsGrowth};
 ghost use Rattle.vmemd.specs.Operators.{TellsLine};
 
-use arena_tree::{GrowFault, Tree};
+use arena_tree::Tree;
 use deed_core::Range;
 use deed_table::Name;
-use lease_call::{grow_outcome, growth_asked};
+use lease_call::{grow_word, growth_asked};
 use lease_proto::{ErrorWord, GrowLine, outcome_line};
 use lease_server::Teller;
 use lease_threads::System;
@@ -19,7 +19,7 @@ pub trait Grower {
     ghost use Rattle.std.specs.Prelude.{◌≡◌, ℕ, List, Result};
     ghost use Rattle.deed_core.specs.Extent.{Extent};
     ghost use Rattle.arena_tree.specs.declared.trees.TreeArena.{TreeArena};
-    ghost use Rattle.arena_tree.specs.declared.part_faults.GrowFault.{GrowFault};
+    ghost use Rattle.lease_proto.specs.declared.faults.ErrorWord.{ErrorWord};
     ghost use Rattle.vmemd.specs.Operators.{outcome_of};
 
     /// That a root grew.
@@ -31,14 +31,14 @@ pub trait Grower {
     // its arenas
     ghost arenas: { Self → List TreeArena };
 
-    // what may come of an arena that is to grow by a range, by its number
-    ghost grows: { Self → ℕ → Extent → Result (Unit {0}) GrowFault → Self → Type 0 };
+    // what may be told of an arena that is to grow by a range, by its number
+    ghost grows: { Self → ℕ → Extent → Result (Unit {0}) ErrorWord → Self → Type 0 };
 
     // it is so of the arena of this number, and of this range
     ghost answers: { Self → ℕ → Extent → Result Self.Grown Self.NotGrown → Type 0 };
 
-    // the fault that is told of it
-    ghost told: { Self.NotGrown → GrowFault };
+    // the word that is told of it
+    ghost told: { Self.NotGrown → ErrorWord };
 
     /// The arenas, as they were set up.
     fn tree(&self) -> &Tree
@@ -49,8 +49,8 @@ pub trait Grower {
         ensures grows { grows self.old arena range (outcome_of told result) self.new }
         ensures answers { answers self.old arena range result };
 
-    /// The fault that is told of it.
-    fn fault(why: &Self::NotGrown) -> GrowFault
+    /// The word that is told of it.
+    fn word(why: &Self::NotGrown) -> ErrorWord
         ensures { result ≡ told why.now };
 }
 
@@ -71,8 +71,8 @@ fn grow<G: Grower>(line: &GrowLine, grower: &mut G) -> Result<(), ErrorWord>
 {
     let growth = growth_asked(grower.tree(), line)?;
     match grower.grow(growth.arena, growth.range) {
-        Ok(_) => grow_outcome(Ok(())),
-        Err(why) => grow_outcome(Err(G::fault(&why))),
+        Ok(_) => Ok(()),
+        Err(why) => Err(G::word(&why)),
     }
 }
 
@@ -102,8 +102,8 @@ impl<'a, N: Name, R> RunningRoots<'a, N, R> {
 }
 
 impl<N: Name, R: Wait> Grower for RunningRoots<'_, N, R> {
-    ghost use Rattle.locked_parts.specs.GrowAnswers.{AnswersGrow, grow_fault};
-    ghost use Rattle.vmemd.specs.Operators.{all_arenas, MayGrow};
+    ghost use Rattle.locked_parts.specs.GrowAnswers.{AnswersGrow};
+    ghost use Rattle.vmemd.specs.Operators.{all_arenas, MayGrow, not_grown_word};
 
     type Grown = Grown;
 
@@ -115,7 +115,7 @@ impl<N: Name, R: Wait> Grower for RunningRoots<'_, N, R> {
 
     ghost answers = { AnswersGrow };
 
-    ghost told = { grow_fault };
+    ghost told = { not_grown_word };
 
     fn tree(&self) -> &Tree {
         self.system.tree()
@@ -125,8 +125,11 @@ impl<N: Name, R: Wait> Grower for RunningRoots<'_, N, R> {
         self.system.grow(self.rt, arena, range)
     }
 
-    fn fault(why: &NotGrown) -> GrowFault {
-        why.fault()
+    fn word(why: &NotGrown) -> ErrorWord {
+        match why.fault() {
+            Some(fault) => grow_word(fault),
+            None => ErrorWord::Misplaced,
+        }
     }
 }
 

@@ -3,8 +3,9 @@
 use super::{Mishap, Pieces, Sink};
 use crate::configs::read_config;
 use crate::operators::{Grower, answer_operator};
-use arena_tree::{GrowFault, Tree};
+use arena_tree::Tree;
 use deed_core::Range;
+use lease_proto::ErrorWord;
 use lease_server::{Intake, ServeFault, Teller, Watched, tell};
 use std::alloc::Global;
 use std::process::Abort;
@@ -13,12 +14,12 @@ use std::process::Abort;
 const CONFIG: &[u8] = b"root m 0 8 1 best 0\nchild c m 1 best 0 0\n";
 
 /// How the roots answer, one after another.
-const ANSWERS: [Result<(), GrowFault>; 6] = [
+const ANSWERS: [Result<(), ErrorWord>; 6] = [
     Ok(()),
-    Err(GrowFault::Overlaps),
-    Err(GrowFault::NotAligned),
-    Err(GrowFault::TooMany),
-    Err(GrowFault::NoMemory),
+    Err(ErrorWord::Range),
+    Err(ErrorWord::Misplaced),
+    Err(ErrorWord::Many),
+    Err(ErrorWord::Memory),
     Ok(()),
 ];
 
@@ -52,7 +53,7 @@ const LINES: &[u8] = b"grow m 8 1\n\
 
 const TOLD: &[u8] = b"ok\n\
     error range\n\
-    error range\n\
+    error misplaced\n\
     error many\n\
     error memory\n\
     error noarena\n\
@@ -91,7 +92,7 @@ impl Grower for Roots {
 
     type Grown = ();
 
-    type NotGrown = GrowFault;
+    type NotGrown = ErrorWord;
 
     ghost arenas = { λ r. r.tree };
 
@@ -99,21 +100,21 @@ impl Grower for Roots {
 
     ghost answers = { λ _ _ _ _. ⊤ };
 
-    ghost told = { λ fault. fault };
+    ghost told = { λ word. word };
 
     fn tree(&self) -> &Tree {
         &self.tree
     }
 
-    fn grow(&mut self, arena: u32, range: Range) -> Result<(), GrowFault> {
+    fn grow(&mut self, arena: u32, range: Range) -> Result<(), ErrorWord> {
         let turn = self.asked.len();
         if arena != 0 || self.asked.push(range.base()).is_err() || turn >= ANSWERS.len() {
-            return Err(GrowFault::NoArena);
+            return Err(ErrorWord::NoArena);
         }
         ANSWERS[turn]
     }
 
-    fn fault(why: &GrowFault) -> GrowFault {
+    fn word(why: &ErrorWord) -> ErrorWord {
         *why
     }
 }
