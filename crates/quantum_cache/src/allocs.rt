@@ -6,7 +6,7 @@ ghost use Rattle.arena_tree.specs.Events.{Carve};
 ghost use Rattle.arena_tree.specs.Plans.{Ran};
 ghost use Rattle.arena_tree.specs.Stops.{Counts, is_stopped};
 ghost use Rattle.arena_tree.specs.Tags.{tag_climb, tag_ok};
-ghost use Rattle.quantum_cache.specs.Allocs.{tag_stage, alloc_cached, alloc_plan, xalloc_plan};
+ghost use Rattle.quantum_cache.specs.Allocs.{alloc_cached, alloc_plan, xalloc_plan};
 ghost use Rattle.quantum_cache.specs.Served.{IsServed, AsksForNone};
 
 use crate::alloc_stages::{chunk, depot_round, round, slab_chunk};
