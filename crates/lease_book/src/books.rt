@@ -1,5 +1,5 @@
 //! The book of leases.
-ghost use Rattle.std.specs.Prelude.{◌≡◌, ◌==◌, ◌<◌, ◌≤◌, ◌↔◌, List, [], length, All, IsOk, IsNone};
+ghost use Rattle.std.specs.Prelude.{◌≡◌, ◌==◌, ◌<◌, ◌≤◌, ◌↔◌, List, [], length, IsOk, IsNone};
 ghost use Rattle.std.specs.Prelude.{OnOk, OnErr, IfOk, IfErr, IfSome, IfNone, IsTrue, Some, None};
 ghost use Rattle.std.specs.Prelude.{◌+◌, ◌++◌, slice_get, sum_by, vec_len, vec_capacity};
 ghost use Rattle.std.specs.List.{find, list_any};

@@ -7,7 +7,7 @@ ghost use Rattle.std.specs.Prelude.{◌≡◌, ◌+◌, ◌*◌, ◌/◌, ◌<�
 ghost use Rattle.std.specs.Prelude.{Some, None, IfOk, OnOk, OnErr, IfNone, position};
 ghost use Rattle.std.specs.Prelude.{is_some, nat_le, map, vec_len, vec_capacity};
 ghost use Rattle.std.specs.List.{find, list_any};
-ghost use Rattle.lease_book.specs.Account.{Lease, is_lease, is_older, without_first};
+ghost use Rattle.lease_book.specs.Account.{is_lease, is_older, without_first};
 ghost use Rattle.lease_book.specs.Places.{leases_in, is_asked, holds, chain_of, EmptyBefore};
 ghost use Rattle.lease_book.specs.Reports.{lease_report};
 ghost use Rattle.lease_book.specs.declared.books.TheConstants.{MOST_LEASES};

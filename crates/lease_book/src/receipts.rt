@@ -1,6 +1,5 @@
 //! Replies that are kept, and receipts for them.
 ghost use Rattle.std.specs.Prelude.{◌≡◌};
-ghost use Rattle.deed_core.specs.Extent.{IsRange};
 
 use deed_core::{Range, Request};
 use lease_terms::{Ordinal, Quantity, Refusal, RequestId};

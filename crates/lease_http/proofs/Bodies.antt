@@ -1,5 +1,5 @@
 -- The bytes of answers.
-use Rattle.std.proofs.Common.{◌≡◌, ◌∙◌, sym, ap, subst, refl, ℕ, List, Bool}
+use Rattle.std.proofs.Common.{◌≡◌, ◌∙◌, sym, ap, subst, ℕ, List, Bool}
 use Rattle.lease_watch.specs.declared.looks.Looks.{Looks}
 use Rattle.lease_watch.specs.declared.requests.Wanted.{Wanted}
 use Rattle.lease_watch.specs.declared.rows.LeaseRow.{LeaseRow}

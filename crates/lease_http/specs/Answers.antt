@@ -9,7 +9,6 @@ use Rattle.http1.specs.Fields.{Header}
 use Rattle.lease_watch.specs.declared.looks.Looks.{Looks}
 use Rattle.lease_watch.specs.declared.queries.Listed.{Listed}
 use Rattle.lease_watch.specs.declared.queries.Listed.TheVariants as listed
-use Rattle.lease_watch.specs.declared.queries.ListQuery.{ListQuery}
 use Rattle.lease_watch.specs.declared.requests.Wanted.{Wanted}
 use Rattle.lease_watch.specs.declared.requests.Wanted.TheVariants as wanted
 use Rattle.lease_watch.specs.declared.rows.LeaseRow.{LeaseRow}

@@ -15,7 +15,7 @@ ghost use Rattle.tag_arena.specs.Layout.{FreeIsLongestRuns};
 ghost use Rattle.tag_arena.specs.ArenaState.{spans_of, layout_of, ranges_of, tags_of, direct_tag};
 ghost use Rattle.tag_arena.specs.ArenaState.{IsChosen, IsSoundArena, OnQuantum, empty_arena};
 ghost use Rattle.tag_arena.specs.Calls.{part, after_carve, RefusesCarve, IsClear, OverlapsSpan};
-ghost use Rattle.tag_arena.specs.Calls.{after_import, first_units, IsTagged};
+ghost use Rattle.tag_arena.specs.Calls.{after_import, first_units};
 ghost use Rattle.plain_arena.specs.Found.{IsCuttable, IsPlaced};
 ghost use Rattle.tag_arena.specs.Outcomes.{KeepsSetup, AddSpanOf, CarveOf, IsImportFor, ImportOf};
 ghost use Rattle.tag_arena.specs.Outcomes.{ImportCovers, FreeOf, RemoveOf};

@@ -1,9 +1,9 @@
 //! The spans of an arena.
-ghost use Rattle.std.specs.Prelude.{◌≡◌, ◌≢◌, ℕ, ◌+◌, ◌*◌, ◌^◌, ◌<◌, ◌≤◌, ◌++◌, map, All, Any};
-ghost use Rattle.std.specs.Prelude.{Contains, HoldsAt, IsTrue, MatchBool, MatchOption, IfSome};
-ghost use Rattle.std.specs.Prelude.{length, slice_index_or, sum_by, take};
+ghost use Rattle.std.specs.Prelude.{◌≡◌, ◌≢◌, ◌+◌, ◌*◌, ◌^◌, ◌<◌, ◌≤◌, ◌++◌, map, All, Any};
+ghost use Rattle.std.specs.Prelude.{Contains, HoldsAt, MatchBool, MatchOption};
+ghost use Rattle.std.specs.Prelude.{length};
 ghost use Rattle.deed_core.specs.Covering.{units_held};
-ghost use Rattle.deed_core.specs.Extent.{Covers, Overlap, IsRange};
+ghost use Rattle.deed_core.specs.Extent.{Covers, Overlap};
 ghost use Rattle.deed_core.specs.declared.segments.Route.TheVariants.{Direct};
 
 use crate::held_ranges::HeldRange;

@@ -1,8 +1,6 @@
-use Rattle.std.proofs.Common.{◌≡◌, ◌∙◌, ap, sym, subst, List, insert, take}
-use Rattle.std.specs.List.{position_or_len}
+use Rattle.std.proofs.Common.{◌≡◌, ◌∙◌, sym, subst, insert, take}
 use Rattle.std.proofs.lemmas.List.Sorted.{IsNonDecreasingBy-take}
-use Rattle.lease_watch.specs.declared.rows.LeaseRow.{LeaseRow}
-use Rattle.lease_watch.specs.Rows.{IsInOrder, comes_before, key, put_in}
+use Rattle.lease_watch.specs.Rows.{IsInOrder, key, put_in}
 use Rattle.lease_watch.proofs.RowLemmas.{put_in_order}
 use Rattle.lease_watch.proofs.queries.ListQuery.look_at.Goals as goal
 
