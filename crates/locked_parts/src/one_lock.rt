@@ -12,7 +12,7 @@ use crate::locked_events::{
     slab_take_in,
 };
 use crate::magazine_sets::{end_rounds, new_rounds};
-use crate::misplaced::{Cause, PartName};
+use crate::misplaced::{Cause, Misplaced, PartName};
 use crate::new_arenas::NewArena;
 use crate::own_events::{swap_empty_in, swap_fresh_in, swap_full_in};
 use crate::parts::LockedParts;
@@ -276,41 +276,57 @@ fn change_places<N: Name, R: Abort + Wait>(rt: &R, parts: &LockedParts<N>) {
     mem::swap(&mut *one, &mut *other);
 }
 
+/// The part that was missed where one was asked.
+fn missed<R: Abort>(rt: &R, said: Said) -> Misplaced {
+    match said {
+        Said::Missing(misplaced) => misplaced,
+        _ => panic!(rt; "another answer"),
+    }
+}
+
+/// No chunk comes of the slabs of the cache with this number, which are missed.
+fn take_missed<N: Name, R: Abort + Wait>(rt: &R, parts: &LockedParts<N>, cache: u8) -> Misplaced {
+    let mut said = Said::Nothing;
+    match slab_take_in(parts, rt, &mut said, FIRST, 0, cache) {
+        Ok(None) => {}
+        Ok(Some(chunk)) => stuck(rt, chunk),
+        Err(_) => panic!(rt; "stopped"),
+    }
+    missed(rt, said)
+}
+
+/// No segment is carved in the first arena, which is missed for this cause.
+fn carve_missed<N: Name, R: Abort + Wait>(rt: &R, parts: &LockedParts<N>, cause: Cause)
+    requires { 0 < length parts.now.arenas }
+{
+    let mut said = Said::Nothing;
+    match carve_in(parts, rt, &mut said, FIRST, 0, &Request::plain(16)) {
+        Ok(segment) => stuck(rt, segment),
+        Err(fault) => assert!(rt; fault == PartFault::Refused(ArenaFault::NoMemory)),
+    }
+    let misplaced = missed(rt, said);
+    assert!(rt; misplaced.part() == PartName::Arena(0) && misplaced.cause() == cause);
+}
+
 /// Then none is where it was set up, and the first that is sought is kept.
 fn of_moved<N: Name, R: Abort + Wait + AllocGlobal>(rt: &R, parts: &LockedParts<N>)
     requires { 0 < length parts.now.arenas }
 {
     change_places(rt, parts);
-    let mut said = Said::Nothing;
-    match slab_take_in(parts, rt, &mut said, FIRST, 0, 2) {
-        Ok(None) => {}
-        Ok(Some(chunk)) => stuck(rt, chunk),
-        Err(_) => panic!(rt; "stopped"),
-    }
-    let Said::Missing(misplaced) = said else {
-        panic!(rt; "another answer")
-    };
+    let misplaced = take_missed(rt, parts, 2);
     let text = format!(in rt.alloc(); "{misplaced}").expect(rt, "room");
     assert!(rt;
         text.as_str() == "misplaced: the slabs of cache 2 of arena number 0: another lies there"
     );
+    let mut said = Said::Nothing;
     match depot_reap_in(parts, rt, &mut said, FIRST, 0, 1) {
         Ok(None) => {}
         Ok(Some(round)) => stuck(rt, round),
         Err(_) => panic!(rt; "stopped"),
     }
-    let Said::Missing(misplaced) = said else {
-        panic!(rt; "another answer")
-    };
+    let misplaced = missed(rt, said);
     assert!(rt; misplaced.part() == PartName::Depot(0, 1) && misplaced.cause() == Cause::Other);
-    match carve_in(parts, rt, &mut said, FIRST, 0, &Request::plain(16)) {
-        Ok(segment) => stuck(rt, segment),
-        Err(fault) => assert!(rt; fault == PartFault::Refused(ArenaFault::NoMemory)),
-    }
-    let Said::Missing(misplaced) = said else {
-        panic!(rt; "another answer")
-    };
-    assert!(rt; misplaced.part() == PartName::Arena(0) && misplaced.cause() == Cause::Other);
+    carve_missed(rt, parts, Cause::Other);
     assert!(rt;
         parts
             .look(rt)
@@ -322,20 +338,8 @@ fn of_moved<N: Name, R: Abort + Wait + AllocGlobal>(rt: &R, parts: &LockedParts<
 fn of_none<N: Name, R: Abort + Wait>(rt: &R, parts: &LockedParts<N>)
     requires { 0 < length parts.now.arenas }
 {
-    let mut said = Said::Nothing;
-    match slab_take_in(parts, rt, &mut said, FIRST, 0, 1) {
-        Ok(None) => {}
-        Ok(Some(chunk)) => stuck(rt, chunk),
-        Err(_) => panic!(rt; "stopped"),
-    }
-    match carve_in(parts, rt, &mut said, FIRST, 0, &Request::plain(16)) {
-        Ok(segment) => stuck(rt, segment),
-        Err(fault) => assert!(rt; fault == PartFault::Refused(ArenaFault::NoMemory)),
-    }
-    let Said::Missing(misplaced) = said else {
-        panic!(rt; "another answer")
-    };
-    assert!(rt; misplaced.part() == PartName::Arena(0) && misplaced.cause() == Cause::None);
+    let _ = take_missed(rt, parts, 1);
+    carve_missed(rt, parts, Cause::None);
     let beside = Range::new(64, 8).expect(rt, "a range");
     let refused = parts.grow(rt, 0, beside);
     assert!(rt; refused.is_err_and(|why| why.fault().is_none()));
