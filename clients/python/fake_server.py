@@ -4,6 +4,8 @@ import re
 import socket
 import threading
 
+import vmemd
+
 MOST_LEASES = 1024
 MOST = 1 << 62
 
@@ -80,12 +82,12 @@ class FakeServer:
     Each cut is (direction, bytes): once so many bytes went in that direction ("in" or "out") since
     the cut before, the connection ends there. `lines` are those that were answered. The next `busy`
     connections are told so, and not served. Answers to requests are held back until `hold` of them
-    are there."""
+    are there. `ended` counts the connections that were served and are over."""
 
     def __init__(self, arenas, cuts=()):
         self.book, self.cuts, self.lines, self.gone = Book(arenas), list(cuts), [], 0
         self.connections, self.busy, self.replies, self.lock = 0, 0, None, threading.Lock()
-        self.hold = 1
+        self.hold, self.ended = 1, 0
         self.listener = socket.create_server(("127.0.0.1", 0))
         self.port = self.listener.getsockname()[1]
         threading.Thread(target=self.run, daemon=True).start()
@@ -106,7 +108,7 @@ class FakeServer:
             self.connections += 1
             link.setsockopt(socket.IPPROTO_TCP, socket.TCP_NODELAY, 1)
             is_busy, self.busy = self.busy > 0, max(self.busy - 1, 0)
-            target = self.turn_away if is_busy else self.serve
+            target = self.turn_away if is_busy else self.serve_to_its_end
             threading.Thread(target=target, args=(link,), daemon=True).start()
 
     def turn_away(self, link):
@@ -119,6 +121,11 @@ class FakeServer:
                     pass
             except OSError:
                 pass
+
+    def serve_to_its_end(self, link):
+        self.serve(link)
+        with self.lock:
+            self.ended += 1
 
     def serve(self, link):
         rest, held = b"", []
@@ -165,3 +172,9 @@ class FakeServer:
         self.cuts.pop(0)
         self.gone = 0
         return True
+
+
+def client_of(server, **options):
+    """A client of a FakeServer."""
+    given = {"number": 7, "incarnation": 1, "timeout": 5.0, "patience": 5.0, **options}
+    return vmemd.Client("127.0.0.1", server.port, **given)

@@ -5,12 +5,7 @@ import threading
 import unittest
 
 import vmemd
-from fake_server import FakeServer
-
-
-def client_of(server, **options):
-    given = {"number": 7, "incarnation": 1, "timeout": 5.0, "patience": 5.0, **options}
-    return vmemd.Client("127.0.0.1", server.port, **given)
+from fake_server import FakeServer, client_of
 
 
 class Calls(unittest.TestCase):

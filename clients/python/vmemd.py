@@ -1,4 +1,4 @@
-"""A client of vmemd over TCP, by the standard library alone.
+"""A client of vmemd over TCP, with the standard library alone.
 
     import vmemd
 
@@ -7,14 +7,24 @@
         with pool.lease(8, align=8) as numbers:
             use(numbers.base, numbers.length)
 
-A client is one number, 1 to 65,536, which no other process uses at the same time. Each start of it
-is an incarnation, with a greater number than the one before; the server ends the leases of older
-incarnations when it takes its hello. With `incarnations` the last one stands in that file; without,
-or where there is no such file yet, the first is the clock in nanoseconds. The requests of an
-incarnation count 1, 2, 3, .. Where a connection is cut, no answer comes in time, or the server is
-busy, the client connects again after a pause and sends the lines that aren't answered again, until
-`patience` is over: the server answers a line that it settled before by the same reply, so nothing
-is leased or released twice.
+**One process for each client number.** A client is a number, 1 to 65,536. The server keeps the
+leases of different clients apart, but it can't tell two processes that use the same client number
+from each other.
+
+A Client belongs to the process that made it. In a process that was forked from that one
+(`os.fork`, multiprocessing, web servers that load before they fork) every call on it raises
+`ForkedClient` and sends nothing, except that `holds` returns False, `held` returns an empty list,
+and `disconnect` and the end of a `with` do nothing. Such a process makes a Client of its own,
+with another number. A Client can't be pickled or copied.
+
+Each start of a client is an incarnation, with a greater number than the one before. When the server
+accepts the hello of an incarnation, it ends the leases of the older ones. With `incarnations` the
+last incarnation is kept in that file. Without it, or if there is no such file yet, the first
+incarnation is the clock in nanoseconds. The requests of an incarnation are numbered 1, 2, 3, ..
+
+If a connection is cut, an answer doesn't come in time, or the server is busy, the client pauses,
+connects again and sends the unanswered lines again, until `patience` is over. The server replies to
+a line that it has settled before with the same reply, so nothing is leased or released twice.
 
 One request is outstanding at a time. With `window=8` up to eight are, so that many leases or
 releases take fewer journeys over the network:
@@ -23,13 +33,15 @@ releases take fewer journeys over the network:
         numbers = client.lease_many("m", [8] * 100)
         client.release_many(numbers)
 
-Several threads may use a Client; their calls go one after another. A connection that stays open is
-one of those that the server has room for: `keep=False` closes it whenever no answer is waited for.
+Several threads may use a Client; their calls go one after another. An open connection is one of
+those that the server has room for: `keep=False` closes it whenever no answer is waited for.
 """
+import contextlib
 import os
 import socket
 import threading
 import time
+import weakref
 from collections import deque, namedtuple
 
 MOST = 1 << 62
@@ -39,7 +51,21 @@ LONGEST_REPLY = 255
 
 
 class VmemdError(Exception):
-    """Each fault of this module."""
+    """The base class of this module's errors."""
+
+
+class ForkedClient(VmemdError):
+    """The Client was inherited by a fork: only process `maker` may use it, and this is `process`.
+
+    Nothing was sent. Make a Client in this process, with a client number of its own."""
+
+    def __init__(self, maker, process):
+        super().__init__(maker, process)
+        self.maker, self.process = maker, process
+
+    def __str__(self):
+        return (f"process {self.maker} made this Client, and process {self.process} was forked "
+                "from it: make another Client here, with a client number of its own")
 
 
 class Unreachable(VmemdError):
@@ -52,7 +78,7 @@ class Busy(Unreachable):
 
 class OutOfMemory(VmemdError):
     """The server answered `again`, out of memory, until patience was over. The next request settles
-    what became of it."""
+    what became of this one."""
 
 
 class Superseded(VmemdError):
@@ -160,12 +186,14 @@ class Ask:
 
 
 class Client:
-    """One client of a server; it says hello by the first request, or by `restart`.
+    """One client of a server, for the process that makes it; its first request, or `restart`, says
+    hello.
 
-    Times are seconds: `timeout` for connecting and for each answer, `patience` for a request with
-    all its repeats. `incarnation` is the least incarnation that is taken. `window` says how many
-    requests are outstanding at most, 1 to 8; a server has to know the second protocol for more than
-    one."""
+    Times are in seconds: `timeout` for connecting and for each answer, `patience` for a request
+    with all its repeats. `incarnation` is the least incarnation that is taken. `keep=False` closes
+    the connection whenever no answer is waited for. `window` is the greatest number of requests
+    that are outstanding at a time, 1 to 8; for more than one the server has to know the second
+    protocol."""
 
     def __init__(self, host, port, number, *, incarnation=None, incarnations=None, timeout=5.0,
                  patience=60.0, keep=True, window=1):
@@ -182,28 +210,37 @@ class Client:
         self._queue, self._outstanding = deque(), {}
 
     def __enter__(self):
+        self._link.check_process()
         return self
 
     def __exit__(self, *fault):
-        try:
-            if fault[0] is None:
-                self.release_all()
-        finally:
-            self.disconnect()
+        if self._link.is_ours():
+            try:
+                if fault[0] is None:
+                    self.release_all()
+            finally:
+                self.disconnect()
 
-    # public calls
+    def __reduce__(self):
+        raise TypeError("a Client can't be pickled or copied, since it belongs to the process that "
+                        "made it: make another one there (of a Lease, send its base and length)")
+
+    # public calls (what takes the lock first looks whose process it is: in a forked one, the thread
+    # that held the lock isn't there)
 
     def pool(self, arena):
         """The arena of this name, to lease from."""
+        self._link.check_process()
         return Pool(self, arena)
 
     def restart(self):
         """Begins a greater incarnation: the server ends all leases of the older ones."""
+        self._link.check_process()
         with self._lock:
-            self._forget()
             while True:
-                self.incarnation = self._next_incarnation()
-                head = f"{self.number} {self.incarnation}{' 2' if self.window > 1 else ''}"
+                self._forget()
+                incarnation = self.incarnation = self._next_incarnation()
+                head = f"{self.number} {incarnation}{' 2' if self.window > 1 else ''}"
                 line = f"hello {head}"
                 words = self._patiently(lambda: self._asked(line, [line]))
                 if not self.keep:
@@ -212,7 +249,7 @@ class Client:
                     self._is_open = True
                     return
                 self._current = self._current_of(line, words)
-                if self._current <= self.incarnation:
+                if self._current <= incarnation:
                     raise ProtocolError(f"{words} answers {line!r}")
 
     def lease(self, arena, size, **options):
@@ -233,6 +270,7 @@ class Client:
         given = "".join(f" {word} {check_number(it)}" for word, it, no in options if it != no)
         outcomes = {}
         asks = [Ask("lease", f"{arena} {check_number(it)}{given}", arena, outcomes) for it in sizes]
+        self._link.check_process()
         with self._lock:
             try:
                 self._run(asks)
@@ -249,6 +287,7 @@ class Client:
         """Gives leases back. From this call on nothing may rely on them, also where it raises: what
         isn't given back then, the next call gives back first. Raises the first refusal, once all
         are answered."""
+        self._link.check_process()
         with self._lock:
             leases = list(leases)
             for it in leases:
@@ -264,23 +303,31 @@ class Client:
 
     def release_all(self):
         """Gives all leases back."""
+        self._link.check_process()
         with self._lock:
             self.release_many(self.held())
 
     def held(self):
-        """The leases held, in order of their grants."""
+        """The leases held, in order of their grants; none in a forked process, since they are its
+        parent's."""
+        if not self._link.is_ours():
+            return []
         with self._lock:
             return list(self._held.values())
 
     def holds(self, lease):
-        """Whether this very lease is held."""
+        """Whether this very lease is held; False in a forked process."""
+        if not self._link.is_ours():
+            return False
         with self._lock:
             return self._held.get((lease.arena, lease.base)) is lease
 
     def disconnect(self):
-        """Closes the connection. Leases stay, and the next request connects again."""
-        with self._lock:
-            self._link.close()
+        """Closes the connection. Leases stay, and the next request connects again. In a forked
+        process it does nothing: the copy of the connection there is closed already."""
+        if self._link.is_ours():
+            with self._lock:
+                self._link.close()
 
     # requests
 
@@ -379,6 +426,7 @@ class Client:
             elif words == ["error", "busy"]:
                 fault = Busy(f"the server is busy, for {line!r}")
         except OSError:
+            self._link.check_process()
             fault = Unreachable(f"no answer to {line!r}")
         except BaseException:
             self._link.close()
@@ -467,24 +515,51 @@ class Client:
 
 
 class Link:
-    """A connection that is made when it is needed. `waiting` are the numbers of the requests that
-    were sent over it and not answered, in order."""
+    """A connection that is made when it is needed, by the process that made the Link alone.
+
+    `waiting` are the numbers of the requests that were sent over it and not answered, in order."""
 
     def __init__(self, address, timeout):
         self.address, self.timeout, self.socket, self.rest = address, timeout, None, b""
         self.waiting = deque()
+        self.maker, self.is_inherited = os.getpid(), False
+        LINKS.add(self)
+
+    def is_ours(self):
+        """Whether this is the process that made the Link. (After a fork of which Python wasn't
+        told, only the process id shows that it isn't.)"""
+        if not self.is_inherited and os.getpid() != self.maker:
+            self.inherit()
+        return not self.is_inherited
+
+    def inherit(self):
+        """Gives up a copy of the Link in a forked process. Closing the copy of its socket sends
+        nothing, and a call that the fork interrupted finds it closed."""
+        self.is_inherited = True
+        if self.socket is not None:
+            with contextlib.suppress(OSError):
+                self.socket.close()
+
+    def check_process(self):
+        """Raises ForkedClient in another process than the one that made the Link."""
+        if not self.is_ours():
+            raise ForkedClient(self.maker, os.getpid())
 
     def send(self, lines):
-        """Sends lines; OSError where the connection was cut."""
+        """Sends lines; OSError if the connection can't be made or was cut, ForkedClient in another
+        process."""
+        self.check_process()
         if self.socket is None:
             self.socket, self.rest = socket.create_connection(self.address, self.timeout), b""
+            # (while it connected, a signal's handler may have forked)
+            self.check_process()
             self.socket.setsockopt(socket.IPPROTO_TCP, socket.TCP_NODELAY, 1)
         self.socket.settimeout(self.timeout)
         if lines:
             self.socket.sendall("".join(f"{it}\n" for it in lines).encode("ascii"))
 
     def receive(self):
-        """The next answer, without its line feed; OSError where the connection was cut."""
+        """The next answer, without its line feed; OSError if the connection was cut."""
         deadline = time.monotonic() + self.timeout
         while b"\n" not in self.rest:
             left = deadline - time.monotonic()
@@ -506,6 +581,19 @@ class Link:
         if self.socket is not None:
             self.socket.close()
             self.socket = None
+
+
+LINKS = weakref.WeakSet()
+
+
+def inherit_links():
+    """In a forked process, gives up the copies of all Links that its parent had."""
+    for it in list(LINKS):
+        it.inherit()
+
+
+if hasattr(os, "register_at_fork"):
+    os.register_at_fork(after_in_child=inherit_links)
 
 
 def check_name(name):
