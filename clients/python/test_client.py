@@ -1,6 +1,4 @@
 """Tests of the client over a server that is part of them: python3 -m unittest test_client"""
-import os
-import tempfile
 import threading
 import unittest
 
@@ -347,6 +345,7 @@ class Windows(unittest.TestCase):
                 with self.assertRaises(vmemd.Superseded):
                     first.lease_many("m", [1] * 8)
                 self.assertEqual((first.held(), second.held()), ([], [taken]))
+            first.restart()
             self.assertEqual(first.lease("m", 64), ("m", 0, 64))
             self.assertEqual(first.incarnation, 3)
 
@@ -358,6 +357,7 @@ class Windows(unittest.TestCase):
                               "old 7 5", "old 7 5"]
             with self.assertRaises(vmemd.Superseded):
                 client.lease_many("m", [8, 8, 65])
+            client.restart()
             self.assertEqual((client.held(), client.lease("m", 64)), ([], ("m", 0, 64)))
             self.assertEqual(client.incarnation, 6)
             client.disconnect()
@@ -395,76 +395,6 @@ class Windows(unittest.TestCase):
                 self.assertEqual(client.lease("m", 57).length, 57)
                 client.release_all()
                 client.disconnect()
-
-
-class Incarnations(unittest.TestCase):
-    def test_the_file_keeps_the_last_one(self):
-        with tempfile.TemporaryDirectory() as folder, FakeServer({"m": 64}) as server:
-            file = os.path.join(folder, "incarnation")
-            for number in (1, 2, 3):
-                client = client_of(server, incarnations=file)
-                self.assertEqual(client.lease("m", 64), ("m", 0, 64))
-                self.assertEqual(client.incarnation, number)
-                self.assertEqual(vmemd.read_incarnation(file), number)
-                client.disconnect()
-
-    def test_a_new_file_begins_by_the_clock(self):
-        with tempfile.TemporaryDirectory() as folder, FakeServer({"m": 64}) as server:
-            file = os.path.join(folder, "incarnation")
-            other = client_of(server)
-            other.lease("m", 64)
-            other.disconnect()
-            for _ in range(2):
-                client = client_of(server, incarnation=None, incarnations=file)
-                last = vmemd.read_incarnation(file)
-                self.assertEqual(client.lease("m", 64), ("m", 0, 64))
-                self.assertGreater(client.incarnation, 10**18)
-                self.assertIn(last, (0, client.incarnation - 1))
-                client.disconnect()
-
-    def test_without_a_file_the_clock_goes_on(self):
-        with FakeServer({"m": 64}) as server:
-            for _ in range(3):
-                client = client_of(server, incarnation=None)
-                self.assertEqual(client.lease("m", 64), ("m", 0, 64))
-                client.disconnect()
-
-    def test_one_that_is_too_low_is_raised(self):
-        with FakeServer({"m": 64}) as server:
-            with client_of(server, incarnation=10**18) as client:
-                client.lease("m", 1)
-            with client_of(server, incarnation=5) as client:
-                client.lease("m", 1)
-                self.assertEqual(client.incarnation, 10**18 + 1)
-
-    def test_one_that_was_superseded_holds_nothing(self):
-        with FakeServer({"m": 64}) as server, client_of(server) as first:
-            lease = first.lease("m", 64)
-            with client_of(server, incarnation=2) as second:
-                taken = second.lease("m", 64)
-                with self.assertRaises(vmemd.Superseded) as raised:
-                    first.lease("m", 1)
-                self.assertEqual((raised.exception.current, first.held()), (2, []))
-                self.assertFalse(first.holds(lease))
-                self.assertEqual(second.held(), [taken])
-            self.assertEqual(first.lease("m", 64), lease)
-            self.assertEqual(first.incarnation, 3)
-
-    def test_a_new_server_knows_nobody(self):
-        with FakeServer({"m": 64}) as server, client_of(server) as client:
-            client.lease("m", 64)
-            server.book.clients.clear()
-            with self.assertRaises(vmemd.Superseded) as raised:
-                client.lease("m", 1)
-            self.assertEqual(raised.exception.current, 0)
-            self.assertEqual(client.lease("m", 64), ("m", 0, 64))
-
-    def test_a_with_ends_also_where_the_lease_did(self):
-        with FakeServer({"m": 64}) as server, client_of(server) as client:
-            with self.assertRaises(vmemd.Superseded):
-                with client.lease("m", 1):
-                    server.book.clients.clear()
-                    client.lease("m", 1)
 
 
 class Answers(unittest.TestCase):

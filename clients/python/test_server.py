@@ -67,6 +67,20 @@ class Alone(Served):
                 with self.assertRaises(vmemd.Superseded):
                     first.lease("m", 1)
 
+    def test_of_two_with_one_number_the_earlier_is_told_until_it_restarts(self):
+        with self.client(1) as first, self.client(1) as second:
+            lease = first.lease("m", 4)
+            self.assertEqual(second.lease("m", 4), lease)
+            for _ in range(3):
+                with self.assertRaises(vmemd.Superseded) as raised:
+                    first.lease("m", 4)
+                self.assertEqual(raised.exception.current, second.incarnation)
+            self.assertEqual((first.held(), second.lease("m", 4)), ([], ("m", 4, 4)))
+            first.restart()
+            self.assertEqual(first.lease("m", 4), lease)
+            with self.assertRaises(vmemd.Superseded):
+                second.lease("m", 4)
+
     def test_half_a_line_waits_for_its_rest(self):
         half = self.opened(9)
         half.sendall(b"hello 9")

@@ -9,18 +9,23 @@
 
 **One process for each client number.** A client is a number, 1 to 65,536. The server keeps the
 leases of different clients apart, but it can't tell two processes that use the same client number
-from each other.
+from each other. Two guards catch the usual ways of sharing one:
 
-A Client belongs to the process that made it. In a process that was forked from that one
-(`os.fork`, multiprocessing, web servers that load before they fork) every call on it raises
-`ForkedClient` and sends nothing, except that `holds` returns False, `held` returns an empty list,
-and `disconnect` and the end of a `with` do nothing. Such a process makes a Client of its own,
-with another number. A Client can't be pickled or copied.
+- A Client belongs to the process that made it. In a process that was forked from that one
+  (`os.fork`, multiprocessing, web servers that load before they fork) every call on it raises
+  `ForkedClient` and sends nothing, except that `holds` returns False, `held` returns an empty list,
+  and `disconnect` and the end of a `with` do nothing. Such a process makes a Client of its own,
+  with another number. A Client can't be pickled or copied.
+- If the server restarted, or if another process said hello with the same number, all leases of this
+  client have ended. The next request raises `Superseded`, and so does every call after it, except
+  those four, until `restart`: nothing else begins a new incarnation. The client learns this only
+  from the server's reply to a request, so an idle client doesn't notice.
 
-Each start of a client is an incarnation, with a greater number than the one before. When the server
-accepts the hello of an incarnation, it ends the leases of the older ones. With `incarnations` the
-last incarnation is kept in that file. Without it, or if there is no such file yet, the first
-incarnation is the clock in nanoseconds. The requests of an incarnation are numbered 1, 2, 3, ..
+Each start of a client is an incarnation, with a greater number than the one before: the clock in
+nanoseconds, or one more than the last if that is greater. With `incarnations` the last one is kept
+in that file, so that the next is greater even if the clock was set back. When the server accepts
+the hello of an incarnation, it ends the leases of the older ones. The requests of an incarnation
+are numbered 1, 2, 3, ..
 
 If a connection is cut, an answer doesn't come in time, or the server is busy, the client pauses,
 connects again and sends the unanswered lines again, until `patience` is over. The server replies to
@@ -82,17 +87,31 @@ class OutOfMemory(VmemdError):
 
 
 class Superseded(VmemdError):
-    """The server doesn't know this incarnation: it has `current`, 0 where the server is a new one.
+    """The server doesn't know this incarnation: all its leases have ended, and nothing is held.
 
-    Nothing is held any more. `restart` begins a greater incarnation."""
+    `current` is the incarnation that the server knows. If it is 0, the server probably restarted,
+    else another process probably uses this client number. Each call raises this error until
+    `restart` begins a greater incarnation. `line` is what the server replied to."""
 
     def __init__(self, line, current):
-        super().__init__(f"incarnation {current} is current (answer to {line!r})")
-        self.current = current
+        super().__init__(line, current)
+        self.line, self.current = line, current
+
+    def __str__(self):
+        number, incarnation = self.line.split(" ")[1:3]
+        if self.current == 0:
+            return (f"the server doesn't know incarnation {incarnation} of client {number}: it "
+                    "probably restarted, and all its leases ended. restart() begins a new "
+                    f"incarnation, which holds nothing (in reply to {self.line!r})")
+        return (f"the server has incarnation {self.current} of client {number}, and the leases of "
+                f"incarnation {incarnation} have ended: another process probably uses client "
+                f"number {number}. Give each process a number of its own; restart() would end the "
+                f"other's leases (in reply to {self.line!r})")
 
 
 class ProtocolError(VmemdError):
-    """The other side answered what it can't, or another process uses this client's number."""
+    """The other side sent what doesn't answer this client. It may be another program, or another
+    process may use this client number."""
 
 
 class Refused(VmemdError):
@@ -206,6 +225,8 @@ class Client:
         self._file, self._least = incarnations, incarnation
         self._link, self._lock = Link(self.address, timeout), threading.RLock()
         self._is_open, self._last, self._current, self._held = False, 0, 0, {}
+        # the line and the incarnation of the reply that superseded this one
+        self._superseded = None
         # what isn't sent yet, and what is sent and not answered, by its number in rising order
         self._queue, self._outstanding = deque(), {}
 
@@ -216,7 +237,7 @@ class Client:
     def __exit__(self, *fault):
         if self._link.is_ours():
             try:
-                if fault[0] is None:
+                if fault[0] is None and self._superseded is None:
                     self.release_all()
             finally:
                 self.disconnect()
@@ -231,10 +252,13 @@ class Client:
     def pool(self, arena):
         """The arena of this name, to lease from."""
         self._link.check_process()
+        self._check_known()
         return Pool(self, arena)
 
     def restart(self):
-        """Begins a greater incarnation: the server ends all leases of the older ones."""
+        """Begins a greater incarnation: the server ends all leases of the older ones. It is the
+        only way on after `Superseded`. If the hello isn't answered, the next request repeats it
+        with a greater incarnation still."""
         self._link.check_process()
         with self._lock:
             while True:
@@ -250,7 +274,7 @@ class Client:
                     return
                 self._current = self._current_of(line, words)
                 if self._current <= incarnation:
-                    raise ProtocolError(f"{words} answers {line!r}")
+                    raise self._not_answering(line, words)
 
     def lease(self, arena, size, **options):
         """Leases size units of an arena, rounded up to whole quanta, and returns the Lease.
@@ -289,6 +313,7 @@ class Client:
         are answered."""
         self._link.check_process()
         with self._lock:
+            self._check_known()
             leases = list(leases)
             for it in leases:
                 if not self.holds(it):
@@ -308,15 +333,15 @@ class Client:
             self.release_many(self.held())
 
     def held(self):
-        """The leases held, in order of their grants; none in a forked process, since they are its
-        parent's."""
+        """The leases held, in order of their grants; none after `Superseded`, and none in a forked
+        process, since they are its parent's."""
         if not self._link.is_ours():
             return []
         with self._lock:
             return list(self._held.values())
 
     def holds(self, lease):
-        """Whether this very lease is held; False in a forked process."""
+        """Whether this very lease is held; False after `Superseded` and in a forked process."""
         if not self._link.is_ours():
             return False
         with self._lock:
@@ -333,6 +358,7 @@ class Client:
 
     def _run(self, asks):
         """Has the requests answered, and first what an earlier call left."""
+        self._check_known()
         if not self._is_open:
             self.restart()
         try:
@@ -341,6 +367,12 @@ class Client:
             self._work()
         finally:
             self._leave()
+
+    def _check_known(self):
+        """Raises Superseded after a reply said so, until `restart`."""
+        superseded = self._superseded
+        if superseded is not None:
+            raise Superseded(*superseded)
 
     def _leave(self):
         """Nobody waits for what isn't answered yet. A lease that wasn't sent won't be."""
@@ -455,10 +487,10 @@ class Client:
         if words[0] == "old":
             current = self._current_of(it.line, words)
             self._forget()
-            self._current = current
-            raise Superseded(it.line, current)
+            self._current, self._superseded = current, (it.line, current)
+            self._check_known()
         if words[1:4] != it.line.split(" ")[1:4]:
-            raise ProtocolError(f"{words} answers {it.line!r}")
+            raise self._not_answering(it.line, words)
         outcome = self._outcome(it, words)
         del self._outstanding[number]
         if isinstance(outcome, Lease):
@@ -479,7 +511,7 @@ class Client:
         is_grant = (it.word == "lease" and words[0] == "granted" and len(words) == 7
                     and words[4] == it.arena and (words[5] + words[6]).isdecimal())
         if not is_grant:
-            raise ProtocolError(f"{words} answers {it.line!r}")
+            raise self._not_answering(it.line, words)
         lease = Lease(it.arena, int(words[5]), int(words[6]))
         lease.client = self
         return lease
@@ -487,28 +519,32 @@ class Client:
     def _current_of(self, line, words):
         is_old = len(words) == 3 and words[:2] == ["old", str(self.number)] and words[2].isdecimal()
         if not is_old:
-            raise ProtocolError(f"{words} answers {line!r}")
+            raise self._not_answering(line, words)
         return int(words[2])
+
+    def _not_answering(self, line, words):
+        why = (f": another process probably uses client number {self.number}"
+               if words[0] in ("stale", "gap") else "")
+        return ProtocolError(f"{' '.join(words)!r} doesn't answer {line!r}{why}")
 
     # incarnations
 
     def _forget(self):
         if self._link.waiting:
             self._link.close()
-        self._is_open, self._last = False, 0
+        self._is_open, self._last, self._superseded = False, 0, None
         for it in (self._queue, self._outstanding, self._held):
             it.clear()
 
     def _next_incarnation(self):
-        """The least that is above each that is known; kept in the file before it is used."""
+        """An incarnation above each that is known; kept in the file before it is used. It is the
+        clock's also with a file, so that two processes that read the file at once don't begin the
+        same incarnation: the server would give the second the answers of the first."""
         known = max(self.incarnation, self._current)
         if self._file is not None:
             known = max(known, read_incarnation(self._file))
-        first = self._least
-        if first is None:
-            # (with no file, or a new one, nobody knows which were used before)
-            first = time.time_ns() if self._file is None or known == 0 else 1
-        number = check_number(max(known + 1, first))
+        least = time.time_ns() if self._least is None else self._least
+        number = check_number(max(known + 1, least))
         if self._file is not None:
             write_incarnation(self._file, number)
         return number
