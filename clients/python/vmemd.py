@@ -29,7 +29,8 @@ are numbered 1, 2, 3, ..
 
 If a connection is cut, an answer doesn't come in time, or the server is busy, the client pauses,
 connects again and sends the unanswered lines again, until `patience` is over. The server replies to
-a line that it has settled before with the same reply, so nothing is leased or released twice.
+a line that it has settled before with the same reply, so nothing is leased or released twice. A
+host name that can't be resolved for the first connection fails at once.
 
 One request is outstanding at a time. With `window=8` up to eight are, so that many leases or
 releases take fewer journeys over the network:
@@ -74,11 +75,29 @@ class ForkedClient(VmemdError):
 
 
 class Unreachable(VmemdError):
-    """No answer came in time. What became of the request isn't known; the next one settles it."""
+    """No answer came until patience was over. The next request settles what became of this one.
+
+    `line` is the line without an answer, `address` the server's host and port, `reason` says why
+    the last try failed, and `answer` is the last line that the server sent during the tries, or
+    None. `__cause__` is the OSError that ended the last try, if one did."""
+
+    def __init__(self, line, address, reason, answer=None):
+        super().__init__(line, address, reason, answer)
+        self.line, self.address, self.reason, self.answer = line, address, reason, answer
+
+    def __str__(self):
+        host, port = self.address
+        place = f"[{host}]:{port}" if ":" in str(host) else f"{host}:{port}"
+        last = "" if self.answer is None else f"; the last answer was {self.answer!r}"
+        return f"no answer to {self.line!r} from {place}: {self.reason}{last}"
+
+
+class UnknownHost(Unreachable):
+    """The server's host name can't be resolved. Nothing was sent, and nothing was tried again."""
 
 
 class Busy(Unreachable):
-    """The server answered that it has as many connections as it serves, until patience was over."""
+    """The server had as many connections as it serves until patience was over."""
 
 
 class OutOfMemory(VmemdError):
@@ -120,7 +139,11 @@ class Refused(VmemdError):
     word = None
 
     def __init__(self, line):
-        super().__init__(f"{self.word}: {line}")
+        super().__init__(line)
+        self.line = line
+
+    def __str__(self):
+        return f"{self.word}: {self.line}"
 
 
 class NoFit(Refused):
@@ -225,8 +248,9 @@ class Client:
         self._file, self._least = incarnations, incarnation
         self._link, self._lock = Link(self.address, timeout), threading.RLock()
         self._is_open, self._last, self._current, self._held = False, 0, 0, {}
-        # the line and the incarnation of the reply that superseded this one
-        self._superseded = None
+        # the line and the incarnation of the reply that superseded this one; the last line that
+        # came while an answer was waited for
+        self._superseded, self._answer = None, None
         # what isn't sent yet, and what is sent and not answered, by its number in rising order
         self._queue, self._outstanding = deque(), {}
 
@@ -413,14 +437,18 @@ class Client:
             self._patiently(self._step)
 
     def _patiently(self, step):
-        """Takes a step until it tells no fault, or patience is over; returns what it gave."""
-        wait, deadline = 0.01, time.monotonic() + self.patience
+        """Returns what a step returns. A step without an answer that settles it is taken again,
+        until patience is over."""
+        self._answer = None
+        wait, ends = 0.01, time.monotonic() + self.patience
         while True:
-            given, fault = step()
-            if fault is None:
-                return given
-            if time.monotonic() + wait > deadline:
-                raise fault
+            try:
+                return step()
+            except UnknownHost:
+                raise
+            except (Unreachable, OutOfMemory):
+                if time.monotonic() + wait > ends:
+                    raise
             time.sleep(wait)
             wait = min(2 * wait, 1.0)
 
@@ -432,41 +460,38 @@ class Client:
         self._link.waiting.extend(unsent)
         number = self._link.waiting[0]
         line = self._outstanding[number].line
-        words, fault = self._asked(line, [self._outstanding[it].line for it in unsent])
-        if self._link.waiting:
-            self._link.waiting.popleft()
         try:
-            if fault is None:
-                self._settle(number, words)
+            words = self._asked(line, [self._outstanding[it].line for it in unsent])
+            self._settle(number, words)
         except ProtocolError:
             self._link.close()
             raise
         finally:
             if not self.keep and not self._link.waiting:
                 self._link.close()
-        return None, fault
 
     def _asked(self, line, lines):
-        """Sends lines, and takes the answer to this line: its words, and the fault that it tells,
-        to be tried again, or None."""
-        words, fault = [], None
+        """Sends lines, and returns the words of the next answer, which is the one to `line`.
+        Raises Unreachable or OutOfMemory if that answer doesn't settle it. After Unreachable, what
+        comes over the connection is no answer to a further line."""
         try:
             self._link.send(lines)
-            words = self._link.receive().split(" ")
-            if words[0] == "again":
-                fault = OutOfMemory(f"out of memory for {line!r}")
-            elif words == ["error", "busy"]:
-                fault = Busy(f"the server is busy, for {line!r}")
-        except OSError:
+            self._answer = self._link.receive()
+            if self._answer == "error busy":
+                raise Busy(line, self.address, "the server has no room for a connection",
+                           self._answer)
+        except (OSError, UnicodeError) as error:
+            self._link.close()
             self._link.check_process()
-            fault = Unreachable(f"no answer to {line!r}")
+            reason = str(error) or type(error).__name__
+            raise self._link.fault(error)(line, self.address, reason, self._answer) from error
         except BaseException:
             self._link.close()
             raise
-        # (what comes over a connection after any of these is no answer to a further line)
-        if isinstance(fault, Unreachable):
-            self._link.close()
-        return words, fault
+        words = self._answer.split(" ")
+        if words[0] == "again":
+            raise OutOfMemory(f"the server is out of memory for {line!r}")
+        return words
 
     def _number(self):
         """Gives numbers to what may be sent now: they are less than a window apart."""
@@ -557,7 +582,7 @@ class Link:
 
     def __init__(self, address, timeout):
         self.address, self.timeout, self.socket, self.rest = address, timeout, None, b""
-        self.waiting = deque()
+        self.waiting, self.was_connected = deque(), False
         self.maker, self.is_inherited = os.getpid(), False
         LINKS.add(self)
 
@@ -581,12 +606,19 @@ class Link:
         if not self.is_ours():
             raise ForkedClient(self.maker, os.getpid())
 
+    def fault(self, error):
+        """The class of the exception for an error of the connection. A host that was reached before
+        isn't unknown: its name may be resolved again soon."""
+        is_name = isinstance(error, (socket.gaierror, UnicodeError))
+        return UnknownHost if is_name and not self.was_connected else Unreachable
+
     def send(self, lines):
         """Sends lines; OSError if the connection can't be made or was cut, ForkedClient in another
         process."""
         self.check_process()
         if self.socket is None:
             self.socket, self.rest = socket.create_connection(self.address, self.timeout), b""
+            self.was_connected = True
             # (while it connected, a signal's handler may have forked)
             self.check_process()
             self.socket.setsockopt(socket.IPPROTO_TCP, socket.TCP_NODELAY, 1)
@@ -600,15 +632,17 @@ class Link:
         while b"\n" not in self.rest:
             left = deadline - time.monotonic()
             if left <= 0:
-                raise TimeoutError("no answer in time")
+                raise TimeoutError(f"none came in {self.timeout} s")
             self.socket.settimeout(left)
             piece = self.socket.recv(4096)
             if not piece:
-                raise ConnectionError("cut")
+                raise ConnectionError("the server closed the connection")
             self.rest += piece
             if b"\n" not in self.rest and len(self.rest) > LONGEST_REPLY:
                 raise ProtocolError("a reply is too long")
         reply, _, self.rest = self.rest.partition(b"\n")
+        if self.waiting:
+            self.waiting.popleft()
         return reply.decode("ascii", "replace")
 
     def close(self):
