@@ -120,7 +120,8 @@ class Errors(unittest.TestCase):
         errors = [vmemd.VmemdError("why"), vmemd.ForkedClient(1, 2), vmemd.OutOfMemory("why"),
                   vmemd.Unreachable(line, place, "refused"), vmemd.UnknownHost(line, place, "no"),
                   vmemd.Busy(line, place, "no room", "error busy"), vmemd.Superseded(line, 0),
-                  vmemd.Superseded(line, 5), vmemd.ProtocolError("why"),
+                  vmemd.Superseded(line, 5), vmemd.Exhausted("why"), vmemd.ProtocolError("why"),
+                  vmemd.IncarnationsFileError("file", "why"),
                   *(it(line) for it in vmemd.REFUSALS.values())]
         for error in errors:
             copy = pickle.loads(pickle.dumps(error))

@@ -211,5 +211,104 @@ class Twins(unittest.TestCase):
                 it.disconnect()
 
 
+class Files(unittest.TestCase):
+    """Files of the last incarnation that can't be used."""
+
+    def setUp(self):
+        folder = tempfile.TemporaryDirectory()
+        self.addCleanup(folder.cleanup)
+        self.folder, self.file = folder.name, os.path.join(folder.name, "incarnation")
+
+    def is_refused(self, server, file):
+        """A client with this file says so, and sends nothing."""
+        client, sent = client_of(server, incarnations=file), len(server.lines)
+        for call in (lambda: client.lease("m", 1), client.restart):
+            with self.assertRaises(vmemd.IncarnationsFileError, msg=file) as raised:
+                call()
+            self.assertIsInstance(raised.exception, vmemd.VmemdError)
+            self.assertEqual(raised.exception.file, file)
+            self.assertIn(file, str(raised.exception))
+        self.assertEqual(len(server.lines), sent)
+        return raised.exception
+
+    def test_what_is_no_incarnation(self):
+        with FakeServer({"m": 64}) as server:
+            for content in (b"", b"\n", b"garbage", b"-1\n", b"1.5", b"1 2", b"1_0", b"0x10",
+                            b"\xff", b"\xd9\xa1", b"%d\n" % (vmemd.MOST + 1), b"9" * 200):
+                with open(self.file, "wb") as opened:
+                    opened.write(content)
+                self.is_refused(server, self.file)
+                with open(self.file, "rb") as opened:
+                    self.assertEqual(opened.read(), content)
+            os.remove(self.file)
+            with client_of(server, incarnations=self.file) as client:
+                self.assertEqual(client.lease("m", 64), ("m", 0, 64))
+
+    def test_what_cannot_be_read_or_written(self):
+        with FakeServer({"m": 64}) as server:
+            fault = self.is_refused(server, self.folder)
+            self.assertIsInstance(fault.__cause__, IsADirectoryError)
+            fault = self.is_refused(server, os.path.join(self.folder, "missing", "incarnation"))
+            self.assertIsInstance(fault.__cause__, FileNotFoundError)
+            os.mkdir(f"{self.file}.new")
+            fault = self.is_refused(server, self.file)
+            self.assertIsInstance(fault.__cause__, IsADirectoryError)
+
+    def test_leases_stay_where_a_restart_fails(self):
+        with FakeServer({"m": 64}) as server:
+            with client_of(server, incarnations=self.file) as client:
+                lease = client.lease("m", 8)
+                with open(self.file, "wb") as opened:
+                    opened.write(b"garbage")
+                with self.assertRaises(vmemd.IncarnationsFileError):
+                    client.restart()
+                self.assertTrue(client.holds(lease))
+                self.assertEqual(client.lease("m", 8), ("m", 8, 8))
+            self.assertEqual(server.book.clients[7]["leases"], {})
+
+
+class Exhausted(unittest.TestCase):
+    """Clients that have used all numbers up to 2^62."""
+
+    def test_incarnations_of_the_server(self):
+        with FakeServer({"m": 64}) as server:
+            server.book.hello(7, vmemd.MOST)
+            client = client_of(server)
+            for call in (lambda: client.lease("m", 1), client.restart):
+                with self.assertRaisesRegex(vmemd.Exhausted, f"client 7 .*{vmemd.MOST}"):
+                    call()
+            client.disconnect()
+
+    def test_incarnations_of_the_file(self):
+        with FakeServer({"m": 64}) as server, tempfile.NamedTemporaryFile("w") as file:
+            file.write(f"{vmemd.MOST}\n")
+            file.flush()
+            with self.assertRaisesRegex(vmemd.Exhausted, f"client 7 .*{vmemd.MOST}"):
+                client_of(server, incarnations=file.name).lease("m", 1)
+            self.assertEqual(server.lines, [])
+
+    def test_the_greatest_is_used(self):
+        with FakeServer({"m": 64}) as server:
+            with client_of(server, incarnation=vmemd.MOST) as client:
+                self.assertEqual(client.lease("m", 64), ("m", 0, 64))
+                with self.assertRaises(vmemd.Exhausted):
+                    client.restart()
+                self.assertEqual(client.held(), [("m", 0, 64)])
+
+    def test_request_numbers(self):
+        with FakeServer({"m": 64}) as server, client_of(server) as client:
+            client.lease("m", 1)
+            client._last = vmemd.MOST
+            with self.assertRaisesRegex(vmemd.Exhausted, r"client 7 .*restart\(\)"):
+                client.lease("m", 1)
+            client.restart()
+            self.assertEqual(client.lease("m", 64), ("m", 0, 64))
+
+    def test_a_least_incarnation_is_a_number(self):
+        for least in (-1, vmemd.MOST + 1, 1.0, "1", True):
+            with self.assertRaises(ValueError):
+                vmemd.Client("127.0.0.1", 1, 7, incarnation=least)
+
+
 if __name__ == "__main__":
     unittest.main()

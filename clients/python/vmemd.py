@@ -128,6 +128,24 @@ class Superseded(VmemdError):
                 f"other's leases (in reply to {self.line!r})")
 
 
+class Exhausted(VmemdError):
+    """The client's incarnations, or the request numbers of its incarnation, have reached 2^62."""
+
+
+class IncarnationsFileError(VmemdError):
+    """The file of the last incarnation, `file`, can't be read or written, or holds no incarnation.
+
+    Nothing was sent, and leases that are held stay. If the file's content is lost, remove the file:
+    the next incarnation then is the clock's. `__cause__` is the error of the system, if any."""
+
+    def __init__(self, file, reason):
+        super().__init__(file, reason)
+        self.file, self.reason = file, reason
+
+    def __str__(self):
+        return f"incarnations file {os.fspath(self.file)!r}: {self.reason}"
+
+
 class ProtocolError(VmemdError):
     """The other side sent what doesn't answer this client. It may be another program, or another
     process may use this client number."""
@@ -243,6 +261,8 @@ class Client:
             raise ValueError(f"a client's number is 1 to {MOST_CLIENTS}")
         if window not in range(1, WIDEST + 1):
             raise ValueError(f"a window is 1 to {WIDEST}")
+        if incarnation is not None:
+            check_number(incarnation)
         self.number, self.incarnation, self.window = number, 0, window
         self.address, self.timeout, self.patience, self.keep = (host, port), timeout, patience, keep
         self._file, self._least = incarnations, incarnation
@@ -286,8 +306,9 @@ class Client:
         self._link.check_process()
         with self._lock:
             while True:
+                incarnation = self._next_incarnation()
                 self._forget()
-                incarnation = self.incarnation = self._next_incarnation()
+                self.incarnation = incarnation
                 head = f"{self.number} {incarnation}{' 2' if self.window > 1 else ''}"
                 line = f"hello {head}"
                 words = self._patiently(lambda: self._asked(line, [line]))
@@ -500,7 +521,8 @@ class Client:
             if self._last + 1 >= least + self.window:
                 return
             if self._last == MOST:
-                raise VmemdError("all numbers of this incarnation are used; restart")
+                raise Exhausted(f"incarnation {self.incarnation} of client {self.number} has used "
+                                "all request numbers up to 2^62: restart() begins another")
             self._last += 1
             it = self._queue.popleft()
             it.line = f"{it.word} {self.number} {self.incarnation} {self._last} {it.rest}"
@@ -569,7 +591,10 @@ class Client:
         if self._file is not None:
             known = max(known, read_incarnation(self._file))
         least = time.time_ns() if self._least is None else self._least
-        number = check_number(max(known + 1, least))
+        number = max(known + 1, least)
+        if number > MOST:
+            raise Exhausted(f"client {self.number} has no greater incarnation than {known}, "
+                            "which is 2^62: use another client number")
         if self._file is not None:
             write_incarnation(self._file, number)
         return number
@@ -681,24 +706,32 @@ def check_number(number):
 
 
 def read_incarnation(file):
-    """The last incarnation used, by its file; 0 where there is none."""
+    """The last incarnation used, by its file; 0 if there is none."""
     try:
         with open(file, encoding="ascii") as opened:
-            return check_number(int(opened.read()))
+            text = opened.read(100)
     except FileNotFoundError:
         return 0
+    except (OSError, ValueError) as error:
+        raise IncarnationsFileError(file, f"it can't be read: {error}") from error
+    if not text.strip().isdecimal() or int(text) > MOST:
+        raise IncarnationsFileError(file, f"{text!r} is no incarnation, 0 to 2^62")
+    return int(text)
 
 
 def write_incarnation(file, number):
-    """Keeps an incarnation in its file, so that it is there also after the power failed."""
-    new = f"{file}.new"
-    with open(new, "w", encoding="ascii") as opened:
-        opened.write(f"{number}\n")
-        opened.flush()
-        os.fsync(opened.fileno())
-    os.replace(new, file)
-    folder = os.open(os.path.dirname(os.path.abspath(file)), os.O_RDONLY)
+    """Keeps an incarnation in its file, so that it is there also after a power failure."""
+    new = f"{os.fspath(file)}.new"
     try:
-        os.fsync(folder)
-    finally:
-        os.close(folder)
+        with open(new, "w", encoding="ascii") as opened:
+            opened.write(f"{number}\n")
+            opened.flush()
+            os.fsync(opened.fileno())
+        os.replace(new, file)
+        folder = os.open(os.path.dirname(os.path.abspath(file)), os.O_RDONLY)
+        try:
+            os.fsync(folder)
+        finally:
+            os.close(folder)
+    except OSError as error:
+        raise IncarnationsFileError(file, f"{number} can't be written: {error}") from error
