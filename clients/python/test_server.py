@@ -81,6 +81,16 @@ class Alone(Served):
             with self.assertRaises(vmemd.Superseded):
                 second.lease("m", 4)
 
+    def test_an_exception_ends_the_leases_of_its_block(self):
+        with self.assertRaises(KeyError):
+            with self.client(1) as client:
+                client.lease("m", 4096)
+                raise KeyError
+        with self.client(2, keep_leases=True) as client:
+            client.lease("m", 4096)
+        with self.client(3) as client, self.assertRaises(vmemd.NoFit):
+            client.lease("m", 1)
+
     def test_half_a_line_waits_for_its_rest(self):
         half = self.opened(9)
         half.sendall(b"hello 9")

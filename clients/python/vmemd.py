@@ -32,6 +32,11 @@ connects again and sends the unanswered lines again, until `patience` is over. T
 a line that it has settled before with the same reply, so nothing is leased or released twice. A
 host name that can't be resolved for the first connection fails at once.
 
+The end of `with vmemd.Client(..)` releases all leases that are still held, also if an exception
+ends the block, unless `keep_leases=True`. There `timeout` and `patience` are 5 seconds (`LEAVING`)
+at most, for each answer. If the release fails, an exception that ended the block is raised all the
+same; without one, the error of the release is raised.
+
 One request is outstanding at a time. With `window=8` up to eight are, so that many leases or
 releases take fewer journeys over the network:
 
@@ -54,6 +59,8 @@ MOST = 1 << 62
 MOST_CLIENTS = 65536
 WIDEST = 8
 LONGEST_REPLY = 255
+# the most seconds of timeout and of patience at the end of a `with`
+LEAVING = 5.0
 
 
 class VmemdError(Exception):
@@ -200,7 +207,11 @@ Held = namedtuple("Held", "arena base length")
 
 
 class Lease(Held):
-    """The units from base on, length of them, until `release` or the end of a `with`."""
+    """The units from base on, length of them, until `release` or the end of a `with`.
+
+    A `with` that an exception ends releases them too; there `timeout` and `patience` are `LEAVING`
+    seconds at most. If that fails, the exception is raised all the same, and the client's next call
+    releases them."""
 
     client = None
 
@@ -216,9 +227,12 @@ class Lease(Held):
     def __enter__(self):
         return self
 
-    def __exit__(self, *fault):
+    def __exit__(self, kind, fault, trace):
         if self.client.holds(self):
-            self.release()
+            if fault is None:
+                self.release()
+            else:
+                self.client._end([self], fault)
 
 
 class Pool:
@@ -251,12 +265,13 @@ class Client:
 
     Times are in seconds: `timeout` for connecting and for each answer, `patience` for a request
     with all its repeats. `incarnation` is the least incarnation that is taken. `keep=False` closes
-    the connection whenever no answer is waited for. `window` is the greatest number of requests
-    that are outstanding at a time, 1 to 8; for more than one the server has to know the second
-    protocol."""
+    the connection whenever no answer is waited for. `keep_leases=True` has the end of a `with`
+    leave the leases that are held, which then last until a greater incarnation says hello. `window`
+    is the greatest number of requests that are outstanding at a time, 1 to 8; for more than one the
+    server has to know the second protocol."""
 
     def __init__(self, host, port, number, *, incarnation=None, incarnations=None, timeout=5.0,
-                 patience=60.0, keep=True, window=1):
+                 patience=60.0, keep=True, keep_leases=False, window=1):
         if not 1 <= number <= MOST_CLIENTS:
             raise ValueError(f"a client's number is 1 to {MOST_CLIENTS}")
         if window not in range(1, WIDEST + 1):
@@ -265,7 +280,7 @@ class Client:
             check_number(incarnation)
         self.number, self.incarnation, self.window = number, 0, window
         self.address, self.timeout, self.patience, self.keep = (host, port), timeout, patience, keep
-        self._file, self._least = incarnations, incarnation
+        self.keep_leases, self._file, self._least = keep_leases, incarnations, incarnation
         self._link, self._lock = Link(self.address, timeout), threading.RLock()
         self._is_open, self._last, self._current, self._held = False, 0, 0, {}
         # the line and the incarnation of the reply that superseded this one; the last line that
@@ -278,11 +293,12 @@ class Client:
         self._link.check_process()
         return self
 
-    def __exit__(self, *fault):
+    def __exit__(self, kind, fault, trace):
         if self._link.is_ours():
             try:
-                if fault[0] is None and self._superseded is None:
-                    self.release_all()
+                with self._lock:
+                    if self._superseded is None:
+                        self._end([] if self.keep_leases else self.held(), fault)
             finally:
                 self.disconnect()
 
@@ -418,6 +434,23 @@ class Client:
         superseded = self._superseded
         if superseded is not None:
             raise Superseded(*superseded)
+
+    def _end(self, leases, fault):
+        """Releases leases at the end of a `with`. An error of the release doesn't take the place of
+        the exception that ended the block, `fault`, if that is one."""
+        with self._lock:
+            kept = self.patience, self._link.timeout
+            self.patience, self._link.timeout = (min(it, LEAVING) for it in kept)
+            try:
+                self.release_many(leases)
+            except VmemdError as error:
+                if fault is None:
+                    raise
+                # (from Python 3.11 on the exception tells it)
+                if hasattr(fault, "add_note"):
+                    fault.add_note(f"vmemd: leases were not released: {error}")
+            finally:
+                self.patience, self._link.timeout = kept
 
     def _leave(self):
         """Nobody waits for what isn't answered yet. A lease that wasn't sent won't be."""
