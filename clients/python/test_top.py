@@ -1,4 +1,5 @@
 """Tests of vmemd_top: VMEMD=bin/vmemd python3 -m unittest test_top"""
+import argparse
 import os
 import pty
 import select
@@ -8,6 +9,7 @@ import time
 import unittest
 
 import vmemd_top
+from ports import free_port
 from test_watch import Watching
 
 
@@ -29,6 +31,15 @@ class Top(unittest.TestCase):
         shown = list(vmemd_top.lines_of(None, look, 11))
         self.assertIn("pid from space: 40 leased, 30 cached, 10 exported, 20 free of 100", shown)
 
+    def test_addresses(self):
+        for given in ("127.0.0.1:7071", "http://127.0.0.1:7071", "http://127.0.0.1:7071/",
+                      "HTTP://127.0.0.1:7071/metrics"):
+            self.assertEqual(vmemd_top.address_of(given), "127.0.0.1:7071")
+        self.assertEqual(vmemd_top.address_of("http://[::1]:7071/"), "[::1]:7071")
+        for given in ("https://127.0.0.1:7071", "http://", ""):
+            with self.assertRaises(argparse.ArgumentTypeError):
+                vmemd_top.address_of(given)
+
     def test_no_sample(self):
         with self.assertRaises(ValueError):
             vmemd_top.samples_in("<html>\n")
@@ -42,8 +53,65 @@ class Top(unittest.TestCase):
         self.assertIn("26 requests (10/s), 6 refused (3/s)", vmemd_top.lines_of(before, now, 80))
 
 
+class NoTerminal(unittest.TestCase):
+    """What it says where it can't show anything: one line, and a status that isn't 0."""
+
+    words = [sys.executable, vmemd_top.__file__]
+
+    def is_told(self, ran, status, pattern):
+        self.assertEqual((ran.returncode, ran.stdout), (status, ""), ran.stderr)
+        self.assertEqual(len(ran.stderr.splitlines()), 1, ran.stderr)
+        self.assertRegex(ran.stderr, pattern)
+
+    def test_output_that_is_no_terminal(self):
+        ours, its = pty.openpty()
+        try:
+            for stdin in (subprocess.DEVNULL, its):
+                ran = subprocess.run(self.words, stdin=stdin, stdout=subprocess.PIPE,
+                                     stderr=subprocess.PIPE, text=True, timeout=60)
+                self.is_told(ran, 2, "^vmemd_top: standard output is not a terminal; --once ")
+        finally:
+            os.close(ours)
+            os.close(its)
+
+    def in_terminal(self, stdin, **environment):
+        """It runs with a terminal as its standard output."""
+        ours, its = pty.openpty()
+        try:
+            return subprocess.run(self.words, stdin=its if stdin is None else stdin, stdout=its,
+                                  stderr=subprocess.PIPE, text=True, timeout=60,
+                                  env={**os.environ, **environment})
+        finally:
+            os.close(ours)
+            os.close(its)
+
+    def test_input_that_is_no_terminal(self):
+        ran = self.in_terminal(subprocess.DEVNULL, TERM="xterm")
+        self.assertEqual((ran.returncode, ran.stderr.count("\n")), (2, 1), ran.stderr)
+        self.assertIn("standard input is not a terminal", ran.stderr)
+
+    def test_a_terminal_that_is_unknown(self):
+        ran = self.in_terminal(None, TERM="no-such-terminal")
+        self.assertEqual((ran.returncode, ran.stderr.count("\n")), (2, 1), ran.stderr)
+        self.assertIn("--once", ran.stderr)
+
+    def test_a_server_that_is_not_there(self):
+        words = [*self.words, "--once", f"http://127.0.0.1:{free_port()}/"]
+        ran = subprocess.run(words, capture_output=True, text=True, timeout=60)
+        self.is_told(ran, 1, "^vmemd_top: 127.0.0.1:[0-9]+: .*refused")
+
+
 class Shown(Watching):
     """What it shows of a server."""
+
+    def test_once_needs_no_terminal(self):
+        for head, tail in (("", ""), ("http://", ""), ("http://", "/")):
+            words = [sys.executable, vmemd_top.__file__, "--once",
+                     f"{head}127.0.0.1:{self.watched}{tail}"]
+            ran = subprocess.run(words, stdin=subprocess.DEVNULL, capture_output=True, text=True,
+                                 timeout=60)
+            self.assertEqual((ran.returncode, ran.stderr), (0, ""))
+            self.assertIn("m: 0 leased, 0 cached, 0 exported, 4096 free of 4096", ran.stdout)
 
     def test_it_ends_with_q(self):
         with self.client(1) as client:
@@ -55,7 +123,8 @@ class Shown(Watching):
     def shown(self):
         """How it ends once q is typed, and what it showed until then."""
         ours, its = pty.openpty()
-        words = [sys.executable, vmemd_top.__file__, f"127.0.0.1:{self.watched}", "--seconds", "60"]
+        words = [sys.executable, vmemd_top.__file__, f"http://127.0.0.1:{self.watched}",
+                 "--seconds", "60"]
         given = {"TERM": "xterm", "LINES": "30", "COLUMNS": "90", "http_proxy": "http://127.0.0.1:1"}
         ran = subprocess.Popen(words, stdin=its, stdout=its, stderr=its,
                                env={**os.environ, **given})

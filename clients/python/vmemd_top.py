@@ -4,11 +4,16 @@
     vmemd_top.py [ADDRESS:PORT] [--seconds N] [--once]
 
 It asks `http://ADDRESS:PORT/metrics` of a server that was started with `--metrics ADDRESS:PORT`
-(127.0.0.1:7071 where none is given) every 2 seconds, or N. It ends with q. `--once` writes one look
-as lines of text and ends. It needs the standard library alone."""
+(127.0.0.1:7071 if none is given) every 2 seconds, or N. The address may also be given as that of
+the server's page, `http://ADDRESS:PORT/`. It needs a terminal, and ends with q. `--once` prints one
+look as lines of text and ends. It needs the standard library alone.
+
+The exit status is 1 if `--once` gets no look at the server, and 2 if the arguments are wrong, or
+there is no terminal and no `--once`."""
 import argparse
 import contextlib
 import http.client
+import os
 import re
 import sys
 import time
@@ -40,6 +45,15 @@ def samples_in(text):
             name, labels, value = found.groups()
             samples[name, tuple(LABEL.findall(labels or ""))] = int(value)
     return samples
+
+
+def address_of(text):
+    """The ADDRESS:PORT of an argument, which may be an http URL of that server."""
+    scheme, _, rest = text.rpartition("://")
+    address = rest.partition("/")[0]
+    if scheme.lower() not in ("", "http") or not address:
+        raise argparse.ArgumentTypeError(f"{text!r} isn't ADDRESS:PORT or http://ADDRESS:PORT")
+    return address
 
 
 def look_at(address, timeout=5):
@@ -139,9 +153,16 @@ def run(screen, address, seconds):
             return
 
 
+def stop(status, why):
+    """Ends with one line on standard error."""
+    print(f"vmemd_top: {why}", file=sys.stderr)
+    sys.exit(status)
+
+
 def main():
     words = argparse.ArgumentParser(description=__doc__.split("\n", maxsplit=1)[0])
-    words.add_argument("address", nargs="?", default="127.0.0.1:7071")
+    words.add_argument("address", nargs="?", default="127.0.0.1:7071", type=address_of,
+                       help="ADDRESS:PORT of --metrics, or http://ADDRESS:PORT; else %(default)s")
     words.add_argument("--seconds", type=float, default=2, help="how long between two looks")
     words.add_argument("--once", action="store_true", help="one look, as text")
     given = words.parse_args()
@@ -149,10 +170,16 @@ def main():
         try:
             print("\n".join(lines_of(None, look_at(given.address), 80)))
         except FAULTS as fault:
-            sys.exit(f"{given.address}: {fault}")
+            stop(1, f"{given.address}: {fault}")
         return
+    for end, name in ((1, "output"), (0, "input")):
+        if not os.isatty(end):
+            stop(2, f"standard {name} is not a terminal; --once prints one look as text")
     import curses
-    curses.wrapper(run, given.address, given.seconds)
+    try:
+        curses.wrapper(run, given.address, given.seconds)
+    except curses.error as fault:
+        stop(2, f"this terminal can't be used ({fault}); --once prints one look as text")
 
 
 if __name__ == "__main__":
