@@ -32,9 +32,9 @@ class Unanswered(unittest.TestCase):
 
     def test_no_answer_in_time(self):
         with FakeServer({"m": 64}) as server:
-            client = client_of(server, timeout=0.2, patience=0.05)
+            client = client_of(server, timeout=0.2, patience=60.0)
             client.restart()
-            server.hold = 2
+            client.patience, server.hold = 0.05, 2
             fault = self.unanswered(client)
         self.assertIsInstance(fault.__cause__, (TimeoutError, socket.timeout))
         self.assertEqual((fault.line, fault.answer), ("lease 7 1 1 m 1", None))
@@ -48,7 +48,7 @@ class Unanswered(unittest.TestCase):
     def test_the_last_answer_is_told(self):
         with FakeServer({"m": 64}, [("in", 0)] * 1000) as server:
             server.busy = 1
-            fault = self.unanswered(client_of(server, patience=2.0))
+            fault = self.unanswered(client_of(server, patience=3.0))
             server.cuts.clear()
         self.assertNotIsInstance(fault, vmemd.Busy)
         self.assertIsInstance(fault.__cause__, ConnectionError)
