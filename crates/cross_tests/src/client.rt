@@ -1,5 +1,6 @@
 //! What a client's core says to replies in and out of turn, and each of its refusals.
 mod orders;
+mod resuming;
 
 use lease_client::{Client, Got, NotGreater, Nothing, SendFault};
 use lease_proto::{Line, Op, Reply};

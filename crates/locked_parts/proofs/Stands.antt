@@ -43,15 +43,6 @@ stand_as_set arenas made stand count all is = record {
           kinds = ap (λ (l : LockedArenaState). l.kinds) (sym same) ∙ made_so.kinds;
         }
 
--- the same of two alone
-pub two_stand : (arenas : List TreeArena) (one two : NewArenaState) (stand : List LockedArenaState) → length arenas ≡ 2 → IsMadeAsSet arenas 0 one → IsMadeAsSet arenas 1 two → stand ≡ locked_of one ∷ locked_of two ∷ [] → StandAsSet arenas stand
-two_stand arenas one two stand count first second is = stand_as_set arenas (one ∷ two ∷ []) stand (sym count) (record { each = each }) is
-  where
-    each : (k : ℕ) (a : NewArenaState) → slice_get (one ∷ two ∷ []) k ≡ Some a → IsMadeAsSet arenas k a
-    each zero a at = (let same : one ≡ a = cc in subst (IsMadeAsSet arenas 0) same first)
-    each (suc zero) a at = (let same : two ≡ a = cc in subst (IsMadeAsSet arenas 1) same second)
-    each (suc (suc k)) a at = absurd (let e : None ≡ Some a = at in cc)
-
 -- those are in their places
 pub set_in_place : (arenas : List TreeArena) (stand : List LockedArenaState) → StandAsSet arenas stand → AreInPlace arenas stand
 set_in_place arenas stand as_set = λ k a at. record {

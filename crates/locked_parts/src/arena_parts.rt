@@ -33,7 +33,7 @@ use tag_arena::{Arena, ArenaFault, RangeFault, SpanFault};
 /// An arena, the number of its source, if it has one, its further roots with their opener, and how
 /// many roots it counts beside its lock: those of the setup, none once all were handed over. It
 /// keeps room for the end of all these.
-pub(crate) struct ArenaPart<N: Name> {
+pub struct ArenaPart<N: Name> {
     pub(crate) source: Option<u32>,
     pub(crate) arena: Arena<SeatDeed<N>>,
     pub(crate) roots: Roots<N>,

@@ -24,7 +24,7 @@ use std::alloc::Global;
 use std::marker::Model;
 
 /// The magazines of a quantum cache that no CPU has: all their rounds are chunks of it.
-pub(crate) struct KindDepot<D: Deed> {
+pub struct KindDepot<D: Deed> {
     pub(crate) kind: CacheKind,
     pub(crate) depot: Depot<D>,
 }

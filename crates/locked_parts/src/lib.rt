@@ -18,7 +18,8 @@
 //!
 //! `Running` (running) is `arena_tree::Parts` over them for one CPU, which has two magazines for
 //! each quantum cache (own_caches, magazine_sets): each event of a shared part takes its lock, and
-//! no other (locked_events, own_events; a test, one_lock), and asks the gate (gates) before.
+//! no other (locked_events, own_events; running_tests::one_lock tests that), and asks the gate
+//! (gates) before.
 //! Intervals and sizes of magazines are for all depots, one after another: such a walk
 //! (depot_walks) is proved over whatever keeps the depots, and goes over the locks (locked_depots).
 //!
@@ -52,8 +53,6 @@ mod misplaced;
 mod new_arenas;
 mod new_caches;
 mod not_empty;
-#[cfg(test)]
-mod one_lock;
 mod own_caches;
 mod own_events;
 mod owned_spans;
@@ -66,13 +65,14 @@ mod slab_parts;
 mod words;
 
 pub use arena_parts::{
-    ArenaSaid, ArenaSet, Grown, GrowthRefused, HandedOver, NoneWhole, NotCounted, Taken,
+    ArenaPart, ArenaSaid, ArenaSet, Grown, GrowthRefused, HandedOver, NoneWhole, NotCounted, Taken,
 };
 pub use depot_walks::{Interval, Resized};
 pub use gates::{EventName, Gate, NextStep, OpenGate, Pass, RequestStopped, StepCount};
-pub use kind_depots::DepotSaid;
+pub use kind_depots::{DepotSaid, KindDepot};
 pub use kinds::CacheKind;
 pub use locked_arenas::LockedArena;
+pub use locked_caches::{DepotGuard, SlabGuard};
 pub use magazine_sets::{end_rounds, new_rounds};
 pub use misplaced::{Cause, Misplaced, NoneMissed, PartName};
 pub use new_arenas::NewArena;

@@ -1,4 +1,4 @@
-//! An arena under its lock, which only its own calls take.
+//! An arena under its lock, which only its own calls take; `LockedParts` hands the guard out.
 ghost use Rattle.std.specs.Prelude.{◌≡◌, IfErr, IfNone, IfOk, IfSome};
 ghost use Rattle.std.specs.Sync.Mutex.{mutex_guard_value};
 ghost use Rattle.locked_parts.specs.Answers.{IsArenaFor};

@@ -1,4 +1,5 @@
-//! A quantum cache whose slabs and depot lie each under a lock, which only its own calls take.
+//! A quantum cache whose slabs and depot lie each under a lock, which only its own calls take;
+//! `LockedParts` hands the guards out.
 ghost use Rattle.std.specs.Prelude.{◌≡◌, IfErr, IfOk};
 ghost use Rattle.std.specs.Sync.Mutex.{mutex_guard_value};
 ghost use Rattle.locked_parts.specs.Kinds.{AreSlabsOf};
@@ -15,10 +16,10 @@ use std::marker::Model;
 use std::sync::{Mutex, MutexGuard, Wait};
 
 /// The slabs of a quantum cache under their lock.
-pub(crate) type SlabGuard<'a, N> = MutexGuard<'a, SlabCache<SeatDeed<N>>>;
+pub type SlabGuard<'a, N> = MutexGuard<'a, SlabCache<SeatDeed<N>>>;
 
 /// The depot of one.
-pub(crate) type DepotGuard<'a, N> = MutexGuard<'a, KindDepot<SeatDeed<N>>>;
+pub type DepotGuard<'a, N> = MutexGuard<'a, KindDepot<SeatDeed<N>>>;
 
 /// A quantum cache: its slabs and its depot, each under its lock. A contract sees which it was made
 /// as.

@@ -19,8 +19,12 @@ use deed_table::Name;
 use std::sync::{MutexGuard, Wait};
 
 impl<N: Name> LockedParts<N> {
-    /// The arena with this number under its lock, sought for this step, if for one.
-    pub(crate) fn reach_arena<R: Wait>(
+    /// Returns the arena with this number under its lock, which is held until the guard is dropped.
+    /// It waits for the lock. `step` is the step that seeks the part, if one does: the fault names
+    /// it. It returns `Misplaced` iff none stands there or another part lies under the lock; the
+    /// first part that is missed is kept (`LockedParts::look`). A thread that already holds this
+    /// lock waits forever, and threads that hold several parts have to lock them in one order.
+    pub fn reach_arena<R: Wait>(
         &self,
         rt: &R,
         step: Option<NextStep>,
@@ -56,8 +60,9 @@ impl<N: Name> LockedParts<N> {
         locked.cache(number)
     }
 
-    /// Its slabs under their lock, sought likewise.
-    pub(crate) fn reach_slabs<R: Wait>(
+    /// Returns the slabs of this arena's quantum cache with this number, from 1 on, under their lock,
+    /// and which cache it is; otherwise as `reach_arena`.
+    pub fn reach_slabs<R: Wait>(
         &self,
         rt: &R,
         step: Option<NextStep>,
@@ -79,8 +84,8 @@ impl<N: Name> LockedParts<N> {
         Err(self.missed(rt, step, PartName::Slabs(arena, number), found))
     }
 
-    /// Its depot under its lock, likewise.
-    pub(crate) fn reach_depot<R: Wait>(
+    /// Returns the depot of that cache under its lock, otherwise as `reach_arena`.
+    pub fn reach_depot<R: Wait>(
         &self,
         rt: &R,
         step: Option<NextStep>,

@@ -1,7 +1,10 @@
-//! Tests of running systems by their public calls: several CPUs and threads, from setup to shut. It
-//! has no code of its own, and stands apart from `cross_tests` since its tests wait for locks.
+//! Tests of running systems by their public calls: several CPUs and threads, from setup to shut; and
+//! of their parts, each under its lock. It has no code of its own, and stands apart from
+//! `cross_tests` since its tests wait for locks.
 //!
-//! `systems::conversations` has setups with lines and what they are answered, the same as of a
+//! `one_lock` asks each event of a shared part while the locks of other parts are held, and then
+//! asks parts that changed places under their locks. The modules below `systems` have running
+//! systems. `conversations` has setups with lines and what they are answered, the same as of a
 //! script (`running_rows`); `rows` has lines and their answers, asked of two CPUs in turn, and how
 //! a system ends; `growing` arenas that get further spans, and those that have several from the
 //! setup on; `watching` what is told of a running system; `gates` has requests that a gate holds or
@@ -14,5 +17,7 @@
 //! seconds, after which no two leases overlap and each root comes back whole.
 #![tactic(auto)]
 
+#[cfg(test)]
+mod one_lock;
 #[cfg(test)]
 mod systems;

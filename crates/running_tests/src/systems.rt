@@ -26,7 +26,7 @@ use std::process::Abort;
 use std::sync::Wait;
 use tag_arena::Policy;
 
-fn root(
+pub(crate) fn root(
     rt: &impl Abort,
     setup: &mut Setup,
     name: &str,
@@ -48,7 +48,7 @@ fn root(
 }
 
 /// An arena that imports 16 units or more of another, and caches up to 5.
-fn child(rt: &impl Abort, setup: &mut Setup, name: &str, source: &str) {
+pub(crate) fn child(rt: &impl Abort, setup: &mut Setup, name: &str, source: &str) {
     let child = NewChild {
         name: ArenaName::new(name.as_bytes()).expect(rt, "a name"),
         source: ArenaName::new(source.as_bytes()).expect(rt, "a name"),
@@ -82,7 +82,7 @@ fn same(rt: &(impl Abort + AllocGlobal), reply: &Reply, text: &str) {
 }
 
 /// Ends the test, with what it held.
-fn stuck<X, R: Abort>(rt: &R, held: X) -> ! {
+pub(crate) fn stuck<X, R: Abort>(rt: &R, held: X) -> ! {
     let _held = held;
     panic!(rt; "refused")
 }

@@ -4,8 +4,8 @@ use Rattle.arena_tree.specs.declared.limits.TheConstants.{MOST_SPANS}
 use Rattle.arena_tree.specs.declared.setups.OwnedSpan.{OwnedSpan}
 use Rattle.arena_tree.specs.declared.trees.TreeArena.{TreeArena}
 use Rattle.locked_parts.specs.News.{IsMadeAsSet}
-use Rattle.locked_parts.proofs.Stands.{two_stand}
-use Rattle.locked_parts.proofs.one_lock.events_of.Goals as goal
+use Rattle.running_tests.proofs.Stands.{two_stand}
+use Rattle.running_tests.proofs.one_lock.made.Goals as goal
 
 pub open-requires-clause-few : goal.open-requires-clause-few
 open-requires-clause-few g c = subst (λ (spans : List OwnedSpan). span_count 0 spans ≤ MOST_SPANS) (sym c.spans.ensures.value) (c.spans.ensures.setup.few 0)
