@@ -1,5 +1,5 @@
 //! A desk that is asked, for tests.
-use arena_tree::{NewChild, NewRoot, NewSpan, Setting, Setup};
+use arena_tree::{NewRoot, NewSpan, Setting, Setup};
 use lease_terms::ArenaName;
 use std::alloc::AllocGlobal;
 use std::process::Abort;
@@ -37,24 +37,6 @@ pub(crate) fn span(rt: &impl Abort, text: &str, base: u64, len: u64) -> Setting 
         name: name(rt, text),
         base,
         len,
-    })
-}
-
-pub(crate) fn child(
-    rt: &impl Abort,
-    text: &str,
-    source: &str,
-    quantum: u64,
-    qcache_max: u64,
-    import_min: u64,
-) -> Setting {
-    Setting::Child(NewChild {
-        name: name(rt, text),
-        source: name(rt, source),
-        quantum,
-        policy: Policy::Best,
-        qcache_max,
-        import_min,
     })
 }
 
@@ -99,11 +81,4 @@ pub(crate) fn ask(rt: &(impl Abort + AllocGlobal), desk: &mut Desk, lines: &[(&s
             Err(_) => panic!(rt; "out of memory"),
         }
     }
-}
-
-/// A desk with the arena d of 64 units, with caches up to 5, by instant fit.
-pub(crate) fn cached_desk(rt: &(impl Abort + AllocGlobal)) -> Desk {
-    let mut setup = Setup::new(rt.alloc());
-    add(rt, &mut setup, root(rt, "d", 0, 64, 1, Policy::Instant, 5));
-    opened(rt, setup)
 }

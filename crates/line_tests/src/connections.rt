@@ -5,7 +5,6 @@ ghost use Rattle.std.specs.Prelude.{◌≡◌, ⊤, true};
 
 use lease_proto::{ErrorWord, Line, Reply, Welcome};
 use lease_server::{ServeFault, Watched};
-use lease_tcp::{ClientLines, Counter, Link, Worker, serve_connection, turn_away};
 use lease_watch::Word;
 use std::alloc::Global;
 use std::cell::Cell;
@@ -13,6 +12,7 @@ use std::io;
 use std::io::{ErrorKind, Read, Write};
 use std::process::Abort;
 use std::test::Fail;
+use tcp_connections::{ClientLines, Counter, Link, Worker, serve_connection, turn_away};
 
 /// Counts what it is asked.
 #[derive(Clone, Copy, Debug, PartialEq, Eq)]

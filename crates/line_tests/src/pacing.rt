@@ -1,11 +1,11 @@
 //! Slow peers, by a clock of their own: how long a paced reader and a paced writer wait for them.
 
 use lease_server::{ServeFault, Watched, deliver};
-use lease_tcp::{Limited, Pace, PacedReader, PacedWriter, Side};
 use std::cell::Cell;
 use std::io;
 use std::io::{ErrorKind, Read, Write};
 use std::time::{Clock, Duration};
+use tcp_connections::{Limited, Pace, PacedReader, PacedWriter, Side};
 
 /// 10 seconds for a line and an answer, 600 between lines.
 fn pace() -> Pace {
