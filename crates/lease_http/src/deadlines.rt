@@ -1,10 +1,10 @@
 //! Streams that are read and written until a time, and then fail. This changes no byte.
 ghost use Rattle.std.specs.Prelude.{◌≡◌};
 
-use lease_tcp::{Deadline, Limited, Side};
 use std::io;
 use std::io::{Read, Write};
 use std::time::{Clock, Duration};
+use tcp_connections::{Deadline, Limited, Side};
 
 /// A time that comes, by a clock.
 #[derive(Drop)]

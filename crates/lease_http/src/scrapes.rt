@@ -4,7 +4,6 @@ use crate::deadlines::{Timed, Until};
 use crate::showing::Showing;
 use crate::views::View;
 use http_server::{Config, Connection, serve};
-use lease_tcp::{Arrivals, Deadline, Limited, Link, Server, let_go, pause, serve_each};
 use lease_watch::Looks;
 use std::alloc::{AllocGlobal, Global};
 use std::hash::RandomState;
@@ -13,6 +12,7 @@ use std::io::{Read, Write};
 use std::net::{TcpListener, TcpStream};
 use std::sync::Wait;
 use std::time::{Clock, Duration, Instant};
+use tcp_connections::{Arrivals, Deadline, Limited, Link, Server, let_go, pause, serve_each};
 
 /// Within how many seconds a connection has asked and taken its answer, or is cut off.
 pub const SCRAPE_LIMIT: u64 = 5;

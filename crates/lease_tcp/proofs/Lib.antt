@@ -1,2 +1,1 @@
-mod ArrivalLemmas
 mod TidyingLemmas

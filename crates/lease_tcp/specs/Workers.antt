@@ -10,7 +10,7 @@ use Rattle.lease_tcp.specs.Tidying.{Tidies}
 use Rattle.lease_tcp.specs.declared.system_workers.TheConstants.{REAP_LIMIT}
 use Rattle.lease_threads.specs.Calling.{RunsLine}
 use Rattle.lease_threads.specs.Reaping.{KeepsHand, ReapsSoundly}
-use Rattle.lease_threads.specs.Replying.{IsAnswerTo, IsAgain}
+use Rattle.shared_book.specs.Replying.{IsAnswerTo, IsAgain}
 use Rattle.lease_threads.specs.Retiring.{IsDrained, RetiresSoundly}
 use Rattle.lease_threads.specs.Systems.{CpuState}
 use Rattle.locked_parts.specs.Kinds.{AreForSame}

@@ -1,13 +1,13 @@
 //! What the threads of a server share whose connections have a thread each.
 ghost use Rattle.std.specs.Prelude.{◌<◌, length};
 
-use crate::doors::Door;
 use crate::seats::Seat;
 use crate::shared_cpus::SharedCpus;
 use deed_table::Name;
 use lease_threads::System;
 use std::sync::Mutex;
 use std::sync::atomic::{AtomicBool, Ordering};
+use tcp_connections::Door;
 
 /// Where connections come from, and what serves them.
 #[derive(Drop)]

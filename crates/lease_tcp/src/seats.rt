@@ -5,9 +5,9 @@ ghost use Rattle.deed_table.specs.declared.deeds.SeatDeed.{SeatDeed};
 ghost use Rattle.lease_proto.specs.declared.limits.TheConstants.{MOST_CPUS};
 ghost use Rattle.lease_threads.specs.Calling.{RunsLine};
 ghost use Rattle.lease_threads.specs.Reaping.{KeepsHand, ReapsSoundly};
-ghost use Rattle.lease_threads.specs.Replying.{IsAgain, IsAnswerTo};
+ghost use Rattle.shared_book.specs.Replying.{IsAgain, IsAnswerTo};
 ghost use Rattle.lease_threads.specs.Retiring.{IsDrained, RetiresSoundly};
-ghost use Rattle.lease_threads.specs.Settling.{IsSettledAsAsked};
+ghost use Rattle.shared_book.specs.Settling.{IsSettledAsAsked};
 ghost use Rattle.lease_tcp.specs.Workers.{StaysCpu, any_step, moves_units};
 ghost use Rattle.lease_tcp.specs.declared.system_workers.TheConstants.{REAP_LIMIT};
 

@@ -2,12 +2,11 @@
 ghost use Rattle.std.specs.Prelude.{◌≡◌};
 
 use crate::shared_cpus::SharedCpus;
-use crate::tallies::Tally;
-use crate::workers::Worker;
 use deed_table::Name;
 use lease_proto::{Line, Reply};
 use std::marker::Model;
 use std::sync::Wait;
+use tcp_connections::{Tally, Worker};
 
 /// A worker that answers by a system and has no CPU of its own: each line takes a seat, its own if
 /// that is free, and gives it back with the reply. A contract sees the arenas of the system.

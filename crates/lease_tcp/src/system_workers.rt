@@ -1,14 +1,8 @@
 //! A worker of a running system.
 ghost use Rattle.std.specs.Prelude.{◌≡◌};
 
-use crate::arrivals::{Reception, Served, serve_each};
-use crate::doors::Door;
-use crate::loops::TcpEntrance;
-use crate::replying::ClientLines;
 use crate::seats::{Drained, Reaped, Seat};
-use crate::shortages::NoOne;
 use crate::tidying::{Tidied, Upkeep, tidy_by};
-use crate::workers::Worker;
 use deed_table::Name;
 use lease_proto::{Line, Reply};
 use lease_threads::{Cpu, Interval, System};
@@ -16,6 +10,9 @@ use std::alloc::Global;
 use std::marker::Model;
 use std::sync::Wait;
 use std::time::Clock;
+use tcp_connections::{
+    ClientLines, Door, NoOne, Reception, Served, TcpEntrance, Worker, serve_each,
+};
 
 /// In how many steps an arena is reaped at a time, at most.
 pub const REAP_LIMIT: u64 = 1024;

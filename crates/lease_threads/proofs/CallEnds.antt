@@ -52,9 +52,10 @@ use Rattle.lease_call.specs.declared.outcomes.Outcome.{Outcome}
 use Rattle.lease_call.specs.declared.outcomes.Outcome.TheVariants.{Settled, Answered}
 use Rattle.lease_call.proofs.LawProofs.{gone_ends, ends_over, ends_gives, take_gives}
 use Rattle.locked_parts.specs.Answers.{AnswersSoundly}
-use Rattle.lease_threads.specs.Calling.{IsLockedCall, IsOutcomeTo, IsGreetedSo, end_receipt}
-use Rattle.lease_threads.specs.Settling.{Settles, SettlesLease, SettlesRelease, MayRefuseLease, MayRefuseRelease, IsGrantReceipt, IsRefusalReceipt}
-use Rattle.lease_threads.proofs.Receipts.{answered, answered_new, refused, refused_so, granted, granted_so, released, late}
+use Rattle.shared_book.specs.Calls.{IsLockedCall}
+use Rattle.shared_book.specs.Outcomes.{IsOutcomeTo, IsGreetedSo, end_receipt}
+use Rattle.shared_book.specs.Settling.{Settles, SettlesLease, SettlesRelease, MayRefuseLease, MayRefuseRelease, IsGrantReceipt, IsRefusalReceipt}
+use Rattle.shared_book.proofs.Receipts.{answered, answered_new, refused, refused_so, granted, granted_so, released, late}
 
 -- an arena that has a name is one of the tree's
 named_within : (arenas : List TreeArena) (name : List ℕ) (arena : ℕ) → index_in name arenas ≡ Some arena → arena < length arenas

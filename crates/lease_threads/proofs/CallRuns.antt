@@ -21,7 +21,8 @@ use Rattle.locked_parts.specs.declared.gates.NextStep.{NextStep}
 use Rattle.locked_parts.specs.declared.gates.RequestStopped.{RequestStopped}
 use Rattle.locked_parts.specs.declared.gates.StepCount.{StepCount}
 use Rattle.arena_tree.specs.declared.trees.TreeArena.{TreeArena}
-use Rattle.lease_threads.specs.Calling.{AreAsked, AreLetCome, IsAskedCall, IsLockedCall, IsCallOrStop, IsLockedAnswer, Says, SaysSo, StopsIn, StopsOrEnds, WentThrough, step_called, turn_after}
+use Rattle.shared_book.specs.Calls.{IsLockedCall}
+use Rattle.lease_threads.specs.Calling.{AreAsked, AreLetCome, IsAskedCall, IsCallOrStop, IsLockedAnswer, Says, SaysSo, StopsIn, StopsOrEnds, WentThrough, step_called, turn_after}
 use Rattle.lease_threads.proofs.Runs.{not_both}
 
 notes_on : {X : Type 0} (may : X → NextStep → Type 0) (x y z : X) (a b c : Bool) → NotesStops may x y a b → NotesStops may y z b c → NotesStops may x z a c

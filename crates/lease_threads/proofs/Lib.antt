@@ -1,4 +1,3 @@
-mod Receipts
 mod Runs
 mod CallRuns
 mod CallEnds
@@ -8,4 +7,3 @@ pub mod Gathered
 mod Reaped
 mod Retired
 mod Drained
-mod Told

@@ -17,7 +17,8 @@ use Rattle.lease_call.specs.declared.call_faults.CallFault.TheVariants as callin
 use Rattle.lease_call.proofs.LawProofs.{ends_along, event_hands_back, request_keeps, hello_keeps, no_fit_is_last}
 use Rattle.locked_parts.specs.Answers.{AnswersSoundly}
 use Rattle.locked_parts.specs.declared.gates.NextStep.{NextStep}
-use Rattle.lease_threads.specs.Calling.{IsLockedCall, IsCallOrStop, greeting_plan}
+use Rattle.shared_book.specs.Calls.{IsLockedCall}
+use Rattle.lease_threads.specs.Calling.{IsCallOrStop, greeting_plan}
 use Rattle.lease_threads.specs.LineLaws.{LineKeeps, StoppedLineKeeps, LineNoFit}
 
 module _ (D : Type 0) (arenas : List TreeArena) where

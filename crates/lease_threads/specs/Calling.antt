@@ -1,38 +1,29 @@
 -- What a line's list of steps comes to in a running system.
 use Rattle.std.specs.Prelude.{◌≡◌, ◌⊎◌, ◌+◌, ◌-◌, ◌^◌, ℕ, Bool, true, false, List, [], ◌∷◌, Option}
-use Rattle.std.specs.Prelude.{Some, None, Result, length, min}
-use Rattle.std.specs.Prelude.{Ok, Err, IfSome, IsTrue, ◌↔◌}
+use Rattle.std.specs.Prelude.{None, Result, length, min}
+use Rattle.std.specs.Prelude.{Ok, Err, IsTrue, ◌↔◌}
 use Rattle.deed_core.specs.Tag.{Tag}
 use Rattle.lease_terms.specs.Requests.{RequestId}
 use Rattle.arena_tree.specs.Sound.{Sound}
 use Rattle.arena_tree.specs.Stops.{is_stopped}
 use Rattle.arena_tree.specs.Trees.{nodes_of}
-use Rattle.arena_tree.specs.declared.limits.TheConstants.{MOST_ROOTS}
 use Rattle.arena_tree.specs.declared.trees.TreeArena.{TreeArena}
-use Rattle.lease_book.specs.BookState.{BookState, HasHistory}
 use Rattle.lease_book.specs.Receipts.{ReceiptState}
 use Rattle.lease_book.specs.declared.books.TheConstants.{MOST_LEASES}
-use Rattle.lease_proto.specs.Requests.{again_of, hello_again_of}
 use Rattle.lease_proto.specs.declared.lines.HelloLine.{HelloLine}
 use Rattle.lease_proto.specs.declared.lines.Line.{Line}
 use Rattle.lease_proto.specs.declared.lines.Line.TheVariants as lines
-use Rattle.lease_proto.specs.declared.lines.Op.{Op}
 use Rattle.lease_proto.specs.declared.replies.Reply.{Reply}
 use Rattle.lease_call.specs.Answered.{AnsweredStep, GoneThrough, OfBook, OfPart, answers_along}
-use Rattle.lease_call.specs.BookEvents.{BookEvent}
 use Rattle.lease_call.specs.CallPlans.{CallPlan}
 use Rattle.lease_call.specs.Calls.{BookCall, AnswerOf, Look, Settle, Refuse, Release, Hello, Sweep}
-use Rattle.lease_call.specs.Greeting.{HelloEnd, hello_plan, reply_of_greeting}
+use Rattle.lease_call.specs.Greeting.{HelloEnd, hello_plan}
 use Rattle.lease_call.specs.Kept.{call_left}
 use Rattle.lease_call.specs.Releasing.{CallEnd}
 use Rattle.lease_call.specs.Requesting.{request_plan}
 use Rattle.lease_call.specs.Stopping.{StoppedCall, call_stopped, is_stopped_call}
 use Rattle.lease_call.specs.declared.call_faults.CallFault.{CallFault}
 use Rattle.lease_call.specs.declared.call_faults.CallFault.TheVariants as calling
-use Rattle.lease_call.specs.declared.outcomes.Greeting.{Greeting}
-use Rattle.lease_call.specs.declared.outcomes.Greeting.TheVariants.{Welcome, Late, Unswept}
-use Rattle.lease_call.specs.declared.outcomes.Outcome.{Outcome}
-use Rattle.lease_call.specs.declared.outcomes.Outcome.TheVariants.{Settled, Answered, Again}
 use Rattle.locked_parts.specs.Answers.{AnswersSoundly}
 use Rattle.locked_parts.specs.Gates.{CountsStep, step_after, step_named}
 use Rattle.locked_parts.specs.declared.gates.EventName.{EventName}
@@ -40,19 +31,11 @@ use Rattle.locked_parts.specs.declared.gates.EventName.TheVariants as step
 use Rattle.locked_parts.specs.declared.gates.NextStep.{NextStep}
 use Rattle.locked_parts.specs.declared.gates.RequestStopped.{RequestStopped}
 use Rattle.locked_parts.specs.declared.gates.StepCount.{StepCount}
-use Rattle.lease_threads.specs.Replying.{IsReceiptOf, IsBookAnswerTo, IsToldAs, TellsAnswer}
-use Rattle.lease_threads.specs.Replying.{IsLateHello}
-use Rattle.lease_threads.specs.Settling.{Settles, TellsNew, new_receipt}
+use Rattle.shared_book.specs.Calls.{IsLockedCall}
+use Rattle.shared_book.specs.Outcomes.{TellsEnd, end_receipt, greeting_end}
+use Rattle.shared_book.specs.Settling.{TellsNew}
 
--- the call was an event of a book that some entries give, and whose mark is of the system's root
-pub record IsLockedCall (D : Type 0) (k : BookCall) (a : AnswerOf D k) : Type 0 where
-  pub old : BookState
-  pub new : BookState
-  pub mark : old.mark.root ≡ MOST_ROOTS
-  pub history : HasHistory old
-  pub event : BookEvent D old k a new
-
--- or nothing was done
+-- the call was an event of some book that entries give, or nothing was done
 abbrev pub IsCallOrStop : (D : Type 0) → (k : BookCall) → AnswerOf D k → Type 0
 IsCallOrStop D k a = StoppedCall D k a ⊎ IsLockedCall D k a
 
@@ -77,41 +60,6 @@ abbrev pub IsAskedCall : {X : Type 0} → (D : Type 0) → (may passed : X → N
 IsAskedCall D may passed gate k a old new = CountsStep old new
     × ((StoppedCall D k a × may gate (step_after old (step_called k)))
     ⊎ (IsLockedCall D k a × passed gate (step_after old (step_called k))))
-
--- what the request comes to is the book's
-abbrev pub IsOutcomeOf : {D : Type 0} → RequestId → Outcome D → Type 0
-IsOutcomeOf id (Settled v) = IsReceiptOf id v
-IsOutcomeOf id (Answered a) = IsBookAnswerTo id a
-IsOutcomeOf id Again = Unit {0}
-
--- the receipt by which the request was settled, if it was
-abbrev pub outcome_receipt : {D : Type 0} → Outcome D → Option ReceiptState
-outcome_receipt (Settled v) = Some v
-outcome_receipt (Answered a) = new_receipt a
-outcome_receipt Again = None
-
-abbrev pub end_receipt : {D : Type 0} → CallEnd D → Option ReceiptState
-end_receipt (Ok o) = outcome_receipt o
-end_receipt (Err e) = None
-
--- it is the book's, and where the request was settled by it, that was as its words ask
-pub record IsOutcomeTo {D : Type 0} (arenas : List TreeArena) (id : RequestId) (o : Op)
-    (outcome : Outcome D) : Type 0 where
-  pub of_book : IsOutcomeOf id outcome
-  pub settles : IfSome (outcome_receipt outcome) (Settles arenas o)
-
--- what the request comes to is told so
-abbrev pub TellsOutcome : {D : Type 0} → List TreeArena → RequestId → Outcome D → Reply
-    → Option ReceiptState → Type 0
-TellsOutcome arenas id (Settled v) r w = IsToldAs arenas id v r w
-TellsOutcome arenas id (Answered a) r w = TellsAnswer arenas id a r w
-TellsOutcome arenas id Again r w = (r ≡ again_of id) × (w ≡ None)
-
--- what the list of steps ended with is told so
-abbrev pub TellsEnd : {D : Type 0} → List TreeArena → RequestId → CallEnd D → Reply
-    → Option ReceiptState → Type 0
-TellsEnd arenas id (Ok o) r w = TellsOutcome arenas id o r w
-TellsEnd arenas id (Err e) r w = (r ≡ again_of id) × (w ≡ None)
 
 -- the name of a step that was answered
 abbrev pub step_of : {D : Type 0} → AnsweredStep D → EventName
@@ -186,17 +134,6 @@ abbrev pub StopsOrEnds : {A : Type 0} → Result A (CallFault Tag)
     → Result (Result A (CallFault Tag)) RequestStopped → Option Tag → Type 0
 StopsOrEnds ended (Ok e) hand = (e ≡ ended) × (call_stopped ended ≡ false) × (hand ≡ None)
 StopsOrEnds ended (Err stopped) hand = ended ≡ Err (calling.Stopped hand)
-
--- what a hello comes to is the book's
-abbrev pub IsGreetedSo : {D : Type 0} → HelloLine → Greeting D → Type 0
-IsGreetedSo h (Welcome w) = (w.client ≡ h.client) × (w.incarnation ≡ h.incarnation)
-IsGreetedSo h (Late f) = IsLateHello h.incarnation f
-IsGreetedSo h Unswept = Unit {0}
-
--- and is told so
-abbrev pub greeting_end : {D : Type 0} → HelloLine → HelloEnd D → Reply
-greeting_end h (Ok g) = reply_of_greeting h g
-greeting_end h (Err e) = hello_again_of h
 
 -- a hello's list of steps, with a sweep for each lease that a client may have and one more
 abbrev pub greeting_plan : (D : Type 0) → List TreeArena → Option Tag → HelloLine

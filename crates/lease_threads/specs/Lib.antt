@@ -1,11 +1,8 @@
 pub mod Systems
 pub mod Openings
 pub mod Ends
-pub mod Replying
-pub mod Words
 pub mod Reaping
 pub mod Retiring
 pub mod Sums
-pub mod Settling
 pub mod Calling
 pub mod LineLaws

@@ -17,8 +17,8 @@ use Rattle.lease_call.specs.Requesting.{request_plan}
 use Rattle.lease_call.specs.declared.call_faults.CallFault.TheVariants as calling
 use Rattle.locked_parts.specs.Answers.{AnswersSoundly}
 use Rattle.locked_parts.specs.declared.gates.NextStep.{NextStep}
-use Rattle.lease_threads.specs.Calling.{IsLockedCall, IsCallOrStop, greeting_plan}
-use Rattle.lease_threads.specs.Calling.{RunsLine, StopsLine}
+use Rattle.shared_book.specs.Calls.{IsLockedCall}
+use Rattle.lease_threads.specs.Calling.{IsCallOrStop, RunsLine, StopsLine, greeting_plan}
 
 -- what the parts and the book answered on a line's way, the last first
 abbrev pub line_answers : (D : Type 0) (arenas : List TreeArena) (passed : NextStep → Type 0)

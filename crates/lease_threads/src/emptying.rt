@@ -4,11 +4,10 @@ ghost use Rattle.std.specs.Prelude.{◌≡◌, ◌≢◌, None, OnErr, OnOk, len
 
 use crate::cpus::Cpu;
 use crate::hands::Unplaced;
-use crate::marked_books::NoLease;
 use crate::systems::System;
-use deed_core::Segment;
-use deed_table::{Name, SeatDeed};
+use deed_table::Name;
 use locked_parts::Interval;
+use shared_book::NoLease;
 use std::sync::Wait;
 
 impl<N: Name> System<N> {
@@ -30,18 +29,13 @@ impl<N: Name> System<N> {
     {
         self.place_hand(rt, cpu)?;
         for _ in rt.forever() {
-            match self.take_lease(rt) {
+            match self.book.take_lease(rt) {
                 Ok(segment) => cpu.hold(segment),
                 Err(none) => return Ok(none),
             }
             self.place_hand(rt, cpu)?;
         }
         unreachable!()
-    }
-
-    /// Ends a lease, whichever, in the book.
-    fn take_lease<R: Wait>(&self, rt: &R) -> Result<Segment<SeatDeed<N>>, NoLease> {
-        self.book.lock(rt).take_lease()
     }
 
     /// Empties all depots and slabs, the last arena first, once no lease stands and an interval

@@ -2,11 +2,10 @@
 ghost use Rattle.std.specs.Prelude.{◌≡◌, IfErr, OnOk};
 ghost use Rattle.lease_threads.specs.Ends.{AreClosed};
 
-use crate::marked_books::{LeaseStands, MarkedBook};
 use crate::systems::System;
 use deed_table::{Name, Root};
 use locked_parts::{LockedParts, NotEmpty};
-use std::sync::Mutex;
+use shared_book::{LeaseStands, SharedBook};
 
 /// Ends a system whose roots of arenas are all closed, and closes the root of its book's mark. It
 /// hands the system back where a deed lies in it or a lease stands, with what was found.
@@ -49,17 +48,17 @@ pub(crate) enum Left {
 /// Ends the arenas of the parts, and then the book, as far as nothing is left in them.
 fn end_book<N: Name>(
     parts: &mut LockedParts<N>,
-    book: Mutex<MarkedBook<N>>,
-) -> Result<(), (Mutex<MarkedBook<N>>, Left)>
+    book: SharedBook<N>,
+) -> Result<(), (SharedBook<N>, Left)>
     ensures arenas { parts.new.arenas ≡ parts.old.arenas }
     ensures ended { OnOk result (parts.new.standing ≡ 0) }
 {
     if let Err(found) = parts.end_arenas() {
         return Err((book, Left::Part(found)));
     }
-    match book.into_inner().end() {
+    match book.end() {
         Ok(()) => Ok(()),
-        Err((book, found)) => Err((Mutex::new(book), Left::Lease(found))),
+        Err((book, found)) => Err((book, Left::Lease(found))),
     }
 }
 

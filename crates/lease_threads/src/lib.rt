@@ -2,24 +2,26 @@
 //!
 //! `System` (systems) has beside the locks what is fixed at setup: the arenas and the roots of the
 //! spans that they were set up with. Its parts are those of `locked_parts`, and its book is a
-//! `MarkedBook` (marked_books) under a lock. A `Cpu` (cpus) has a hand and two magazines for each
-//! quantum cache, and needs no lock. Before each step a `Gate` is asked.
+//! `SharedBook` of `shared_book`. A `Cpu` (cpus) has a hand and two magazines for each quantum
+//! cache, and needs no lock. Before each step a `Gate` is asked.
 //!
 //! `new` (openings) makes a system of a setup. `request` (requests) answers one line: it goes
 //! through the line's list of steps in `lease_call`, over the parts and the book as one CPU reaches
-//! it (shared_books), and tells what that ended with (replies). A segment that it left is the CPU's
-//! hand (hands). `tick`, `resize`, `grow` and `reap` (upkeep) keep the system in shape, and
-//! `retire` (retiring) ends a CPU. `shut` (shutting) ends a system: its roots are brought together
-//! from behind the locks (gathering) and told (telling), in room that was made for that
-//! (told_rooms), all that lies in its parts is placed (emptying), the roots are closed (closing),
-//! each by the deed of its own (matching), and its parts and its book are ended (ending). Those who
-//! watch a system are told what its parts and its book have, each under its own lock (sums).
+//! them (gated_books), and tells what that ended with, by the replies of `shared_book`. A segment
+//! that it left is the CPU's hand (hands). `tick`, `resize`, `grow` and `reap` (upkeep) keep the
+//! system in shape, and `retire` (retiring) ends a CPU. `shut` (shutting) ends a system: its roots
+//! are brought together from behind the locks (gathering) and told (telling), in room that was made
+//! for that (told_rooms), all that lies in its parts is placed (emptying), the roots are closed
+//! (closing), each by the deed of its own (matching), and its parts and its book are ended
+//! (ending). Those who watch a system are told what its parts and its book have, each under its own
+//! lock (sums).
 //!
-//! What contracts see of a system and a CPU stands in `specs/Systems.antt`, what a line may be
-//! answered in `Replying.antt` and `Settling.antt`, that its list of steps was gone through in
-//! `Calling.antt`, what follows of each line's segments in `LineLaws.antt` (laws), what a reaping
-//! tells in `Reaping.antt`, why a CPU can't end in `Retiring.antt`, what watchers are told in
-//! `Sums.antt`, how a system begins and ends in `Openings.antt` and `Ends.antt`.
+//! What contracts see of a system and a CPU stands in `specs/Systems.antt`, that a line's list of
+//! steps was gone through in `Calling.antt`, what follows of each line's segments in
+//! `LineLaws.antt` (laws), what a reaping tells in `Reaping.antt`, why a CPU can't end in
+//! `Retiring.antt`, what watchers are told of an arena in `Sums.antt`, how a system begins and ends
+//! in `Openings.antt` and `Ends.antt`. What a line may be answered, and what may settle it, stands
+//! in `Replying.antt` and `Settling.antt` of `shared_book`.
 //!
 //! A request takes the book's lock twice at most, as its list of steps shows, and those of its
 //! steps over the parts, of which `lease_call` says how many they are at most (`lock_laws`), by the
@@ -35,16 +37,14 @@ mod closing;
 mod cpus;
 mod emptying;
 mod ending;
+mod gated_books;
 mod gathering;
 mod hands;
 mod laws;
-mod marked_books;
 mod matching;
 mod openings;
-mod replies;
 mod requests;
 mod retiring;
-mod shared_books;
 mod shutting;
 mod sums;
 mod systems;
@@ -58,7 +58,7 @@ pub use locked_parts::{
     EventName, Gate, Interval, NextStep, OpenGate, Pass, RequestStopped, Resized,
 };
 pub use quantum_cache::Reaping;
-pub use replies::{BookWord, LineAnswer, Told};
+pub use shared_book::{BookSums, BookWord, LineAnswer, Told};
 pub use shutting::{Halted, StoppedAt};
-pub use sums::{BookSums, SystemSums};
+pub use sums::SystemSums;
 pub use systems::System;

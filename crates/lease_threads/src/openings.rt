@@ -6,16 +6,15 @@ ghost use Rattle.arena_tree.specs.declared.limits.TheConstants.{MOST_ROOTS};
 ghost use Rattle.lease_threads.specs.Openings.{IsSystemOf, roots_of, roots_of_first};
 ghost use Rattle.locked_parts.specs.News.{AreMadeAsSet, StandAsSet, locked_of};
 
-use crate::marked_books::MarkedBook;
 use crate::systems::System;
 use arena_tree::{MOST_ROOTS, Setup, Tree};
 use deed_core::Range;
 use deed_table::{Ground, Name, Opener, Root};
 use lease_book::Book;
 use locked_parts::{LockedArena, LockedParts, NewArena};
+use shared_book::SharedBook;
 use std::alloc::{AllocError, Global};
 use std::marker::Model;
-use std::sync::Mutex;
 
 impl<N: Name> System<N> {
     /// The arenas of a setup, with all units free and no lease. Out of memory the setup comes back
@@ -43,7 +42,7 @@ fn open_all<N: Name>(
     alloc: Global,
     setup: &Setup,
     mut rest: Opener<N>,
-) -> Result<(Vec<NewArena<N>>, MarkedBook<N>), AllocError>
+) -> Result<(Vec<NewArena<N>>, SharedBook<N>), AllocError>
     requires { (rest.first ≡ 0) × (MOST_ROOTS < rest.left) }
     ensures count { IfOk result (λ r. vec_len r.0 ≡ length setup.now.arenas) }
     ensures set_up { IfOk result (λ r. AreMadeAsSet setup.now.arenas r.0.items) }
@@ -96,11 +95,11 @@ fn end_all<N: Name>(mut made: Vec<NewArena<N>>) {
 }
 
 /// The book, with a mark of its own.
-fn open_book<N: Name>(alloc: Global, rest: &mut Opener<N>) -> Result<MarkedBook<N>, AllocError>
+fn open_book<N: Name>(alloc: Global, rest: &mut Opener<N>) -> Result<SharedBook<N>, AllocError>
     requires { (rest.old.first ≡ MOST_ROOTS) × (0 < rest.old.left) }
 {
     let (mark, deed) = rest.open_root(Range::new(0, 1).unwrap())?;
-    Ok(MarkedBook::new(Book::new(alloc, deed), mark))
+    Ok(SharedBook::new(Book::new(alloc, deed), mark))
 }
 
 /// Room for so many arenas of a system, for the roots of each, and for what the end tells of each.
@@ -149,7 +148,7 @@ impl<N: Name> Room<N> {
         alloc: Global,
         tree: Tree,
         made: Vec<NewArena<N>>,
-        book: MarkedBook<N>,
+        book: SharedBook<N>,
     ) -> System<N>
         requires room { vec_len made ≤ self }
         requires count { vec_len made ≡ length tree }
@@ -167,7 +166,7 @@ impl<N: Name> Room<N> {
             parts: lock_parts(alloc, tree, made, arenas, &mut roots),
             roots,
             told: Some(told),
-            book: Mutex::new(book),
+            book,
         }
     }
 

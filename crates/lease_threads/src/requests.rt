@@ -7,17 +7,17 @@ ghost use Rattle.lease_call.specs.Requesting.{request_plan};
 ghost use Rattle.locked_parts.specs.Gates.{MayStop};
 ghost use Rattle.locked_parts.specs.Kinds.{AreForSame};
 ghost use Rattle.lease_threads.specs.Calling.{AnswersNewly, GreetsBy, RunsLine};
-ghost use Rattle.lease_threads.specs.Calling.{IsGreetedSo, IsOutcomeOf, TellsEnd, WentThrough};
-ghost use Rattle.lease_threads.specs.Calling.{greeting_end, end_receipt, greeting_plan};
+ghost use Rattle.lease_threads.specs.Calling.{WentThrough, greeting_plan};
 ghost use Rattle.lease_threads.specs.Calling.{StopsIn, StopsLine, StopsOrEnds};
-ghost use Rattle.lease_threads.specs.Replying.{IsAnswerTo, IsReplyTo, IsGreeting, IsAgain};
-ghost use Rattle.lease_threads.specs.Settling.{IsSettledAsAsked, Settles, TellsNew};
-ghost use Rattle.lease_threads.specs.Words.{IsBacked};
+ghost use Rattle.shared_book.specs.Outcomes.{IsGreetedSo, IsOutcomeOf, TellsEnd};
+ghost use Rattle.shared_book.specs.Outcomes.{greeting_end, end_receipt};
+ghost use Rattle.shared_book.specs.Replying.{IsAnswerTo, IsReplyTo, IsGreeting, IsAgain};
+ghost use Rattle.shared_book.specs.Settling.{IsSettledAsAsked, Settles, TellsNew};
+ghost use Rattle.shared_book.specs.Words.{IsBacked};
 ghost use Rattle.lease_book.specs.Receipts.{ReceiptState};
 
 use crate::cpus::Cpu;
-use crate::replies::{HelloTold, Told, again, greeted, told_outcome, unsettled};
-use crate::shared_books::SharedBook;
+use crate::gated_books::GatedBook;
 use crate::systems::System;
 use arena_tree::Tree;
 use deed_core::Segment;
@@ -27,6 +27,7 @@ use lease_call::{CallFault, Greeting, Outcome};
 use lease_proto::{HelloLine, Line, Op, Reply};
 use lease_terms::RequestId;
 use locked_parts::{Gate, RequestStopped, Running};
+use shared_book::{HelloTold, Told, again, greeted, told_outcome, unsettled};
 use std::sync::Wait;
 
 /// What the list of steps of a line ended with.
@@ -152,7 +153,7 @@ impl<N: Name> System<N> {
         let hand = cpu.hand.take();
         let number = cpu.number();
         let mut running = Running::new(&self.parts, rt, gate, number, &mut cpu.caches);
-        let mut book = SharedBook { book: &self.book };
+        let mut book = GatedBook { book: &self.book };
         let tree = self.parts.tree();
         let ended = lease_call::request(&mut running, &mut book, tree, hand, id, op);
         unless_stopped(cpu, ended)
@@ -180,7 +181,7 @@ impl<N: Name> System<N> {
         let hand = cpu.hand.take();
         let number = cpu.number();
         let mut running = Running::new(&self.parts, rt, gate, number, &mut cpu.caches);
-        let mut book = SharedBook { book: &self.book };
+        let mut book = GatedBook { book: &self.book };
         let turns = MOST_LEASES as u64 + 1;
         let tree = self.parts.tree();
         let ended = lease_call::hello(&mut running, &mut book, tree, hand, hello, turns);

@@ -3,13 +3,12 @@ ghost use Rattle.std.specs.Prelude.{◌≡◌, length};
 ghost use Rattle.arena_tree.specs.declared.limits.TheConstants.{MOST_SPANS};
 ghost use Rattle.lease_threads.specs.Ends as ends;
 
-use crate::marked_books::MarkedBook;
 use arena_tree::{MOST_SPANS, Tree};
 use deed_core::Range;
 use deed_table::{Name, Root};
 use locked_parts::LockedParts;
+use shared_book::SharedBook;
 use std::marker::Model;
-use std::sync::Mutex;
 
 /// The number of the arena that owns the span of this root: each has as many root numbers as it may
 /// own spans.
@@ -29,7 +28,7 @@ pub struct System<N: Name> {
     pub(crate) parts: LockedParts<N>,
     pub(crate) roots: Vec<Vec<Root<N>>>,
     pub(crate) told: Option<Vec<Vec<Range>>>,
-    pub(crate) book: Mutex<MarkedBook<N>>,
+    pub(crate) book: SharedBook<N>,
 }
 
 impl<N: Name> Model for System<N> {

@@ -24,10 +24,9 @@ use Rattle.lease_proto.specs.declared.setup_lines.SetupLine.{SetupLine}
 use Rattle.lease_proto.specs.declared.setup_lines.SetupLine.TheVariants.{Root, Child, Span}
 use Rattle.lease_machine.specs.Picture.{Picture, IsPicture}
 use Rattle.stock_desk.proofs.LawProofs.{opened_is_picture}
-use Rattle.vmemd.specs.Desks.{no_arenas}
 use Rattle.vmemd.specs.Laws.{Script, SetupsOpenPictures}
-use Rattle.vmemd.specs.Scripts.{Makes}
-use Rattle.vmemd.specs.Settings.{TakesSetupLine}
+use Rattle.vmemd_setup.specs.Setups.{Makes}
+use Rattle.vmemd_setup.specs.Settings.{TakesSetupLine, no_arenas}
 
 -- what stands in a list stands there with one more behind
 stands_on : {X : Type 0} (xs : List X) (y : X) (k : ℕ) (x : X) → slice_get xs k ≡ Some x → slice_get (xs ++ y ∷ []) k ≡ Some x

@@ -17,11 +17,11 @@ use Rattle.lease_machine.specs.AnswerLaws.{AreNamed}
 use Rattle.lease_machine.specs.GrantLaws.{GrantsApart}
 use Rattle.lease_machine.specs.Laws.{Runs}
 use Rattle.lease_machine.proofs.LawProofs.{runs_keep_rules, grants_stay_apart, new_grants_stay_apart, clients_get_replies, pictures_stay, setup_only_grows}
-use Rattle.vmemd.specs.declared.faults.ScriptFault.TheVariants.{Setup, Read, Write, Memory}
-use Rattle.vmemd.specs.Scripts.{Makes, OpensDesk}
-use Rattle.vmemd.specs.Settings.{TakesSetupLine}
+use Rattle.vmemd_setup.specs.declared.faults.ScriptFault.TheVariants.{Setup, Read, Write, Memory}
+use Rattle.vmemd.specs.Scripts.{OpensDesk}
+use Rattle.vmemd_setup.specs.Setups.{Makes}
+use Rattle.vmemd_setup.specs.Settings.{TakesSetupLine, no_arenas}
 use Rattle.stock_desk.specs.Openings.{IsOpenedFrom}
-use Rattle.vmemd.specs.Desks.{no_arenas}
 use Rattle.vmemd.specs.Laws.{Script}
 use Rattle.vmemd.proofs.MadeLemmas.{script_begins}
 use Rattle.vmemd.specs.RuleLaws.{EndsAreScripts, FailsAreScripts, IsWrittenInPart, ScriptKeepsRules, ScriptClientsGetReplies, ScriptGrantsStayApart, ScriptNewGrantsStayApart}

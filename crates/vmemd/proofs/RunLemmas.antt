@@ -14,12 +14,13 @@ use Rattle.lease_server.specs.Watching.{Streams}
 use Rattle.lease_server.specs.declared.faults.ServeFault.{ServeFault}
 use Rattle.lease_server.specs.declared.faults.ServeFault.TheVariants as serving
 use Rattle.lease_server.proofs.LawProofs.{hand_tells}
-use Rattle.vmemd.specs.declared.faults.ConfigFault.{ConfigFault}
-use Rattle.vmemd.specs.declared.faults.ScriptFault.{ScriptFault}
-use Rattle.vmemd.specs.declared.faults.ScriptFault.TheVariants.{Setup, Read, Write, Memory}
-use Rattle.vmemd.specs.Scripts.{CanGoOn, OpensDesk, RunsWhole, RunsSoFar, RunsFirst, RunFails, WritesFirst, SetupRefused, serving_fault}
-use Rattle.vmemd.specs.Setups.{IsOther, TakesSetup, SetupFails}
-use Rattle.vmemd.proofs.SetupLemmas.{more_read}
+use Rattle.vmemd_setup.specs.declared.faults.ConfigFault.{ConfigFault}
+use Rattle.vmemd_setup.specs.declared.faults.ScriptFault.{ScriptFault}
+use Rattle.vmemd_setup.specs.declared.faults.ScriptFault.TheVariants.{Setup, Read, Write, Memory}
+use Rattle.vmemd_setup.specs.Endings.{serving_fault}
+use Rattle.vmemd.specs.Scripts.{OpensDesk, RunsWhole, RunsSoFar, RunsFirst, RunFails, WritesFirst}
+use Rattle.vmemd_setup.specs.Setups.{CanGoOn, IsOther, TakesSetup, SetupFails, SetupRefused}
+use Rattle.vmemd_setup.proofs.SetupLemmas.{more_read}
 
 -- what follows a setup is no setup line
 stays_other : (input : IntakeState) (rest more : List ℕ) → (input.ended ≡ false → IsOther rest) → (input.ended ≡ true → begins_setup rest ≡ false)

@@ -18,8 +18,8 @@ use Rattle.lease_threads.specs.Ends.{HaltedState, AreTold, AreRangesLeft, IsRest
 use Rattle.lease_threads.proofs.Gathered.{ranges_later}
 use Rattle.lease_threads.specs.Systems.{SystemState}
 use Rattle.vmemd.specs.Operators.{may_tell}
-use Rattle.vmemd.specs.declared.running.RunFault.{RunFault}
-use Rattle.vmemd.specs.declared.running.RunFault.TheVariants.{Read, Write, Listen, Memory, Shut}
+use Rattle.vmemd_setup.specs.declared.faults.RunFault.{RunFault}
+use Rattle.vmemd_setup.specs.declared.faults.RunFault.TheVariants.{Read, Write, Listen, Memory, Shut}
 use Rattle.vmemd.specs.Retrying.{Retries}
 use Rattle.vmemd.specs.Running.{AnswersBehind, Attends, Closes, ServesToItsEnd, closed_line, listening_line}
 

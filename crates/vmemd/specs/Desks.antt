@@ -1,15 +1,11 @@
 -- What a script writes that begins with no arena, and is answered by a lease desk.
-use Rattle.std.specs.Prelude.{ℕ, List, [], Option}
-use Rattle.arena_tree.specs.Settings.{SetupState}
+use Rattle.std.specs.Prelude.{ℕ, List, Option}
 use Rattle.lease_machine.specs.Machine.{LeaseStep}
 use Rattle.stock_desk.specs.Openings.{IsOpenedFrom}
 use Rattle.vmemd.specs.Scripts.{RunsWhole, RunFails}
-use Rattle.vmemd.specs.Settings.{TakesSetupLine, RefusesSetupLine, CanTakeSetupLine}
-use Rattle.vmemd.specs.declared.faults.ScriptFault.{ScriptFault}
-
--- a setup of no arena
-abbrev pub no_arenas : SetupState
-no_arenas = record { arenas = []; spans = [] }
+use Rattle.vmemd_setup.specs.Settings.{TakesSetupLine, RefusesSetupLine, CanTakeSetupLine}
+use Rattle.vmemd_setup.specs.Settings.{no_arenas}
+use Rattle.vmemd_setup.specs.declared.faults.ScriptFault.{ScriptFault}
 
 -- A script is answered to its end.
 abbrev pub ScriptEnds : List ℕ → Option (List ℕ) → Option (List ℕ) → Type 0

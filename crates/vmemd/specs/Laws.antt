@@ -43,9 +43,8 @@ use Rattle.lease_machine.specs.RoomLaws.{NothingIsKept, FindsNoRoom, refusal_to}
 use Rattle.lease_machine.specs.GrowLaws.{Grew}
 use Rattle.lease_machine.specs.EmptyingLaws.{CpuHasNoRound}
 use Rattle.stock_desk.specs.Openings.{IsOpenedFrom}
-use Rattle.vmemd.specs.Scripts.{Makes}
-use Rattle.vmemd.specs.Settings.{TakesSetupLine}
-use Rattle.vmemd.specs.Desks.{no_arenas}
+use Rattle.vmemd_setup.specs.Setups.{Makes}
+use Rattle.vmemd_setup.specs.Settings.{TakesSetupLine, no_arenas}
 
 -- setup lines that are taken, the desk that what they make opens, and then the frames of lines with
 -- what is written for them

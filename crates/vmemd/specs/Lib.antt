@@ -1,11 +1,7 @@
 pub mod Scripts
-pub mod Setups
-pub mod Settings
 pub mod Desks
-pub mod Commands
 pub mod Laws
 pub mod RuleLaws
-pub mod Configs
 pub mod Inputs
 pub mod Operators
 pub mod Running

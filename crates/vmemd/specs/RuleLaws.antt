@@ -14,7 +14,7 @@ use Rattle.lease_machine.specs.AnswerLaws.{IsReadAs, RepliesTo}
 use Rattle.lease_machine.specs.Rules.{KeepsRules}
 use Rattle.lease_machine.specs.GrantLaws.{GrantsTwice, GrantsApart}
 use Rattle.lease_machine.specs.NewGrants.{GrantsTwo}
-use Rattle.vmemd.specs.declared.faults.ScriptFault.{ScriptFault}
+use Rattle.vmemd_setup.specs.declared.faults.ScriptFault.{ScriptFault}
 use Rattle.vmemd.specs.Desks.{ScriptEnds, ScriptFails}
 use Rattle.vmemd.specs.Laws.{Script, AnswersNext}
 

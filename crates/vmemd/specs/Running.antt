@@ -15,15 +15,11 @@ use Rattle.lease_threads.specs.Ends.{AreRangesOf}
 use Rattle.lease_threads.specs.Openings.{IsSystemOf}
 use Rattle.lease_threads.specs.Systems.{SystemState}
 use Rattle.vmemd.specs.Operators.{Tells, TellsFirst}
-use Rattle.vmemd.specs.Scripts.{IsSpent}
+use Rattle.vmemd_setup.specs.Setups.{IsSpent}
 use Rattle.vmemd.specs.declared.running.Console.{Console}
-use Rattle.vmemd.specs.declared.running.RunFault.{RunFault}
-use Rattle.vmemd.specs.declared.running.RunFault.TheVariants.{Read, Write, Listen, Memory, Shut}
-
--- the exit status of a server that ends so
-abbrev pub run_status : Result (Unit {0}) RunFault → ℕ
-run_status (Ok _) = 0
-run_status (Err fault) = 1
+use Rattle.vmemd_setup.specs.declared.faults.RunFault.{RunFault}
+use Rattle.vmemd_setup.specs.declared.faults.RunFault.TheVariants.{Read, Write, Listen, Memory}
+use Rattle.vmemd_setup.specs.declared.faults.RunFault.TheVariants.{Shut}
 
 -- what a server writes where it listens at this address
 abbrev pub listening_line : List ℕ → List ℕ

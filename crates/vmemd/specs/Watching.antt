@@ -8,7 +8,8 @@ use Rattle.arena_tree.specs.declared.trees.TreeArena.{TreeArena}
 use Rattle.lease_book.specs.Account.{Account}
 use Rattle.lease_book.specs.Reports.{lease_reports}
 use Rattle.lease_book.specs.declared.reports.LeaseReport.{LeaseReport}
-use Rattle.lease_threads.specs.Sums.{AreBookSums, AreSumsOf, OfSomeBook}
+use Rattle.lease_threads.specs.Sums.{AreSumsOf}
+use Rattle.shared_book.specs.Sums.{AreBookSums, OfSomeBook}
 use Rattle.lease_threads.specs.declared.sums.SystemSums.{SystemSums}
 use Rattle.lease_watch.specs.declared.rows.LeaseRow.{LeaseRow}
 use Rattle.lease_watch.specs.declared.seen.ArenaSeen.{ArenaSeen}

@@ -5,11 +5,12 @@ ghost use Rattle.lease_server.specs.Watching.{has_failed, inner_of, streams_of};
 ghost use Rattle.vmemd.specs.Running.{AnswersBehind, Attends, BothWork, console_streams};
 
 use crate::operators::RunningRoots;
-use crate::running::{Console, RunFault, Site};
+use crate::running::{Console, Site};
 use deed_table::Name;
 use lease_server::{Intake, ServeFault, Watched, deliver, tell};
 use std::io::{Read, Write};
 use std::sync::Wait;
+use vmemd_setup::RunFault;
 
 /// How a server's threads ended.
 #[derive(Drop)]

@@ -2,12 +2,12 @@
 ghost use Rattle.std.specs.Prelude.{◌≡◌, ◌⊎◌, IfErr, IfOk};
 ghost use Rattle.vmemd.specs.Running.{TellsAddress, TellsAddressOf};
 
-use crate::running::RunFault;
 use std::alloc::Global;
 use std::io;
 use std::marker::Model;
 use std::net::{Net, Shutdown, SocketAddr, TcpListener, TcpStream};
 use std::os::fd::OwnedFd;
+use vmemd_setup::RunFault;
 
 /// What is listened at.
 pub trait Bound {

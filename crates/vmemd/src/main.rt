@@ -1,42 +1,38 @@
-//! `vmemd`: leases of ranges of whole numbers to clients, over lines of text.
+//! `vmemd` leases ranges of whole numbers to clients, over lines of text.
 //!
-//! `vmemd script` answers standard input on standard output (scripts): one intake reads the input,
-//! its setup lines are taken first (setting_up), by a setup of arenas (settings), and then a lease
-//! desk is opened from the setup and answers the others.
+//! `vmemd script` reads lines from standard input and writes the replies to standard output
+//! (scripts). It reads the setup lines first and opens a lease desk from the setup; the desk
+//! answers all other lines.
 //!
-//! `vmemd serve` answers clients over TCP (running): the setup comes from a file (configs), a
-//! running system is made of it, and each worker serves one connection after another over a CPU of
-//! its own (workers). With `--connections` each connection has a thread, and they share the CPUs
-//! (sharing); with `--metrics` it is watched over HTTP (watching). Meanwhile the lines of standard
-//! input are answered (attending), those of an operator that grow roots (operators), until it ends
-//! and the system is shut (stopping), what can't be put back at once for as long as it takes
-//! (retrying). listeners has its socket, signals tell the workers, which are waited for (musters),
-//! inputs waits for an input that doesn't block, hosts names what a server runs by.
+//! `vmemd serve` answers clients over TCP (running). It reads the setup from a file and makes a
+//! running system of it. Without options each worker is a thread with a CPU of its own, and serves
+//! one connection after another (workers). With `--connections` each connection has a thread, and
+//! the threads share the CPUs (sharing). With `--metrics` the server shows itself over HTTP
+//! (watching, looking). Meanwhile the server answers the lines of standard input (attending), by
+//! which an operator grows roots (operators). When standard input ends, it shuts the system down
+//! (stopping) and retries as long as something can't be put back (retrying). Its listening socket
+//! is in listeners, the flags that its threads share in signals, the wait for workers to start in
+//! musters, the wait for an input that doesn't block in inputs, and the runtime that it requires in
+//! hosts.
 //!
-//! The words of the command line and the help are in commands, why a run ends early in faults, the
-//! exit statuses in endings.
+//! The crate `vmemd_setup` has the command line with its help, the setup lines, the faults that end
+//! a run, and the exit statuses.
 //!
-//! What a script writes is stated in specs/Scripts.antt, for any setup and any desk, and in
-//! specs/Desks.antt for these two; which setup line is refused with which word, in
-//! specs/Settings.antt; what holds after each script, in specs/Laws.antt; the rules of leases over
-//! a script, in specs/RuleLaws.antt; which bytes are a setup line, in the crate `lease_proto`. What
-//! CONFIG makes is stated in specs/Configs.antt, what a server tells its operator in
-//! specs/Operators.antt, what it writes and how it ends in specs/Running.antt, and what is tried
-//! again at its end in specs/Retrying.antt; what it answers, in `lease_tcp`.
+//! specs/Scripts.antt states what a script writes, for every setup and desk, and specs/Desks.antt
+//! for those used here; specs/Laws.antt what holds after each script, and specs/RuleLaws.antt the
+//! rules of leases over a script. specs/Operators.antt states what a server answers its operator,
+//! specs/Running.antt what it writes and how it ends, and specs/Retrying.antt what it retries when
+//! it ends. The crate `lease_tcp` states what it answers clients.
 //!
-//! A script costs what its setup and its desk do for each line, and a read for each 16,384 bytes or
-//! less. A server has a thread for each worker, at most `MOST_WORKERS`, or for each connection, at
-//! most `MOST_CONNECTIONS`, and costs what its system does for each line.
+//! A script costs what its setup and its desk do for each line, and one read for each 16,384 bytes
+//! or less. A server has a thread for each worker, at most `MOST_WORKERS`, or for each connection,
+//! at most `MOST_CONNECTIONS`, and costs what its system does for each line.
 #![tactic(auto)]
 
 ghost use Rattle.std.specs.Prelude.{◌≤◌, ◌≢◌, Some};
-ghost use Rattle.vmemd.specs.declared.commands.TheConstants.{MOST_WORKERS};
+ghost use Rattle.vmemd_setup.specs.declared.commands.TheConstants.{MOST_WORKERS};
 
 mod attending;
-pub mod commands;
-pub mod configs;
-pub mod endings;
-pub mod faults;
 pub mod hosts;
 pub mod inputs;
 pub mod laws;
@@ -47,8 +43,6 @@ pub mod operators;
 pub mod retrying;
 pub mod running;
 pub mod scripts;
-pub mod setting_up;
-pub mod settings;
 pub mod sharing;
 pub mod signals;
 mod stopping;
@@ -57,13 +51,9 @@ mod tests;
 pub mod watching;
 mod workers;
 
-use crate::commands::{GivenWords, ServeWords, WordsFault, read_words};
-use crate::configs::read_config;
-use crate::endings::{end_run, end_script, end_words};
-use crate::faults::ScriptFault;
 use crate::inputs::PatientReader;
 use crate::listeners::Listener;
-use crate::running::{Console, Plan, RunFault, run_serve};
+use crate::running::{Console, Plan, run_serve};
 use crate::scripts::run_script;
 use crate::watching::Watching;
 use arena_tree::Setup;
@@ -81,6 +71,10 @@ use std::rt::Files;
 use std::sync::Wait;
 use std::thread::Threads;
 use std::time::{Clock, Duration};
+use vmemd_setup::{
+    GivenWords, RunFault, ScriptFault, ServeWords, WordsFault, end_run, end_script, end_words,
+    read_config, read_words,
+};
 
 /// Does what the words of the command line ask for; how that ended is its exit status.
 fn main(rt: HostRuntime) -> ExitCode {

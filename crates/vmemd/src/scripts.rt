@@ -5,13 +5,12 @@ ghost use Rattle.lease_server.specs.declared.intakes.TheConstants.{MOST_READS};
 ghost use Rattle.vmemd.specs.Scripts.{Blames};
 ghost use Rattle.vmemd.specs.Desks.{ScriptEnds, ScriptFails};
 
-use crate::faults::ScriptFault;
-use crate::setting_up::take_setup;
 use arena_tree::Setup;
 use lease_server::{Watched, serve};
 use std::alloc::Global;
 use std::io::{Read, Write};
 use stock_desk::Desk;
+use vmemd_setup::{ScriptFault, take_setup};
 
 /// Runs a script: setup lines and then the lines of clients and operators, from the reader to the
 /// writer, by one thread. Units are numbers and have no owner elsewhere. At its end, and at any

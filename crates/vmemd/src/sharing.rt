@@ -1,10 +1,9 @@
 //! A server with a thread for each connection, which share its CPUs.
 ghost use Rattle.std.specs.Prelude.{◌≤◌};
 ghost use Rattle.vmemd.specs.Running.{Attends, BothWork, console_streams};
-ghost use Rattle.vmemd.specs.declared.commands.TheConstants.{MOST_WORKERS};
+ghost use Rattle.vmemd_setup.specs.declared.commands.TheConstants.{MOST_WORKERS};
 
 use crate::attending::{Attended, attend};
-use crate::endings::tell_fault;
 use crate::running::{Console, Site};
 use crate::signals::Signals;
 use crate::stopping::{retire, stop};
@@ -16,6 +15,7 @@ use std::sync::{Mutex, Wait};
 use std::thread;
 use std::thread::Threads;
 use std::time::Clock;
+use vmemd_setup::tell_fault;
 
 /// Tells on standard error what a server lacks, each the first time.
 #[derive(Drop)]

@@ -2,9 +2,8 @@
 ghost use Rattle.std.specs.Prelude.{IfErr, IfOk};
 ghost use Rattle.lease_threads.specs.Ends.{AreRangesLeft, AreRangesOf, IsRestOf, begun};
 
-use crate::endings::tell_fault;
 use crate::retrying::{Alarm, Rest, put_back};
-use crate::running::{RunFault, Site};
+use crate::running::Site;
 use crate::signals::Signals;
 use deed_core::Range;
 use deed_table::Name;
@@ -15,6 +14,7 @@ use std::marker::Model;
 use std::sync::Wait;
 use std::thread;
 use std::time::{Clock, Duration};
+use vmemd_setup::{RunFault, tell_fault};
 
 /// How long, in milliseconds, it waits before it tries again what couldn't be put back at the end.
 const SHUT_PAUSE: u64 = 20;

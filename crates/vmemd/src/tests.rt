@@ -7,11 +7,6 @@ mod tables;
 mod telling;
 
 use self::tables::{ASKED, MISTAKEN, REFUSED, ROWS};
-use crate::commands::{
-    GivenWords, IDLE_LIMIT, LINE_LIMIT, MOST_CONNECTIONS, MOST_SECONDS, MOST_WORKERS, WordsFault,
-    read_words,
-};
-use crate::faults::{ConfigFault, ScriptFault};
 use crate::inputs::PatientReader;
 use crate::scripts::run_script;
 use arena_tree::{LONGEST_CHAIN, MOST_ARENAS, MOST_CACHES, MOST_SPANS};
@@ -23,6 +18,10 @@ use std::alloc::{AllocError, Global};
 use std::io;
 use std::io::{ErrorKind, Read, Write};
 use std::test::Fail;
+use vmemd_setup::{
+    ConfigFault, GivenWords, IDLE_LIMIT, LINE_LIMIT, MOST_CONNECTIONS, MOST_SECONDS, MOST_WORKERS,
+    ScriptFault, WordsFault, read_words,
+};
 
 /// What a call of a reader or a writer does at its turn `at`, counted from 1.
 #[derive(Clone, Copy)]

@@ -2,14 +2,14 @@
 ghost use Rattle.std.specs.Prelude.{◌≡◌, ◌≤◌};
 ghost use Rattle.lease_watch.specs.Metrics.{version_text};
 ghost use Rattle.vmemd.specs.Running.{Attends, BothWork, console_streams};
-ghost use Rattle.vmemd.specs.declared.commands.TheConstants.{MOST_WORKERS, VERSION};
+ghost use Rattle.vmemd_setup.specs.declared.commands.TheConstants.{MOST_WORKERS, VERSION};
 ghost use Rattle.vmemd.specs.declared.watching.TheConstants.{NUMBERS};
 
 use crate::attending::Attended;
 use crate::hosts::Host;
 use crate::listeners::Listener;
 use crate::looking::{arenas_of, push_rows};
-use crate::running::{Console, RunFault, Site, serve_planned};
+use crate::running::{Console, Site, serve_planned};
 use deed_table::Name;
 use lease_book::MOST_LEASES;
 use lease_http::{View, serve_scrapes};
@@ -22,6 +22,7 @@ use std::sync::Wait;
 use std::sync::atomic::{AtomicBool, Ordering};
 use std::thread;
 use std::time::{Clock, Instant};
+use vmemd_setup::RunFault;
 
 /// The version's numbers.
 pub(crate) const NUMBERS: Version = Version {

@@ -3,12 +3,12 @@ ghost use Rattle.std.specs.Prelude.{◌≡◌, ◌⊎◌, ◌<◌, ◌≤◌, Er
 ghost use Rattle.lease_proto.specs.declared.limits.TheConstants.{MOST_CPUS};
 ghost use Rattle.vmemd.specs.Musters.{AreReady};
 ghost use Rattle.vmemd.specs.Running.{Attends, BothWork, console_streams};
-ghost use Rattle.vmemd.specs.declared.commands.TheConstants.{MOST_WORKERS};
+ghost use Rattle.vmemd_setup.specs.declared.commands.TheConstants.{MOST_WORKERS};
 
 use crate::attending::{Attended, attend};
 use crate::hosts::Host;
 use crate::musters::{Muster, are_ready};
-use crate::running::{Console, RunFault, Site};
+use crate::running::{Console, Site};
 use crate::signals::{Signals, Starved, Worked};
 use crate::stopping::{retire, stop};
 use deed_table::Name;
@@ -17,6 +17,7 @@ use std::net::{Net, TcpListener, TcpStream};
 use std::sync::Wait;
 use std::thread;
 use std::time::{Clock, Duration};
+use vmemd_setup::RunFault;
 
 /// The workers of a server, as they tell that they have their CPUs.
 #[derive(Drop)]

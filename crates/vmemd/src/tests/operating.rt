@@ -1,7 +1,6 @@
 //! Lines of an operator, answered by roots that keep what they were asked for.
 
 use super::{Mishap, Pieces, Sink};
-use crate::configs::read_config;
 use crate::operators::{Grower, answer_operator};
 use arena_tree::Tree;
 use deed_core::Range;
@@ -9,6 +8,7 @@ use lease_proto::ErrorWord;
 use lease_server::{Intake, ServeFault, Teller, Watched, tell};
 use std::alloc::Global;
 use std::process::Abort;
+use vmemd_setup::read_config;
 
 /// A root and a child, by which none is to grow.
 const CONFIG: &[u8] = b"root m 0 8 1 best 0\nchild c m 1 best 0 0\n";

@@ -1,8 +1,6 @@
 //! A server and its clients, both in this process, over loopback.
 
 use super::{Mishap, Pieces};
-use crate::commands::MOST_WORKERS;
-use crate::configs::read_config;
 use crate::running::{Console, Plan, run_serve};
 use lease_server::Watched;
 use lease_tcp::Pace;
@@ -14,6 +12,7 @@ use std::sync::Wait;
 use std::thread::Threads;
 use std::time::{Clock, Duration};
 use std::{io, thread};
+use vmemd_setup::{MOST_WORKERS, read_config};
 
 /// The longest line of a server's console.
 const CONSOLE_LINE: usize = 64;

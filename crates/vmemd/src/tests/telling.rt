@@ -1,12 +1,7 @@
 //! What is told on standard error where a server ends or doesn't begin, whole, with the status.
 
 use super::{Mishap, Pieces};
-use crate::commands::{GivenWords, ServeWords, WordsFault, read_words};
-use crate::configs::read_config;
-use crate::endings::{end_run, end_script, end_words};
-use crate::faults::ScriptFault;
 use crate::retrying::{Rest, put_back, tell_stuck};
-use crate::running::RunFault;
 use crate::signals::Signals;
 use crate::stopping::{Stuck, tell_missed};
 use lease_server::Watched;
@@ -18,6 +13,10 @@ use std::io;
 use std::io::ErrorKind;
 use std::process::{Abort, ExitCode};
 use std::test::Fail;
+use vmemd_setup::{
+    GivenWords, RunFault, ScriptFault, ServeWords, WordsFault, end_run, end_script, end_words,
+    read_config, read_words,
+};
 
 /// Keeps what is told on standard error.
 struct Told {

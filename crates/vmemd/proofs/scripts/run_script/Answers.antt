@@ -4,9 +4,8 @@ use Rattle.arena_tree.specs.Settings.{SetupState}
 use Rattle.lease_machine.specs.Machine.{LeaseStep}
 use Rattle.lease_server.specs.Watching.{inner_of, streams_of}
 use Rattle.stock_desk.specs.Openings.{IsOpenedFrom}
-use Rattle.vmemd.specs.Desks.{no_arenas}
-use Rattle.vmemd.specs.Settings.{TakesSetupLine, RefusesSetupLine, CanTakeSetupLine}
-use Rattle.vmemd.specs.Setups.{SetupFails, TakesSetup}
+use Rattle.vmemd_setup.specs.Settings.{TakesSetupLine, RefusesSetupLine, CanTakeSetupLine, no_arenas}
+use Rattle.vmemd_setup.specs.Setups.{SetupFails, TakesSetup}
 use Rattle.vmemd.proofs.RunLemmas.{setup_fails, open_fails, run_whole, serving_fails}
 use Rattle.vmemd.proofs.scripts.run_script.Goals as goal
 

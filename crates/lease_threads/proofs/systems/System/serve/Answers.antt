@@ -2,7 +2,7 @@ use Rattle.std.proofs.Common.{List, subst}
 use Rattle.std.proofs.lemmas.Result.{IfOk-weaker}
 use Rattle.arena_tree.specs.Trees.{IsTree}
 use Rattle.arena_tree.specs.declared.trees.TreeArena.{TreeArena}
-use Rattle.lease_threads.specs.Calling.{TellsEnd}
+use Rattle.shared_book.specs.Outcomes.{TellsEnd}
 use Rattle.lease_threads.proofs.CallEnds.{request_well, settled_so}
 use Rattle.lease_threads.proofs.systems.System.serve.Goals as goal
 

@@ -1,5 +1,0 @@
-use Rattle.std.proofs.Common.{◌≡◌, vec_len}
-use Rattle.lease_tcp.proofs.tallies.Counts.new.Given as goal
-
-abbrev pub invariant-loop : goal.invariant-loop
-invariant-loop l = vec_len l.tallies ≡ l.counter

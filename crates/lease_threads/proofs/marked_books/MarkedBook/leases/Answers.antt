@@ -1,5 +1,0 @@
-use Rattle.lease_threads.proofs.Told.{leases_more}
-use Rattle.lease_threads.proofs.marked_books.MarkedBook.leases.Goals as goal
-
-pub loop-place-preserved : goal.loop-place-preserved
-loop-place-preserved g c = leases_more _ _ c.loop-place.place _ _ _ c.loop-place.invariant c.leases_of.ensures c.saturating_add-leases.ensures

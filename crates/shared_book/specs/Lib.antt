@@ -1,0 +1,6 @@
+pub mod Replying
+pub mod Words
+pub mod Settling
+pub mod Outcomes
+pub mod Calls
+pub mod Sums

@@ -1,0 +1,5 @@
+pub mod OpeningLemmas
+pub mod SetupLemmas
+mod CommandLemmas
+mod ConfigLemmas
+mod SettingLemmas
