@@ -2,8 +2,8 @@
 # make try    compiles the program and runs it on examples/first.script, with no proof: a minute or two;
 #             make try SCRIPT=FILE runs another script
 # make quick  leaves a program at full speed as bin/vmemd-quick, with no proof: a minute or two
-# make test   the gate: every proof from nothing, the must-fail edits, the tests, the program's cases,
-#             random scripts against a slow model, growths refused in turn, the Python client's tests
+# make test   the gate: every proof from nothing, the tests, the edits of must-fail/ and gate-edits/, the program's
+#             cases, random scripts against a slow model, growths refused in turn, the Python client's tests
 # make edits  tries all edits, those of more-edits/ too, of JOBS=1 crates at a time, several
 #             in a check; make edits CRATE=NAME tries one crate's
 # make cases  runs bin/vmemd on tests/cases
@@ -35,19 +35,17 @@ try:
 quick:
 	@tools/quick bin/vmemd-quick
 
-# rt ci leaves the programs that it proved and ran under crates/vmemd/out, and the cases run on them.
+# rt ci leaves the programs that it proved and ran under crates/vmemd/out, and the libraries that edits are tried over.
 test:
 	tools/layers
 	tools/protocol
 	tools/edits --apply-only
-	rt ci; proved=$$?; tools/cases; ran=$$?; tools/random_scripts; plain=$$?; \
-	tools/random_scripts --all --count 60; random=$$?; \
-	tools/starve --thin; starved=$$?; tools/starve_serve --thin; refused=$$?; \
-	tools/client_tests; clients=$$?; \
-	test "$$proved $$ran $$plain $$random $$starved $$refused $$clients" = "0 0 0 0 0 0 0"
+	tools/edits --drop-stale
+	rt ci; proved=$$?; tools/program_tests; ran=$$?; tools/test_edits; tool=$$?; \
+	tools/edits --gate --jobs $$(nproc); edits=$$?; test "$$proved $$ran $$tool $$edits" = "0 0 0 0"
 
 edits:
-	tools/edits --together --jobs $(JOBS) $(CRATE)
+	tools/edits --jobs $(JOBS) $(CRATE)
 
 cases: all
 	tools/cases bin/vmemd
