@@ -36,12 +36,14 @@ quick:
 	@tools/quick bin/vmemd-quick
 
 # rt ci leaves the programs that it proved and ran under crates/vmemd/out, and the libraries that edits are tried over.
+# RT_JOBS has it prove each crate by one job as soon as a processor is free: otherwise it lets the first crates have
+# several jobs, whose memory the crate that most others wait for then lacks.
 test:
 	tools/layers
 	tools/protocol
 	tools/edits --apply-only
 	tools/edits --drop-stale
-	rt ci; proved=$$?; tools/program_tests; ran=$$?; tools/test_edits; tool=$$?; \
+	RT_JOBS=$${RT_JOBS:-$$(nproc)} rt ci; proved=$$?; tools/program_tests; ran=$$?; tools/test_edits; tool=$$?; \
 	tools/edits --gate --jobs $$(nproc); edits=$$?; test "$$proved $$ran $$tool $$edits" = "0 0 0 0"
 
 edits:
